@@ -1,0 +1,36 @@
+-- Laws of answers: what a test before an answer shows, and how steps follow one another. Assumes nothing.
+use Prim.Native.Nat.{ℕ}
+use mathlib.Core.Path.{_≡_, refl}
+use mathlib.Core.Bool.{Bool, true, false}
+use native.Mathlib.Omega.{arith}
+use Rattle.paper.specs.Answers.{Answer, answered, refused, given, then}
+
+pub answered-same : {A : Type 0} {x y : A} → answered x ≡ answered y → x ≡ y
+answered-same e = cc
+
+pub refused-answered : {A : Type 0} {a : Answer A} {k : ℕ} {x : A} → a ≡ refused k → a ≡ answered x → ⊥
+refused-answered e q = let z : _≡_ {A = ℕ} 0 1 = cc in omega arith
+
+-- an answer passed the test, and a test passed gives the answer
+pub given-answered : {A : Type 0} (b : Bool) (k : ℕ) (a : Answer A) {x : A} → given b k a ≡ answered x → (b ≡ true) × (a ≡ answered x)
+unfolding given
+given-answered true k a e = (refl, e)
+given-answered false k a e = absurd (let z : _≡_ {A = ℕ} 0 1 = cc in omega arith)
+
+pub given-pass : {A : Type 0} (b : Bool) (k : ℕ) (a : Answer A) {x : A} → b ≡ true → a ≡ answered x → given b k a ≡ answered x
+unfolding given
+given-pass b k a e h = rw e h
+
+-- tests before a step are tests before the whole
+pub given-then : {A B : Type 0} (b : Bool) (k : ℕ) (a : Answer A) (f : A → Answer B) → then (given b k a) f ≡ given b k (then a f)
+unfolding given then
+given-then true k a f = refl
+given-then false k a f = refl
+
+pub then-answered : {A B : Type 0} (x : A) (f : A → Answer B) → then (answered x) f ≡ f x
+unfolding then
+then-answered x f = refl
+
+pub then-refused : {A B : Type 0} (k : ℕ) (f : A → Answer B) → then (refused k) f ≡ refused k
+unfolding then
+then-refused k f = refl

@@ -1,0 +1,5 @@
+pub mod Tests
+pub mod Answers
+pub mod Sums
+pub mod Stores
+pub mod Floats

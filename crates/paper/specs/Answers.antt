@@ -1,0 +1,17 @@
+-- What a call answers: a value, or the number of a refusal of document 01. Assumes nothing.
+use Prim.Native.Nat.{ℕ}
+use mathlib.Core.Bool.{Bool, true, false}
+
+pub data Answer (A : Type 0) : Type 0 where
+  answered : A → Answer A
+  refused : ℕ → Answer A
+
+-- the refusal k unless the test passes
+unfoldable pub given : {A : Type 0} → Bool → ℕ → Answer A → Answer A
+given true k a = a
+given false k a = refused k
+
+-- what a next step makes of the value; a refusal stays
+unfoldable pub then : {A B : Type 0} → Answer A → (A → Answer B) → Answer B
+then (answered x) f = f x
+then (refused k) f = refused k

@@ -1,0 +1,4 @@
+-- What more than one crate's definitions are written in.
+pub mod Answers
+pub mod Sums
+pub mod Floats
