@@ -1,0 +1,2 @@
+-- The definitions of sine, cosine, the arcs and tangent.
+pub mod Trig
