@@ -1,6 +1,6 @@
 -- Laws of answers: what a test before an answer shows, and how steps follow one another. Assumes nothing.
 use Prim.Native.Nat.{ℕ}
-use mathlib.Core.Path.{_≡_, refl}
+use mathlib.Core.Path.{_≡_, refl, sym, ap, _∙_}
 use mathlib.Core.Bool.{Bool, true, false}
 use native.Mathlib.Omega.{arith}
 use Rattle.paper.specs.Answers.{Answer, answered, refused, given, then}
@@ -34,3 +34,7 @@ then-answered x f = refl
 pub then-refused : {A B : Type 0} (k : ℕ) (f : A → Answer B) → then (refused k) f ≡ refused k
 unfolding then
 then-refused k f = refl
+
+-- what an answer says tells the answer, where it can be read back
+pub told-by : {R A : Type 0} (says : R → A) (back : A → R) → ((r : R) → back (says r) ≡ r) → (r s : R) → says r ≡ says s → r ≡ s
+told-by says back h r s e = sym (h r) ∙ ap back e ∙ h s

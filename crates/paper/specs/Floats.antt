@@ -8,7 +8,6 @@ infixl 65 _⊕_
 infixl 65 _⊖_
 infixl 70 _⊗_
 infixl 70 _⊘_
-
 abbrev pub _⊕_ : Float → Float → Float
 _⊕_ x y = add binary64 x y
 
