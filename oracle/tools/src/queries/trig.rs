@@ -1,0 +1,2 @@
+use super::Maker;
+pub fn sample(_: &mut Maker) {}
