@@ -101,7 +101,7 @@ fn meeus_differs(name: &str, answer: f64, book: f64, last_digit: f64) -> bool {
 }
 
 fn main() -> ExitCode {
-    let host = std::env::args().nth(1).as_deref() == Some("host") || trig::RECIPE == "none";
+    let host = std::env::args().nth(1).as_deref() == Some("host") || !trig::has_recipe();
     trig::set_mode(if host { Mode::Host } else { Mode::Recipe });
     let paper = PAPER.iter().map(|(line, answer)| (line.to_string(), answer.to_string()));
     let julian_day = panchanga::julian_day(date(1957, 10, 4), 0.81).expect("an instant").0;
