@@ -1,0 +1,5 @@
+-- The definitions that the contracts of `sky` cite.
+pub mod Time
+pub mod Angles
+pub mod Sun
+pub mod Answers
