@@ -1,1 +1,4 @@
 -- The laws of `sky`.
+pub mod Signed
+pub mod Series
+pub mod Twelves

@@ -2,4 +2,7 @@
 pub mod Time
 pub mod Angles
 pub mod Sun
+pub mod MoonTable
+pub mod Moon
+pub mod Tithi
 pub mod Answers

@@ -1,24 +1,14 @@
 // The sun's place, Meeus ch. 25. Each function serves every f64.
 ghost use mathlib.Core.Path.{_≡_};
-ghost use Rattle.sky.specs.Angles.{norm360};
 ghost use Rattle.sky.specs.Sun.{meanLongitude, anomaly, center, sunAt};
-
-// A degree in radians.
-const DEG: f64 = 3.141592653589793 / 180.0;
+use super::angles::DEG;
+use super::angles::norm360;
 
 // The sun's mean longitude, mean anomaly and true longitude, in degrees.
 pub struct SunPlace {
     pub l0: f64,
     pub m: f64,
     pub lambda: f64,
-}
-
-// An angle brought from 0 to 360 degrees, as Rust's `rem_euclid` does it.
-pub fn norm360(x: f64) -> f64
-    ensures { λ r. ⌜ r ≡ norm360 x ⌝ }
-{
-    let r = x % 360.0;
-    if r < 0.0 { r + 360.0 } else { r }
 }
 
 fn mean_longitude(t: f64) -> f64

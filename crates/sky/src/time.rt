@@ -25,8 +25,8 @@ pub fn is_tt_day(x: f64) -> bool
     false
 }
 
-// ΔT in seconds. Espenak and Meeus' piecewise polynomials.
-pub fn seconds(year: f64) -> f64
+// ΔT, the difference between terrestrial and universal time, in seconds. Espenak and Meeus' piecewise polynomials.
+pub fn delta_t(year: f64) -> f64
     ensures { λ r. ⌜ r ≡ deltaT year ⌝ }
 {
     if year < 1920.0 {
@@ -66,7 +66,7 @@ pub fn tt_of(ut: UtDay) -> TtDay
     ensures { λ r. ⌜ r .0 ≡ ttOf (ut .0) ⌝ }
 {
     let year = 2000.0 + (ut.0 - 2451545.0) / 365.25;
-    TtDay(ut.0 + seconds(year) / 86400.0)
+    TtDay(ut.0 + delta_t(year) / 86400.0)
 }
 
 // The centuries since the beginning of 2000.

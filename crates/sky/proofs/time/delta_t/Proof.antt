@@ -1,8 +1,8 @@
 use lib.Ieee.{ofBits}
 use Rattle.paper.specs.Floats.{near}
 use Rattle.sky.specs.Time.{deltaT, before1920, before1941, before1961, before1986, before2005, before2050, after2050}
-use Rattle.sky.proofs.time.seconds.Statement.{statement}
-use Rattle.sky.proofs.time.seconds.Tie as tie
+use Rattle.sky.proofs.time.delta_t.Statement.{statement}
+use Rattle.sky.proofs.time.delta_t.Tie as tie
 
 returns : tie.Need-returns
 unfolding deltaT before1920 near ofBits
@@ -32,5 +32,5 @@ returns-7 : tie.Need-returns-7
 unfolding deltaT after2050 near ofBits
 returns-7 c = rw (c .before .before .before .before .before .if1 .left, c .before .before .before .before .if2 .left, c .before .before .before .if3 .left, c .before .before .if4 .left, c .before .if5 .left, c .if6 .left)
 
-pub seconds-spec : {M : Type 1} → statement M
-seconds-spec = tie.close (tie.spec returns returns-2 returns-3 returns-4 returns-5 returns-6 returns-7)
+pub delta-t-spec : {M : Type 1} → statement M
+delta-t-spec = tie.close (tie.spec returns returns-2 returns-3 returns-4 returns-5 returns-6 returns-7)

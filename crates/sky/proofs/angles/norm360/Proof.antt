@@ -1,8 +1,8 @@
 use Rattle.paper.specs.Floats.{near}
 use lib.Ieee.{ofBits}
 use Rattle.sky.specs.Angles.{norm360}
-use Rattle.sky.proofs.sun.norm360.Statement.{statement}
-use Rattle.sky.proofs.sun.norm360.Tie as tie
+use Rattle.sky.proofs.angles.norm360.Statement.{statement}
+use Rattle.sky.proofs.angles.norm360.Tie as tie
 
 returns : tie.Need-returns
 unfolding norm360 near ofBits
