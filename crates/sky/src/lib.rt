@@ -3,6 +3,7 @@
 pub mod angles;
 pub mod moon;
 pub mod sun;
+mod terms;
 pub mod time;
 pub mod tithi;
 
