@@ -7,3 +7,7 @@ pub mod Halving
 pub mod Steps
 pub mod Searches
 pub mod Unique
+pub mod Orders
+pub mod TurnRange
+pub mod Norms
+pub mod Numbers
