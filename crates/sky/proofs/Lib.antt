@@ -11,3 +11,8 @@ pub mod Orders
 pub mod TurnRange
 pub mod Norms
 pub mod Numbers
+pub mod Served
+pub mod Degrees
+pub mod Asked
+pub mod OffsetRange
+pub mod Running

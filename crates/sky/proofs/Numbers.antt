@@ -3,19 +3,19 @@ use mathlib.Core.Bool.{Bool, true, _&&_}
 use mathlib.Core.List.{List, [], _∷_}
 use Prim.Native.Nat.{ℕ, zero, suc, _+_, _*_, _^_, _≤_}
 use native.Mathlib.Omega.{arith}
-use lib.Dec.{T, leb, ltb, leb→le, le→leb, lit≤, lit<}
+use lib.Dec.{T, leb, leb→le, le→leb, lit≤, lit<}
 use lib.IntN.{ℤ, pos, negsuc, natAbs}
 use lib.ListN.{getD}
 use lib.Ieee.{Float, neg, le, lt, ofBits}
 use lib.Ieee.Fits.{and-i, and-l, and-r}
-use Rattle.paper.specs.Floats.{_⊕_, _⊖_, _⊗_, _⊘_, near, dec, whole}
+use Rattle.paper.specs.Floats.{_⊖_, near, dec, whole}
 use Rattle.paper.proofs.Within.{Within, widen, refined, either-by, integer, plus-up, clamped, Formula, lit, got, _⊞_, _⊟_, _⊠_, by, _⧄_, within}
 use Rattle.paper.proofs.Between.{Between, ends, between, exactly, nearby, difference, below, not-under, at-least, at-most}
 use Rattle.gregorian.specs.Instants.{instant}
 use Rattle.trig.specs.Trig.{sine, one}
 use Rattle.trig.proofs.Laws.{sine-within}
 use Rattle.sky.specs.Time.{before1920, before1941, before1961, before1986, before2005, before2050, after2050, deltaT, yearOf, ttOf, ttDay, julianCenturies}
-use Rattle.sky.specs.Sun.{meanLongitude, anomaly, center, sunLongitude}
+use Rattle.sky.specs.Sun.{meanLongitude, center, sunLongitude}
 use Rattle.sky.specs.MoonTable.{moonTerms}
 use Rattle.sky.specs.Moon.{meanPlace, eccentricity, moonArgs, eccPower, zeroOr, addTerm, termAt, series, moonSum, additive, moonLongitude}
 use Rattle.sky.specs.Tithi.{elongationOf}

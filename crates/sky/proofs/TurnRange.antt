@@ -1,9 +1,9 @@
 -- One turn is enough: from -348 to 360 the turned offset lies above -180 and at most at 180. Assumes nothing.
 use mathlib.Core.Path.{_≡_, refl, sym, subst}
-use mathlib.Core.Bool.{Bool, true, false, cond, _&&_, _||_}
+use mathlib.Core.Bool.{Bool, true, false, cond, _&&_}
 use Prim.Native.Nat.{ℕ, zero, suc, _+_, _-_, _*_, _%_, _^_, _≤_, _<_}
 use native.Mathlib.Omega.{arith}
-use borrow.Author.Tests.{lt-ltb, le-ltb, ltb-false, eqb-false, leb-true, leb-false, ltb-true, ne-eqb}
+use borrow.Author.Tests.{lt-ltb, ltb-false, leb-true, leb-false, ltb-true, ne-eqb}
 use lib.Dec.{T, ltb, eqb, leb, ltb→lt, lt→ltb, eqb→eq, lit<}
 use lib.IntN.{ℤ, pos, negsuc}
 use lib.Pow.{pow-mono}
