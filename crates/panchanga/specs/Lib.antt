@@ -1,0 +1,4 @@
+-- The definitions that the contracts of `panchanga` cite.
+pub mod Clock
+pub mod Noaa
+pub mod Answers
