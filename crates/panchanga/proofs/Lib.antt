@@ -1,1 +1,5 @@
 pub mod Whole
+pub mod Minutes
+pub mod Days
+pub mod Unique
+pub mod Examples
