@@ -1,20 +1,19 @@
 -- The moon's series: a power of the eccentricity by cases, one row's term, one row more. Assumes nothing.
 use mathlib.Core.Path.{_≡_, refl, _∙_}
-use Prim.Native.Nat.{ℕ, zero, suc, _+_, _*_}
+use mathlib.Core.List.{List}
+use Prim.Native.Nat.{ℕ, zero, suc, _+_}
 use native.Mathlib.Numerals.{add-one}
 use lib.IntN.{ℤ, pos, negsuc}
 use lib.Ieee.{Float}
-use lib.ListN.{getD}
 use mir.Syntax.{w32}
 use mir.Val.{SFits, toZ, ofZ}
 use mir.ValLaws.{toZ-ofZ}
 use Rattle.paper.specs.Floats.{_⊕_, _⊗_, whole}
 use Rattle.trig.specs.Trig.{sine}
 use Rattle.sky.specs.Angles.{deg}
-use Rattle.sky.specs.MoonTable.{moonTerms}
-use Rattle.sky.specs.Moon.{eccPower, zeroOr, addTerm, entry, moonSum}
+use Rattle.sky.specs.Moon.{eccPower, zeroOr, addTerm, termAt, series}
 use Rattle.sky.specs.declared.moon.MoonArgs.{MoonArgs}
-use Rattle.sky.proofs.Signed.{fits-at}
+use Rattle.sky.specs.declared.moon.Term.{Term}
 
 zero-not : (z : ℤ) (a b : Float) → (z ≡ pos 0 → ⊥) → b ≡ zeroOr z a b
 unfolding zeroOr
@@ -34,17 +33,17 @@ ecc-else e (negsuc (suc n)) h k l = refl
 abbrev pub back : ℤ → ℤ
 back z = toZ w32 (ofZ w32 z)
 
-entry-back : (i k : ℕ) → back (entry i k) ≡ entry i k
-unfolding entry
-entry-back i k = toZ-ofZ w32 (getD moonTerms (5 * i + k) (pos 0)) (fits-at moonTerms tt (5 * i + k))
+-- one row more
+pub row-more : (rows : List ℤ) (a : MoonArgs) (i : ℕ) {x : Term} {s r : Float} → s ≡ series rows a i → x ≡ termAt rows i → r ≡ addTerm a x s → r ≡ series rows a (i + 1)
+unfolding series
+row-more rows a i hs hx hr = rw (add-one i) (hr ∙ simp (hs, hx))
 
--- one row more; the code hands each entry on by its bits
-pub row-more : (a : MoonArgs) (i : ℕ) (s : Float) (cd cm cmp cf co : ℤ) {r : Float} → s ≡ moonSum a i → cd ≡ entry i 0 → cm ≡ entry i 1 → cmp ≡ entry i 2 → cf ≡ entry i 3 → co ≡ entry i 4 → r ≡ addTerm a (back cd) (back cm) (back cmp) (back cf) (back co) s → r ≡ moonSum a (i + 1)
-unfolding moonSum
-row-more a i s cd cm cmp cf co hs h0 h1 h2 h3 h4 hr = rw add-one (hr ∙ simp (hs, h0, h1, h2, h3, h4, entry-back))
-
--- a term of a row whose coefficient is not 0, from the parts that the code works out
-pub term-is : (a : MoonArgs) (cd cm cmp cf co : ℤ) (s : Float) {w0 w1 w2 w3 w4 p t x : Float} → SFits w32 cd → SFits w32 cm → SFits w32 cmp → SFits w32 cf → SFits w32 co → (co ≡ pos 0 → ⊥) → w0 ≡ whole (back cd) → w1 ≡ whole (back cm) → w2 ≡ whole (back cmp) → w3 ≡ whole (back cf) → w4 ≡ whole (back co) → p ≡ eccPower (a .e) (back cm) → x ≡ (w0 ⊗ a .d ⊕ w1 ⊗ a .m ⊕ w2 ⊗ a .mp ⊕ w3 ⊗ a .f) ⊗ deg → t ≡ sine x → s ⊕ w4 ⊗ p ⊗ t ≡ addTerm a cd cm cmp cf co s
+-- a term whose coefficient is not 0, from the parts that the code works out
+pub term-is : (a : MoonArgs) (x : Term) (s : Float) {w0 w1 w2 w3 w4 p t y : Float} → SFits w32 (x .d) → SFits w32 (x .m) → SFits w32 (x .mp) → SFits w32 (x .f) → SFits w32 (x .coeff) → (x .coeff ≡ pos 0 → ⊥) → w0 ≡ whole (back (x .d)) → w1 ≡ whole (back (x .m)) → w2 ≡ whole (back (x .mp)) → w3 ≡ whole (back (x .f)) → w4 ≡ whole (back (x .coeff)) → p ≡ eccPower (a .e) (back (x .m)) → y ≡ (w0 ⊗ a .d ⊕ w1 ⊗ a .m ⊕ w2 ⊗ a .mp ⊕ w3 ⊗ a .f) ⊗ deg → t ≡ sine y → s ⊕ w4 ⊗ p ⊗ t ≡ addTerm a x s
 unfolding addTerm
-term-is a cd cm cmp cf co s f0 f1 f2 f3 f4 h h0 h1 h2 h3 h4 hp hx ht =
-    simp (ht, hx, hp, h0, h1, h2, h3, h4, toZ-ofZ w32 cd f0, toZ-ofZ w32 cm f1, toZ-ofZ w32 cmp f2, toZ-ofZ w32 cf f3, toZ-ofZ w32 co f4) (zero-not co s _ h)
+term-is a x s f0 f1 f2 f3 f4 h h0 h1 h2 h3 h4 hp hy ht =
+    simp (ht, hy, hp, h0, h1, h2, h3, h4, toZ-ofZ w32 (x .d) f0, toZ-ofZ w32 (x .m) f1, toZ-ofZ w32 (x .mp) f2, toZ-ofZ w32 (x .f) f3, toZ-ofZ w32 (x .coeff) f4) (zero-not (x .coeff) s _ h)
+
+pub term-none : (a : MoonArgs) (x : Term) (s : Float) → x .coeff ≡ pos 0 → s ≡ addTerm a x s
+unfolding addTerm zeroOr
+term-none a x s h = rw h

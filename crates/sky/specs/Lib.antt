@@ -5,4 +5,5 @@ pub mod Sun
 pub mod MoonTable
 pub mod Moon
 pub mod Tithi
+pub mod Search
 pub mod Answers

@@ -1,5 +1,6 @@
 -- The moon's longitude at t centuries after J2000.0, Meeus ch. 47, operation by operation, each rounded once. Assumes nothing.
 use Prim.Native.Nat.{ℕ, zero, suc, _+_, _*_}
+use mathlib.Core.List.{List}
 use lib.IntN.{ℤ, pos, negsuc}
 use lib.ListN.{getD}
 use lib.Ieee.{Float}
@@ -9,6 +10,7 @@ use Rattle.sky.specs.Time.{cube, fourth}
 use Rattle.sky.specs.Angles.{norm360, deg}
 use Rattle.sky.specs.MoonTable.{moonTerms}
 use Rattle.sky.specs.declared.moon.MoonArgs.{MoonArgs}
+use Rattle.sky.specs.declared.moon.Term.{Term}
 
 -- the mean longitude L', (47.1)
 unfoldable pub meanPlace : Float → Float
@@ -46,9 +48,9 @@ eccPower e (pos (suc (suc n))) = e ⊗ e
 eccPower e (negsuc zero) = e
 eccPower e (negsuc (suc n)) = e ⊗ e
 
--- the angle of a row in radians
-abbrev pub rowAngle : MoonArgs → ℤ → ℤ → ℤ → ℤ → Float
-rowAngle a cd cm cmp cf = (whole cd ⊗ a .d ⊕ whole cm ⊗ a .m ⊕ whole cmp ⊗ a .mp ⊕ whole cf ⊗ a .f) ⊗ deg
+-- the angle of a term in radians
+abbrev pub angle : MoonArgs → Term → Float
+angle a x = (whole (x .d) ⊗ a .d ⊕ whole (x .m) ⊗ a .m ⊕ whole (x .mp) ⊗ a .mp ⊕ whole (x .f) ⊗ a .f) ⊗ deg
 
 -- the first for 0, the second for any other number
 unfoldable pub zeroOr : ℤ → Float → Float → Float
@@ -56,18 +58,23 @@ zeroOr (pos zero) a b = a
 zeroOr (pos (suc n)) a b = b
 zeroOr (negsuc n) a b = b
 
--- one row's term added to s, none where the coefficient is 0
-unfoldable pub addTerm : MoonArgs → ℤ → ℤ → ℤ → ℤ → ℤ → Float → Float
-addTerm a cd cm cmp cf coeff s = zeroOr coeff s (s ⊕ whole coeff ⊗ eccPower (a .e) cm ⊗ sine (rowAngle a cd cm cmp cf))
+-- one term added to s, none where the coefficient is 0
+unfoldable pub addTerm : MoonArgs → Term → Float → Float
+addTerm a x s = zeroOr (x .coeff) s (s ⊕ whole (x .coeff) ⊗ eccPower (a .e) (x .m) ⊗ sine (angle a x))
 
--- the entry at place k of row i
-unfoldable pub entry : ℕ → ℕ → ℤ
-entry i k = getD moonTerms (5 * i + k) (pos 0)
+-- row i of a table
+abbrev pub termAt : List ℤ → ℕ → Term
+termAt rows i =
+    record { d = getD rows (5 * i) (pos 0); m = getD rows (5 * i + 1) (pos 0); mp = getD rows (5 * i + 2) (pos 0); f = getD rows (5 * i + 3) (pos 0); coeff = getD rows (5 * i + 4) (pos 0) }
 
--- the first n rows, added from 0.0 on, in the order of the table
-unfoldable pub moonSum : MoonArgs → ℕ → Float
-moonSum a zero = dec 0 0
-moonSum a (suc n) = addTerm a (entry n 0) (entry n 1) (entry n 2) (entry n 3) (entry n 4) (moonSum a n)
+-- the first n rows of a table, added from 0.0 on, in the order of the table
+unfoldable pub series : List ℤ → MoonArgs → ℕ → Float
+series rows a zero = dec 0 0
+series rows a (suc n) = addTerm a (termAt rows n) (series rows a n)
+
+-- all sixty
+unfoldable pub moonSum : MoonArgs → Float
+moonSum a = series moonTerms a 60
 
 -- the angles A1 of Venus and A2 of Jupiter, in degrees
 unfoldable pub venus : Float → Float
@@ -82,4 +89,4 @@ additive t a =
     dec 3958 0 ⊗ sine (venus t ⊗ deg) ⊕ dec 1962 0 ⊗ sine ((a .lp ⊖ a .f) ⊗ deg) ⊕ dec 318 0 ⊗ sine (jupiter t ⊗ deg)
 
 unfoldable pub moonLongitude : Float → Float
-moonLongitude t = norm360 (meanPlace t ⊕ (moonSum (moonArgs t) 60 ⊕ additive t (moonArgs t)) ⊘ dec 1000000 0)
+moonLongitude t = norm360 (meanPlace t ⊕ (moonSum (moonArgs t) ⊕ additive t (moonArgs t)) ⊘ dec 1000000 0)

@@ -2,7 +2,7 @@
 -- polynomial expressions for delta T, as the Rust has them. Assumes nothing.
 use mathlib.Core.Bool.{Bool, cond, _&&_}
 use lib.Ieee.{Float, neg, lt, le}
-use Rattle.paper.specs.Floats.{_⊕_, _⊖_, _⊗_, _⊘_, near, dec}
+use Rattle.paper.specs.Floats.{_⊕_, _⊖_, _⊗_, _⊘_, dec}
 
 -- powers: a square is number times number, a cube square times number, a fourth square of square, a fifth fourth times number
 abbrev pub square : Float → Float

@@ -3,7 +3,7 @@ use Prim.Native.Nat.{ℕ, zero, suc, _+_, _*_}
 use mathlib.Core.Bool.{cond}
 use lib.IntN.{pos}
 use lib.Ieee.{Float, le}
-use Rattle.paper.specs.Floats.{_⊖_, _⊗_, dec, whole}
+use Rattle.paper.specs.Floats.{_⊖_, whole}
 use Rattle.sky.specs.Time.{ttOf, julianCenturies}
 use Rattle.sky.specs.Angles.{norm360}
 use Rattle.sky.specs.Sun.{sunLongitude}

@@ -2,9 +2,10 @@
 ghost use mathlib.Core.Path.{_≡_};
 ghost use Prim.Native.Nat.{_<_};
 ghost use Rattle.paper.specs.Floats.{whole};
-ghost use Rattle.sky.specs.Moon.{moonArgs, eccPower, addTerm, entry, moonSum, additive, moonLongitude};
+ghost use Rattle.sky.specs.Moon.{moonArgs, eccPower, addTerm, termAt, series, moonSum, additive, moonLongitude};
 use super::angles::DEG;
 use super::angles::norm360;
+use super::terms::MOON_TERMS;
 
 // The moon's mean longitude L', the mean elongation D, the anomalies M of the sun and M' of the moon and the
 // argument of latitude F, in degrees, and the factor E of terms in M.
@@ -17,315 +18,13 @@ pub struct MoonArgs {
     pub e: f64,
 }
 
-// Sixty rows of the multiples of D, M, M' and F and the coefficient in millionths of a degree. Meeus, table 47.A.
-const MOON_TERMS: [i32; 300] = [
-    0,
-    0,
-    1,
-    0,
-    6288774,
-    2,
-    0,
-    -1,
-    0,
-    1274027,
-    2,
-    0,
-    0,
-    0,
-    658314,
-    0,
-    0,
-    2,
-    0,
-    213618,
-    0,
-    1,
-    0,
-    0,
-    -185116,
-    0,
-    0,
-    0,
-    2,
-    -114332,
-    2,
-    0,
-    -2,
-    0,
-    58793,
-    2,
-    -1,
-    -1,
-    0,
-    57066,
-    2,
-    0,
-    1,
-    0,
-    53322,
-    2,
-    -1,
-    0,
-    0,
-    45758,
-    0,
-    1,
-    -1,
-    0,
-    -40923,
-    1,
-    0,
-    0,
-    0,
-    -34720,
-    0,
-    1,
-    1,
-    0,
-    -30383,
-    2,
-    0,
-    0,
-    -2,
-    15327,
-    0,
-    0,
-    1,
-    2,
-    -12528,
-    0,
-    0,
-    1,
-    -2,
-    10980,
-    4,
-    0,
-    -1,
-    0,
-    10675,
-    0,
-    0,
-    3,
-    0,
-    10034,
-    4,
-    0,
-    -2,
-    0,
-    8548,
-    2,
-    1,
-    -1,
-    0,
-    -7888,
-    2,
-    1,
-    0,
-    0,
-    -6766,
-    1,
-    0,
-    -1,
-    0,
-    -5163,
-    1,
-    1,
-    0,
-    0,
-    4987,
-    2,
-    -1,
-    1,
-    0,
-    4036,
-    2,
-    0,
-    2,
-    0,
-    3994,
-    4,
-    0,
-    0,
-    0,
-    3861,
-    2,
-    0,
-    -3,
-    0,
-    3665,
-    0,
-    1,
-    -2,
-    0,
-    -2689,
-    2,
-    0,
-    -1,
-    2,
-    -2602,
-    2,
-    -1,
-    -2,
-    0,
-    2390,
-    1,
-    0,
-    1,
-    0,
-    -2348,
-    2,
-    -2,
-    0,
-    0,
-    2236,
-    0,
-    1,
-    2,
-    0,
-    -2120,
-    0,
-    2,
-    0,
-    0,
-    -2069,
-    2,
-    -2,
-    -1,
-    0,
-    2048,
-    2,
-    0,
-    1,
-    -2,
-    -1773,
-    2,
-    0,
-    0,
-    2,
-    -1595,
-    4,
-    -1,
-    -1,
-    0,
-    1215,
-    0,
-    0,
-    2,
-    2,
-    -1110,
-    3,
-    0,
-    -1,
-    0,
-    -892,
-    2,
-    1,
-    1,
-    0,
-    -810,
-    4,
-    -1,
-    -2,
-    0,
-    759,
-    0,
-    2,
-    -1,
-    0,
-    -713,
-    2,
-    2,
-    -1,
-    0,
-    -700,
-    2,
-    1,
-    -2,
-    0,
-    691,
-    2,
-    -1,
-    0,
-    -2,
-    596,
-    4,
-    0,
-    1,
-    0,
-    549,
-    0,
-    0,
-    4,
-    0,
-    537,
-    4,
-    -1,
-    0,
-    0,
-    520,
-    1,
-    0,
-    -2,
-    0,
-    -487,
-    2,
-    1,
-    0,
-    -2,
-    -399,
-    0,
-    0,
-    2,
-    -2,
-    -381,
-    1,
-    1,
-    1,
-    0,
-    351,
-    3,
-    0,
-    -2,
-    0,
-    -340,
-    4,
-    0,
-    -3,
-    0,
-    330,
-    2,
-    -1,
-    2,
-    0,
-    327,
-    0,
-    2,
-    1,
-    0,
-    -323,
-    1,
-    1,
-    -1,
-    0,
-    299,
-    2,
-    0,
-    3,
-    0,
-    294,
-    2,
-    0,
-    -1,
-    -2,
-    0,
-];
-
-fn moon_entry(row: usize, k: usize) -> i32
-    requires { ⌜ (row < 60) × (k < 5) ⌝ }
-    ensures { λ r. ⌜ r ≡ entry row k ⌝ }
-{
-    MOON_TERMS[5 * row + k]
+// The multiples of D, M, M' and F in the angle of a periodic term, and its coefficient in millionths of a degree.
+pub struct Term {
+    pub d: i32,
+    pub m: i32,
+    pub mp: i32,
+    pub f: i32,
+    pub coeff: i32,
 }
 
 fn as_float(n: i32) -> f64
@@ -366,37 +65,55 @@ fn ecc_power(e: f64, c: i32) -> f64
     e * e
 }
 
-// One row's term added to a sum, none where the coefficient is 0.
-fn add_term(a: MoonArgs, cd: i32, cm: i32, cmp: i32, cf: i32, coeff: i32, sum: f64) -> f64
-    ensures { λ r. ⌜ r ≡ addTerm a cd cm cmp cf coeff sum ⌝ }
+// One term added to a sum, none where the coefficient is 0.
+fn add_term(a: MoonArgs, x: Term, sum: f64) -> f64
+    ensures { λ r. ⌜ r ≡ addTerm a x sum ⌝ }
 {
-    if coeff == 0 {
+    if x.coeff == 0 {
         return sum;
     }
-    let arg = (as_float(cd) * a.d + as_float(cm) * a.m + as_float(cmp) * a.mp + as_float(cf) * a.f)
+    let angle = (as_float(x.d) * a.d
+        + as_float(x.m) * a.m
+        + as_float(x.mp) * a.mp
+        + as_float(x.f) * a.f)
         * DEG;
-    sum + as_float(coeff) * ecc_power(a.e, cm) * trig::sine(arg)
+    sum + as_float(x.coeff) * ecc_power(a.e, x.m) * trig::sine(angle)
 }
 
-// The series over the whole table.
-fn moon_sum(a: MoonArgs) -> f64
-    ensures { λ r. ⌜ r ≡ moonSum a 60 ⌝ }
+// Row i of a table.
+fn term_at(terms: &[i32; 300], i: usize) -> Term
+    requires { ⌜ i < 60 ⌝ }
+    ensures { λ r. ⌜ r ≡ termAt (now (terms .entry)) i ⌝ }
+{
+    let row = 5 * i;
+    Term {
+        d: terms[row],
+        m: terms[row + 1],
+        mp: terms[row + 2],
+        f: terms[row + 3],
+        coeff: terms[row + 4],
+    }
+}
+
+// The sum over the rows of a table.
+fn series(terms: &[i32; 300], a: MoonArgs) -> f64
+    ensures { λ r. ⌜ r ≡ series (now (terms .entry)) a 60 ⌝ }
 {
     let mut sum = 0.0;
     let mut i: usize = 0;
     while i < 60 {
-        sum = add_term(
-            a,
-            moon_entry(i, 0),
-            moon_entry(i, 1),
-            moon_entry(i, 2),
-            moon_entry(i, 3),
-            moon_entry(i, 4),
-            sum,
-        );
+        sum = add_term(a, term_at(terms, i), sum);
         i += 1;
     }
     sum
+}
+
+// The sum over the moon's terms, which are laid out once.
+fn moon_sum(a: MoonArgs) -> f64
+    ensures { λ r. ⌜ r ≡ moonSum a ⌝ }
+{
+    let terms = MOON_TERMS;
+    series(&terms, a)
 }
 
 // The additive terms: Venus, the flattening of the earth, Jupiter.
