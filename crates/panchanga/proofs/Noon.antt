@@ -19,8 +19,7 @@ use Rattle.gregorian.specs.Instants.{instant, zeroHour, nptOffset}
 use Rattle.gregorian.proofs.Laws.{IsReal, number-above, number-below, all-number}
 use Rattle.gregorian.proofs.Julian.{meeus-number}
 use Rattle.panchanga.specs.Noaa.{zeroOf, noonAt}
-use Rattle.paper.proofs.Within
-use Rattle.paper.proofs.Within.{Within, clamped, negated, sub-is, lit, got, _⊟_, _⧄_, within}
+use Rattle.paper.proofs.Within.{Within, held-exactly, clamped, negated, sub-is, lit, got, _⊟_, _⧄_, within}
 use Rattle.paper.proofs.Between.{Between, round-span, nearby, at-least, at-most}
 
 -- ---- a whole number less a half
@@ -51,7 +50,7 @@ halved (fin false m e) n z v =
 
 whole-value : (n : ℕ) → n < 2 ^ 53 → HasValue (whole (pos n)) false n 1
 unfolding ofInt
-whole-value n h = Within.whole 0 n zero-le h
+whole-value n h = held-exactly 0 n zero-le h
 
 -- the two ways to 0h
 pub zero-hour : (x : Date) → IsReal x → zeroOf (dayNumber x) ≡ zeroHour x
