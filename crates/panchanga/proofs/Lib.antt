@@ -6,3 +6,4 @@ pub mod Examples
 pub mod Small
 pub mod Noon
 pub mod Angles
+pub mod Shown
