@@ -101,11 +101,11 @@ impl<'a> Words<'a> {
 
     /// One or more numbers, at most `most`, to the line's end.
     fn numbers(&mut self, most: usize) -> Option<Vec<u16>> {
-        let mut numbers = vec![self.number()?];
-        while let Some(word) = self.rest.next() {
-            numbers.push(u16::try_from(natural(std::str::from_utf8(word).ok()?)?).ok()?);
+        let count = self.rest.clone().count();
+        if !(1..=most).contains(&count) {
+            return None;
         }
-        (numbers.len() <= most).then_some(numbers)
+        (0..count).map(|_| self.number()).collect()
     }
 }
 

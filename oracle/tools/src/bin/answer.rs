@@ -2,7 +2,7 @@
 //!
 //!   answer [recipe|host|untouched] < queries      (recipe where no word is given)
 //!   answer convert < lines                        the program `convert`
-//!   answer name                                   the recipe that was built in, or `none`
+//!   answer source                                 the recipe that was built in
 use parameterised::convert;
 use parameterised::trig::{self, Mode};
 use std::io::{Read, Write};
@@ -11,7 +11,7 @@ use tools::answers;
 use tools::lines::{self, Lent};
 
 fn answer_lines(mode: Mode) -> ExitCode {
-    if mode == Mode::Recipe && trig::RECIPE == "none" {
+    if mode == Mode::Recipe && !trig::has_recipe() {
         eprintln!("answer: built without oracle/recipes/trig.rs; the modes are host and untouched");
         return ExitCode::from(2);
     }
@@ -36,12 +36,12 @@ fn main() -> ExitCode {
         Some("host") => answer_lines(Mode::Host),
         Some("untouched") => answer_lines(Mode::Untouched),
         Some("convert") => convert_lines().map_or(ExitCode::FAILURE, |()| ExitCode::SUCCESS),
-        Some("name") => {
-            println!("{}", trig::RECIPE);
+        Some("source") => {
+            print!("{}", trig::RECIPE);
             ExitCode::SUCCESS
         }
         Some(word) => {
-            eprintln!("answer: {word}: recipe, host, untouched, convert or name");
+            eprintln!("answer: {word}: recipe, host, untouched, convert or source");
             ExitCode::from(2)
         }
     }

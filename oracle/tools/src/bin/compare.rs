@@ -96,7 +96,8 @@ fn lines_agree(line: &str, oracle: &str, floats: Floats, largest: &mut f64) -> b
 /// A long line's beginning, for print.
 fn cut(line: &str) -> String {
     let most = 160;
-    if line.len() <= most { line.into() } else { format!("{} ..", &line[..most]) }
+    let start: String = line.chars().take(most).collect();
+    if start.len() == line.len() { start } else { format!("{start} ..") }
 }
 
 /// The first word in which two lines differ, with its place.
@@ -108,26 +109,42 @@ fn first_difference(line: &str, oracle: &str) -> String {
     }
 }
 
+/// The kind of a line that is answered: its tag; nothing for a control line.
+fn kind(query: &[u8]) -> Option<&str> {
+    match lines::parse(query) {
+        Some(Line::Query(_)) => std::str::from_utf8(query).ok()?.split(' ').next(),
+        Some(_) => None,
+        None => Some("(out of form)"),
+    }
+}
+
+fn print_tallies(tallies: &BTreeMap<&str, Tally>) {
+    println!(
+        "  {:<14} {:>9} {:>9} {:>7} {:>7}  largest",
+        "", "compared", "left out", "listed", "differ"
+    );
+    for (kind, t) in tallies {
+        let largest = if t.largest > 0.0 { format!("{:e}", t.largest) } else { "-".into() };
+        println!(
+            "  {kind:<14} {:>9} {:>9} {:>7} {:>7}  {largest}",
+            t.compared, t.left_out, t.listed, t.differ
+        );
+    }
+}
+
+/// Compares and prints; whether every difference is listed.
 fn compare(job: &Job) -> io::Result<bool> {
-    let read = |file: &String| fs::read(file);
-    let (queries, answers, oracle) =
-        (read(&job.files[0])?, read(&job.files[1])?, read(&job.files[2])?);
-    let text = |bytes: &'_ [u8]| String::from_utf8_lossy(bytes).into_owned();
-    let (answers, oracle) = (text(&answers), text(&oracle));
-    let (mut answers, mut oracle) = (answers.lines(), oracle.lines());
-    let mut tallies: BTreeMap<String, Tally> = BTreeMap::new();
-    let body = queries.strip_suffix(b"\n").unwrap_or(&queries);
-    for query in body.split(|byte| *byte == b'\n') {
-        let parsed = lines::parse(query);
-        if matches!(parsed, Some(line) if !matches!(line, Line::Query(_))) {
+    let queries = fs::read(&job.files[0])?;
+    let text =
+        |file: &String| Ok::<_, io::Error>(String::from_utf8_lossy(&fs::read(file)?).into_owned());
+    let (answers, oracle) = (text(&job.files[1])?, text(&job.files[2])?);
+    let (mut answers, mut oracle) = (answers.split_terminator('\n'), oracle.split_terminator('\n'));
+    let mut tallies: BTreeMap<&str, Tally> = BTreeMap::new();
+    for query in queries.strip_suffix(b"\n").unwrap_or(&queries).split(|byte| *byte == b'\n') {
+        let Some(kind) = kind(query) else {
             continue;
-        }
-        let query = text(query);
-        let tag = match lines::parse(query.as_bytes()) {
-            Some(_) => query.split(' ').next().unwrap_or_default().to_string(),
-            None => "(out of form)".to_string(),
         };
-        let tally = tallies.entry(tag).or_default();
+        let tally = tallies.entry(kind).or_default();
         let (line, other) = (answers.next(), oracle.next());
         if other == Some("-") {
             tally.left_out += 1;
@@ -138,7 +155,8 @@ fn compare(job: &Job) -> io::Result<bool> {
         if lines_agree(line, other, job.floats, &mut tally.largest) {
             continue;
         }
-        if job.listed.contains(&query) {
+        let query = String::from_utf8_lossy(query);
+        if job.listed.contains(&*query) {
             tally.listed += 1;
             continue;
         }
@@ -148,20 +166,10 @@ fn compare(job: &Job) -> io::Result<bool> {
             println!("    {}", first_difference(line, other));
         }
     }
+    print_tallies(&tallies);
     let more = answers.count();
     if more > 0 {
         println!("  {more} answers more than queries");
-    }
-    println!(
-        "  {:<14} {:>9} {:>9} {:>7} {:>7}  largest",
-        "", "compared", "left out", "listed", "differ"
-    );
-    for (tag, t) in &tallies {
-        let largest = if t.largest > 0.0 { format!("{:e}", t.largest) } else { "-".into() };
-        println!(
-            "  {tag:<14} {:>9} {:>9} {:>7} {:>7}  {largest}",
-            t.compared, t.left_out, t.listed, t.differ
-        );
     }
     let differ: usize = tallies.values().map(|tally| tally.differ).sum();
     let compared: usize = tallies.values().map(|tally| tally.compared).sum();

@@ -20,7 +20,7 @@ fn main() -> ExitCode {
         return ExitCode::from(2);
     };
     // Instants near a tithi's start are looked for by the recipe, which is the same everywhere.
-    trig::set_mode(if trig::RECIPE == "none" { Mode::Host } else { Mode::Recipe });
+    trig::set_mode(if trig::has_recipe() { Mode::Recipe } else { Mode::Host });
     let seed = name.bytes().fold(SEED, |seed, byte| seed.wrapping_mul(31) + byte as u64);
     let mut out = BufWriter::new(std::io::stdout());
     make(&mut Maker::new(seed, &mut out));

@@ -108,11 +108,11 @@ pub fn lend(maker: &mut Maker, almanac: &Almanac) {
     maker.line("checkrules");
 }
 
-/// Random days, half of them with an entry.
+/// Random days, most of them with an entry.
 pub fn random_days(maker: &mut Maker, almanac: &mut Almanac, count: usize) {
     for i in 0..count {
         let mut day = almanac.random_day(maker);
-        if i % 2 == 0 {
+        if i % 4 != 0 {
             let days = almanac.days_of(day.year);
             if !days.is_empty() {
                 day = days[maker.random.below(days.len())];
@@ -268,6 +268,44 @@ fn orders(maker: &mut Maker) {
     }
 }
 
+/// As many rules as are accepted that all fall on one day, under names that differ or are all one.
+/// The computed ones are of the tithi and kala that the day has.
+pub fn crowded_rules(bs: BsDate, ad: Date, computed: [u16; 4], one_name: bool) -> Vec<u16> {
+    let [month, day, half, kala] = computed;
+    let mut rules = Vec::new();
+    let mut add = |count: u16, rule: [u16; 8]| {
+        for name in 0..count {
+            let mut named = rule;
+            named[6] = if one_name { 9 } else { rule[6] + name };
+            named[7] = name % 2;
+            rules.extend(named);
+        }
+    };
+    add(128, rule(4, bs.year, bs.month, bs.day, 0, 0, 4000));
+    add(64, rule(3, 0, month, day, half, kala, 3000));
+    add(64, rule(2, 0, ad.month, ad.day, 0, 0, 2000));
+    add(64, rule(1, 0, bs.month, bs.day, 0, 0, 1000));
+    rules
+}
+
+/// Vijaya Dashami of 2080, Ashwin shukla 10 by aparahna: the longest list that the sample has.
+pub const CROWDED: (BsDate, Date, [u16; 4]) =
+    (BsDate { year: 2080, month: 7, day: 7 }, date(2023, 10, 24), [6, 10, 0, 2]);
+
+fn crowded(maker: &mut Maker) {
+    let (bs, ad, computed) = CROWDED;
+    for one_name in [false, true] {
+        let mut almanac = Almanac::new(owner_table(), crowded_rules(bs, ad, computed, one_name));
+        lend(maker, &almanac);
+        let count = almanac.count(bs);
+        for length in [2 * count, 2 * count - 1, 2 * count + 3, 0] {
+            list_bs(maker, bs, length);
+        }
+        list_ad(maker, ad, 2 * count);
+        around(maker, &mut almanac, bs, 1);
+    }
+}
+
 /// Lists that break one line of the paper each, and good ones that stand beside them.
 pub fn edge_rules() -> Vec<Vec<u16>> {
     let good = [
@@ -399,6 +437,7 @@ pub fn sample(maker: &mut Maker) {
     small(maker);
     kalas(maker);
     orders(maker);
+    crowded(maker);
     rule_lists(maker);
     refusals(maker);
     out_of_form(maker);

@@ -1,5 +1,5 @@
 //! Month grids and month steps.
-use super::festivals::Almanac;
+use super::festivals::{Almanac, CROWDED, crowded_rules};
 use super::{BAD_DATES, Maker};
 use crate::tables::{Months, Place, nepal_rules, owner_table, random_table, stress_rules};
 use parameterised::conversion::{Table, bs_to_ad};
@@ -80,6 +80,21 @@ fn owners(maker: &mut Maker) {
         month(maker, &mut almanac, year, number);
     }
     short(maker, &mut almanac, 2050, 11);
+}
+
+/// A day with as many entries as can be, and a holiday mark that goes with a removed neighbour.
+fn crowded(maker: &mut Maker) {
+    let (bs, ad, computed) = CROWDED;
+    let mut almanac = Almanac::new(owner_table(), crowded_rules(bs, ad, computed, false));
+    lend(maker, &almanac);
+    month(maker, &mut almanac, bs.year, bs.month);
+    short(maker, &mut almanac, bs.year, bs.month);
+    for holidays in [[0, 1], [1, 0]] {
+        let rules = holidays.map(|holiday| [1, 0, 1, 1, 0, 0, 9, holiday]);
+        let mut almanac = Almanac::new(owner_table(), rules.concat());
+        lend(maker, &almanac);
+        month(maker, &mut almanac, 2080, 1);
+    }
 }
 
 /// Document 01's own table, whose month 100/2 has 35 cells.
@@ -233,6 +248,7 @@ fn out_of_form(maker: &mut Maker) {
 pub fn sample(maker: &mut Maker) {
     own(maker);
     owners(maker);
+    crowded(maker);
     random_tables(maker);
     refusals(maker);
     steps(maker);
