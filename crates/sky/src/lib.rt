@@ -9,7 +9,9 @@ pub mod time;
 pub mod tithi;
 
 ghost use mathlib.Core.Path.{_≡_};
-ghost use lib.ListN.{length};
+ghost use mathlib.Core.List.{_++_};
+ghost use Prim.Native.Nat.{_≤_};
+ghost use lib.ListN.{length, take, drop};
 ghost use Rattle.sky.specs.Answers.{ttSays, ttAnswer, degreesSays, sunAnswer, moonAnswer, elongationAnswer, tithiSays, tithiAnswer, query, startsSays, startsAnswer, startsBuffer, endSays, endAnswer};
 use gregorian::UtDay;
 use search::FirstStart;
@@ -124,6 +126,18 @@ fn is_query(tithi: u16, from: f64, to: f64) -> bool
     false
 }
 
+// Copies the first n of some instants over the front of a buffer.
+fn copy_front(src: &[f64; 1024], n: usize, out: &mut [f64])
+    requires { ⌜ (n ≤ 1024) × ((length (now src) ≡ 1024) × (n ≤ length (now out))) ⌝ }
+    ensures { λ _. ⌜ now (out .exit) ≡ take n (now (src .entry)) ++ drop n (now (out .entry)) ⌝ }
+{
+    let mut i: usize = 0;
+    while i < n {
+        out[i] = src[i];
+        i += 1;
+    }
+}
+
 // Every instant from one to another at which a tithi begins, written to the front of a lent buffer.
 pub fn tithi_starts_between(tithi: u16, from: UtDay, to: UtDay, out: &mut [f64]) -> StartsAnswer
     ensures answer { λ r. ⌜ startsSays r ≡ startsAnswer tithi (from .0) (to .0) (length (now (out .entry))) ⌝ }
@@ -135,7 +149,7 @@ pub fn tithi_starts_between(tithi: u16, from: UtDay, to: UtDay, out: &mut [f64])
         if walked.ended {
             let n = walked.count;
             if n <= out.len() {
-                search::copy_front(&found, n, out);
+                copy_front(&found, n, out);
                 return StartsAnswer::Found {
                     count: n,
                     steps: walked.steps,
