@@ -58,7 +58,7 @@ pub enum EndAnswer {
 pub fn tt_from_ut(ut: UtDay) -> TtAnswer
     ensures { λ r. ⌜ ttSays r ≡ ttAnswer (ut .0) ⌝ }
 {
-    if time::is_instant(ut.0) {
+    if gregorian::is_instant(ut.0) {
         TtAnswer::At(time::tt_of(ut))
     } else {
         TtAnswer::OutOfRange
@@ -92,7 +92,7 @@ pub fn moon_longitude(tt: TtDay) -> DegreesAnswer
 pub fn elongation(ut: UtDay) -> DegreesAnswer
     ensures { λ r. ⌜ degreesSays r ≡ elongationAnswer (ut .0) ⌝ }
 {
-    if time::is_instant(ut.0) {
+    if gregorian::is_instant(ut.0) {
         DegreesAnswer::Is(tithi::elongation_of(ut))
     } else {
         DegreesAnswer::OutOfRange
@@ -103,7 +103,7 @@ pub fn elongation(ut: UtDay) -> DegreesAnswer
 pub fn tithi_at(ut: UtDay) -> TithiAnswer
     ensures { λ r. ⌜ tithiSays r ≡ tithiAnswer (ut .0) ⌝ }
 {
-    if time::is_instant(ut.0) {
+    if gregorian::is_instant(ut.0) {
         TithiAnswer::Is(tithi::tithi_of(tithi::elongation_of(ut)))
     } else {
         TithiAnswer::OutOfRange
@@ -120,8 +120,8 @@ fn is_query(tithi: u16, from: f64, to: f64) -> bool
     if tithi > 30 {
         return false;
     }
-    if time::is_instant(from) {
-        return time::is_instant(to);
+    if gregorian::is_instant(from) {
+        return gregorian::is_instant(to);
     }
     false
 }
@@ -166,8 +166,8 @@ pub fn tithi_starts_between(tithi: u16, from: UtDay, to: UtDay, out: &mut [f64])
 pub fn tithi_end(ut: UtDay) -> EndAnswer
     ensures { λ r. ⌜ endSays r ≡ endAnswer (ut .0) ⌝ }
 {
-    if time::is_instant(ut.0) {
-        if time::is_instant(ut.0 + 2.5) {
+    if gregorian::is_instant(ut.0) {
+        if gregorian::is_instant(ut.0 + 2.5) {
             let end = search::end_of(ut);
             match end {
                 FirstStart::At(x) => return EndAnswer::At(x),
