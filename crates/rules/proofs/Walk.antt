@@ -1,6 +1,6 @@
 -- Laws of the rules that a loop over the list has left. Assumes nothing.
 use mathlib.Core.Path.{_≡_, refl, sym, ap, _∙_}
-use mathlib.Core.Bool.{Bool, true, false, _&&_}
+use mathlib.Core.Bool.{Bool, true, _&&_, and-assoc}
 use mathlib.Core.List.{List, [], _∷_}
 use Prim.Native.Nat.{ℕ, suc, _+_, _-_, _≤_, _<_}
 use native.Mathlib.Omega.{arith}
@@ -39,14 +39,6 @@ count-is k r rs e = rw (eq-eqb (r .kind) k e)
 pub count-not : (k : ℕ) (r : Rule) (rs : List Rule) → (r .kind ≡ k → ⊥) → countKind k (r ∷ rs) ≡ countKind k rs
 unfolding countKind
 count-not k r rs e = rw (ne-eqb (r .kind) k e)
-
-and-assoc : (a b c : Bool) → (a && b && c) ≡ (a && (b && c))
-and-assoc true b c = refl
-and-assoc false b c = refl
-
-pub and-true : (a : Bool) → (a && true) ≡ a
-and-true true = refl
-and-true false = refl
 
 -- a turn of a loop over the rules
 module _ (xs : List ℕ) (i n : ℕ) (h : i < n) (r : Rule) (er : r ≡ ruleAt xs i) where

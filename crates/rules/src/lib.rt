@@ -1,4 +1,6 @@
 // The lent rules, records of eight numbers, and which lists of numbers are good.
+pub mod lists;
+
 ghost use mathlib.Core.Path.{_≡_};
 ghost use Prim.Native.Nat.{_+_, _*_, _/_, _≤_};
 ghost use lib.ListN.{length};

@@ -1,13 +1,13 @@
 -- `rules::all_good` meets its contract. The invariant: what was tested and what is left to test come to the same. Assumes nothing.
 use borrow.Author.Needs.{needs}
 use mathlib.Core.Path.{_≡_, sym, _∙_}
-use mathlib.Core.Bool.{_&&_}
+use mathlib.Core.Bool.{_&&_, and-true}
 use Prim.Native.Nat.{_-_, _/_, _≤_}
 use native.Mathlib.Nat.{sub-zero}
 use native.Mathlib.Omega.{arith}
 use lib.ListN.{length}
 use Rattle.rules.specs.Rules.{rulesFrom, allGood}
-use Rattle.rules.proofs.Walk.{left-none, good-none, and-true, good-turn}
+use Rattle.rules.proofs.Walk.{left-none, good-none, good-turn}
 use Rattle.rules.proofs.all_good.Statement.{statement}
 use Rattle.rules.proofs.all_good.Tie as tie
 
