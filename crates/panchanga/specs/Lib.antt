@@ -1,0 +1,5 @@
+-- The definitions that the contracts of `panchanga` cite.
+pub mod Clock
+pub mod Noaa
+pub mod Kalas
+pub mod Answers
