@@ -1,16 +1,17 @@
 -- BS dates and day numbers, for every calendar: what converts, both ways, and where a day lies. Assumes nothing.
 use Prim.Native.Nat.{ℕ, _+_, _-_, _≤_, _<_}
-use mathlib.Core.Path.{_≡_, ap, _∙_}
-use mathlib.Core.Bool.{true, false, _&&_}
+use mathlib.Core.Path.{_≡_, refl, ap, _∙_}
+use mathlib.Core.Bool.{Bool, true, false, _&&_, cond}
 use native.Mathlib.Omega.{arith}
-use borrow.Author.Tests.{leb-true, le-leb, ltb-true, lt-ltb, le-ltb}
-use lib.Dec.{leb}
+use borrow.Author.Tests.{leb-true, leb-false, le-leb, ltb-true, lt-ltb, le-ltb}
+use lib.Dec.{leb, ltb}
 use Rattle.paper.specs.Answers.{Answer, answered, refused, given, then}
 use Rattle.paper.specs.Sums.{sum}
 use Rattle.paper.proofs.Answers.{answered-same, given-answered, given-then, given-on, given-off, then-answered, then-refused}
 use Rattle.paper.proofs.Sums.{sum-past}
 use Rattle.paper.proofs.Tests.{and-left, and-right, and-both, and-never}
 use Rattle.conversion.specs.declared.BsDate.{BsDate}
+use Rattle.conversion.specs.declared.Placed.{Placed}
 use Rattle.conversion.specs.declared.Placed.the-variants as P
 use Rattle.conversion.specs.Calendar.{Calendar, yearLen, end, yearOk, monthOk, dayOk, ofMonth, ofDate, dayAt, dateAt, dateInYear, dateAfter, monthLen, validBs, toDay, fromDay, placed}
 use Rattle.conversion.proofs.Places.{Within, last-is}
@@ -192,6 +193,16 @@ module _ (c : Calendar) (i m d : ℕ) (hi : i < c .years) (hm : m < 12) (hd : d 
       let v : Valid c (c .first + i) (m + 1) (d + 1) = record { month = k; day-from = omega arith; day-to = rw (e, f) (omega arith) } in
       rw (e, f, h) at (converts c _ _ _ v)
 
+-- a date's day is one of the table
+pub valid-on : (c : Calendar) (y m d : ℕ) → Valid c y m d → OnTable c (dayAt c (y - c .first) (m - 1) (d - 1))
+valid-on c y m d v =
+    let i = y - c .first in
+    record {
+      good = v .month .good;
+      from = omega arith;
+      to = omega (arith, sum-past (c .len i) (m - 1) 12 (omega arith), sum-past (yearLen c) i (c .years) (omega arith));
+    }
+
 -- where a day outside lies
 pub placed-before : (c : Calendar) (n : ℕ) → n < c .start → placed c n ≡ P.Before (c .start - n)
 unfolding placed
@@ -204,3 +215,18 @@ placed-after c n r e =
     let b : end c ≤ n = omega arith in
     let f : n - end c ≡ r = omega arith in
     simp (le-ltb _ _ a, le-ltb _ _ b, f)
+
+-- the date of a day by where it lies: outside, on either side, is 7
+abbrev pub insideOnly : Placed → Answer BsDate
+insideOnly (P.Inside t) = answered t
+insideOnly (P.Before n) = refused 7
+insideOnly (P.After n) = refused 7
+
+pub from-placed : (c : Calendar) (n : ℕ) → c .good ≡ true → fromDay c n ≡ insideOnly (placed c n)
+unfolding fromDay placed given
+from-placed c n g = given-on (c .good) 1 _ g ∙ go (leb (c .start) n) refl (ltb n (end c)) refl
+  where
+    go : (a : Bool) → leb (c .start) n ≡ a → (b : Bool) → ltb n (end c) ≡ b → given (a && b) 7 (answered (dateAfter c (n - c .start))) ≡ insideOnly (cond (ltb n (c .start)) (P.Before (c .start - n)) (cond b (P.Inside (dateAfter c (n - c .start))) (P.After (n - end c + 1))))
+    go true e true f = rw (le-ltb _ _ (leb-true _ _ e))
+    go true e false f = rw (le-ltb _ _ (leb-true _ _ e))
+    go false e b f = rw (lt-ltb _ _ (leb-false _ _ e))

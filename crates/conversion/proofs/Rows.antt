@@ -10,7 +10,7 @@ use Rattle.paper.specs.Sums.{sum, all}
 use Rattle.paper.proofs.Sums.{all-at, all-not}
 use Rattle.paper.proofs.Tests.{and-left, and-right}
 use Rattle.conversion.specs.Flat.{lens, lenOk, rowOk}
-use Rattle.conversion.specs.Inner.{RowSays, RowsSay}
+use Rattle.conversion.specs.Inner.{RowSays}
 
 pub len-short : (rows : List ℕ) (i m : ℕ) → lens rows i m < 29 → lenOk rows i m ≡ false
 len-short rows i m h = simp (lt-leb _ _ h)
@@ -36,9 +36,6 @@ row-ok rows i a e = rw (a, eq-eqb _ _ e)
 -- 0 says that a row breaks a rule
 pub says-no : (rows : List ℕ) (i : ℕ) → rowOk rows i ≡ false → RowSays rows i 0
 says-no rows i e = record { bad = λ z. e; good = λ h. absurd (h refl); days = λ h. absurd (h refl); most = omega arith }
-
-pub say-no : (rows : List ℕ) (n : ℕ) → all (rowOk rows) n ≡ false → RowsSay rows n 0
-say-no rows n e = record { bad = λ z. e; good = λ h. absurd (h refl); days = λ h. absurd (h refl); most = omega arith }
 
 -- what a good row holds
 pub row-total : (rows : List ℕ) (i : ℕ) → rowOk rows i ≡ true → lens rows i 12 ≡ sum (lens rows i) 12

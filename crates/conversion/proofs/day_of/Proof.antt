@@ -52,7 +52,7 @@ add-first : tie.Need-add-first
 add-first c =
     let f = table (c .before .before .before .before) in
     let k = known (c .before .before .before .before) .month in
-    omega (arith, starts _ _ f, c .span .ensures .most)
+    omega (arith, starts _ _ (f .frame), c .span .ensures .most)
 
 day-in-row-requires : tie.Need-day-in-row-requires
 day-in-row-requires c κs =
@@ -60,7 +60,7 @@ day-in-row-requires c κs =
     let k = known (c .before .before .before .before) in
     record {
       row = omega arith;
-      early = omega (arith, starts _ _ f, c .span .ensures .most);
+      early = omega (arith, starts _ _ (f .frame), c .span .ensures .most);
       month-from = k .month .month-from;
       month-to = k .month .month-to;
       day-from = k .day-from;
@@ -94,7 +94,7 @@ returns-4 c =
     let k = known (c .before .before .before .before .before) in
     let i = a .date .year - a .table .«first_year» in
     let years = c .before .span .ensures .whole ∙ years-sum _ _ f i (omega arith) in
-    let start = c .before .before .first-day .ensures ∙ starts _ _ f in
+    let start = c .before .before .first-day .ensures ∙ starts _ _ (f .frame) in
     sym (rw (converts _ _ _ _ k, c .day-in-row .ensures, years, start))
 
 pub day-of-spec : {M : Type 1} → statement M

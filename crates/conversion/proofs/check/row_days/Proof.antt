@@ -7,8 +7,8 @@ use Rattle.paper.specs.Sums.{sum, all}
 use Rattle.conversion.specs.Flat.{lens, lenOk}
 use Rattle.paper.proofs.Sums.{sum-zero, sum-step, all-zero, all-step}
 use Rattle.conversion.proofs.Rows.{says-no, len-short, len-long, len-ok, row-len, row-sum, row-ok}
-use Rattle.conversion.proofs.row_days.Statement.{statement}
-use Rattle.conversion.proofs.row_days.Tie as tie
+use Rattle.conversion.proofs.check.row_days.Statement.{statement}
+use Rattle.conversion.proofs.check.row_days.Tie as tie
 
 abbrev Inv-loop : tie.InvT-loop
 Inv-loop rows i days₀ m₀ days m =
