@@ -17,7 +17,7 @@ use lib.Ieee.Positive as Positive
 use lib.Ieee.Positive.{num, den, positive, le→cross}
 use Rattle.paper.specs.Floats.{_⊕_, _⊖_, _⊗_, bits}
 use Rattle.paper.proofs.Tests.{T-true}
-use Rattle.trig.specs.Trig.{zero, half, one, wholes, perHalfTurn, piHigh, piLow, inRange, withinOne, least, most, clamp, magnitude, turned, signed, nearestWhole, turnSign, sineSeries, swing, sineAbove, sine, arcSeries, arcNear, arcsineWithin, arcsine}
+use Rattle.trig.specs.Trig.{zero, half, one, wholes, perHalfTurn, inRange, withinOne, least, most, clamp, magnitude, turned, signed, nearestWhole, turnSign, sineSeries, swing, sineAbove, sine, arcSeries, arcNear, arcsineWithin, arcsine}
 use Rattle.trig.proofs.Signs.{zero-lt-neg}
 use Rattle.paper.proofs.Within.{Within, Size, negated, widen, either, inside, Formula, lit, got, _⊞_, _⊟_, _⊠_, by, bound, good, within}
 
@@ -154,7 +154,7 @@ turns-small {a} p = quarter (turns a) (within 262144 (got p ⊠ lit perHalfTurn)
 
 -- an angle of at most A, which is at most 0.5, has a sine of at most R
 module _ (A R : ℕ) (half-or-less : T (leb A 524288)) (below : T (ltb R (2 ^ 20))) (wider : T (leb A R))
-  (bounded : (y : Float) (p : Within 20 A y) → T (good (swung (got p)) && leb (bound (swung (got p))) R)) where
+    (bounded : (y : Float) (p : Within 20 A y) → T (good (swung (got p)) && leb (bound (swung (got p))) R)) where
   swing-small : {a : Float} → Within 20 A a → Within 20 R (swing a zero zero)
   unfolding swing sineSeries mul ofBits
   swing-small {a} p = rw no-sign (uncut below (within R (swung (got p)) (bounded a p)))

@@ -17,9 +17,13 @@ use Rattle.panchanga.specs.declared.InstantAnswer.{InstantAnswer}
 use Rattle.panchanga.specs.declared.InstantAnswer.the-variants as IA
 use Rattle.panchanga.specs.declared.MinutesAnswer.{MinutesAnswer}
 use Rattle.panchanga.specs.declared.MinutesAnswer.the-variants as MA
+use Rattle.panchanga.specs.declared.ReadingAnswer.{ReadingAnswer}
+use Rattle.panchanga.specs.declared.ReadingAnswer.the-variants as RA
+use Rattle.panchanga.specs.declared.lunar.Reading.{Reading}
 use Rattle.panchanga.specs.Clock.{clockOf}
 use Rattle.panchanga.specs.Noaa.{eventsOn}
 use Rattle.panchanga.specs.Kalas.{kalaAt, isNishita, nishitaBetween, middle}
+use Rattle.panchanga.specs.Reading.{readingOf}
 
 -- ---- what the enums say
 -- two instants, or none
@@ -40,6 +44,10 @@ instantSays IA.NoSuchDate = refused 3
 abbrev pub minutesSays : MinutesAnswer → Answer ℕ
 minutesSays (MA.Is n) = answered n
 minutesSays MA.OutOfRange = refused 8
+
+abbrev pub readingSays : ReadingAnswer → Answer Reading
+readingSays (RA.Is r) = answered r
+readingSays RA.NoSuchDate = refused 3
 
 -- ---- what the calls answer
 -- what is made of two instants, where there are some
@@ -71,3 +79,7 @@ kalaAnswer k x = cond (isNishita k) (chosen middle (nishitaAnswer x)) (chosen (�
 -- the clock's minute at an instant
 abbrev pub clockAnswer : Float → Answer ℕ
 clockAnswer x = given (instant x) 8 (answered (clockOf x))
+
+-- a date's reading
+abbrev pub readingAnswer : Date → Answer Reading
+readingAnswer x = given (real x) 3 (answered (readingOf x (dayNumber x)))

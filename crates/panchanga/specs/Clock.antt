@@ -3,7 +3,7 @@ use Prim.Native.Nat.{ℕ, _+_, _%_}
 use mathlib.Core.Bool.{cond}
 use lib.IntN.{pos}
 use lib.Ieee.{Float, binary64, rem, lt, le}
-use Rattle.paper.specs.Floats.{_⊕_, _⊖_, _⊗_, near, dec, whole, floorOf}
+use Rattle.paper.specs.Floats.{_⊕_, _⊖_, _⊗_, dec, whole, floorOf}
 use Rattle.gregorian.specs.Instants.{localDay}
 
 -- a number of at least 0.0, rounded half upward: its whole part, and one more where the rest is a half or more

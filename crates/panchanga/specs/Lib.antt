@@ -2,4 +2,5 @@
 pub mod Clock
 pub mod Noaa
 pub mod Kalas
+pub mod Reading
 pub mod Answers

@@ -2,17 +2,19 @@
 // Here are the public calls, which refuse. The modules hold what they work out.
 pub mod clock;
 pub mod kalas;
+pub mod lunar;
 pub mod noaa;
 
 ghost use mathlib.Core.Path.{_≡_};
 ghost use Rattle.paper.specs.Answers.{answered};
 ghost use Rattle.panchanga.specs.Kalas.{kalaAt, middle};
-ghost use Rattle.panchanga.specs.Answers.{spanIs, spanSays, instantSays, minutesSays, chosen, eventsAnswer, riseAnswer, setAnswer, nishitaAnswer, kalaAnswer, clockAnswer};
+ghost use Rattle.panchanga.specs.Answers.{spanIs, spanSays, instantSays, minutesSays, chosen, eventsAnswer, riseAnswer, setAnswer, nishitaAnswer, kalaAnswer, clockAnswer, readingSays, readingAnswer};
 pub use clock::minutes_of;
 use gregorian::Date;
 use gregorian::DateAnswer;
 use gregorian::NumberAnswer;
 use gregorian::UtDay;
+use lunar::Reading;
 use sky::time;
 
 // When in a day a festival rule is evaluated; the numbers 0 to 5 of a rule's kala, in their order.
@@ -49,6 +51,12 @@ pub enum InstantAnswer {
 pub enum MinutesAnswer {
     Is(u16),
     OutOfRange,
+}
+
+// A date's reading, or refusal 3.
+pub enum ReadingAnswer {
+    Is(Reading),
+    NoSuchDate,
 }
 
 // A span as an answer.
@@ -157,5 +165,16 @@ pub fn npt_clock(instant: UtDay) -> MinutesAnswer
         MinutesAnswer::Is(clock::clock_of(instant.0))
     } else {
         MinutesAnswer::OutOfRange
+    }
+}
+
+// What a calendar prints under a date: the tithi at sunrise, its end, sunrise and sunset.
+pub fn reading(date: Date) -> ReadingAnswer
+    ensures { λ r. ⌜ readingSays r ≡ readingAnswer date ⌝ }
+{
+    let a = date.day_number();
+    match a {
+        NumberAnswer::Number(n) => ReadingAnswer::Is(lunar::reading_of(date, n)),
+        NumberAnswer::NoSuchDate => ReadingAnswer::NoSuchDate,
     }
 }

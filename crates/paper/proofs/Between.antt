@@ -2,9 +2,9 @@
 use mathlib.Core.Path.{_≡_, sym, ap, _∙_, subst}
 use mathlib.Core.Bool.{Bool, true, false, cond, _&&_}
 use Prim.Native.Nat.{ℕ, zero, suc, _+_, _-_, _*_, _^_, _≤_, _<_, zero-le}
-use native.Mathlib.Nat.{le-trans, le-of-eq, lt-of-lt-of-le, lt-of-le-of-lt, mul-comm, mul-assoc, mul-one, mul-right-comm, mul-le-mul-right, mul-pos, mul-sub, add-mul, le-of-mul-le-mul-right}
+use native.Mathlib.Nat.{le-trans, le-of-eq, le-of-lt, lt-of-lt-of-le, lt-of-le-of-lt, mul-comm, mul-assoc, mul-one, mul-right-comm, mul-le-mul-right, mul-pos, mul-sub, add-mul, le-of-mul-le-mul-right}
 use native.Mathlib.Omega.{arith}
-use borrow.Author.Tests.{le-ltb, ltb-false}
+use borrow.Author.Tests.{le-ltb, ltb-false, ltb-true}
 use lib.Dec.{T, leb, ltb, leb→le, ltb→lt, lt→ltb, eqb·suc-zero, lit<}
 use lib.Ieee.{Float, nan, inf, fin, binary64, up, down, round, neg, sum, add, sub, div, lt, le}
 use lib.Ieee.Fits.{up-pos, down-pos, and-l, and-r}
@@ -277,3 +277,30 @@ beyond-span L H L' H' (fin false m e) (fin false n d) h p q = (p .0, down-from H
 
 pub not-beyond : {L H L' H' : ℕ} {x y : Float} → lt y x ≡ false → Between L H x → Between L' H' y → Between L H' x
 not-beyond {L} {H} {L'} {H'} {x} {y} h p q = record { span = beyond-span L H L' H' x y h (p .span) (q .span) }
+
+-- the same by either answer of a test x < y
+above-span : (L H L' H' : ℕ) (x y : Float) → lt y x ≡ false → Span L H x → Span L' H' y → Span L H' y
+unfolding lt
+above-span L H L' H' nan y h p q = absurd p
+above-span L H L' H' (inf s) y h p q = absurd p
+above-span L H L' H' (fin true m e) y h p q = absurd p
+above-span L H L' H' (fin false m e) nan h p q = absurd q
+above-span L H L' H' (fin false m e) (inf t) h p q = absurd q
+above-span L H L' H' (fin false m e) (fin true n d) h p q = absurd q
+above-span L H L' H' (fin false m e) (fin false n d) h p q = (up-from L (m * up e) (down e) (n * up d) (down d) (down-pos e) (p .0) (ltb-false (n * up d * down e) (m * up e * down d) h), q .1)
+
+below-span : (L H L' H' : ℕ) (x y : Float) → lt x y ≡ true → Span L H x → Span L' H' y → Span L H' x
+unfolding lt
+below-span L H L' H' nan y h p q = absurd p
+below-span L H L' H' (inf s) y h p q = absurd p
+below-span L H L' H' (fin true m e) y h p q = absurd p
+below-span L H L' H' (fin false m e) nan h p q = absurd q
+below-span L H L' H' (fin false m e) (inf t) h p q = absurd q
+below-span L H L' H' (fin false m e) (fin true n d) h p q = absurd q
+below-span L H L' H' (fin false m e) (fin false n d) h p q = (p .0, down-from H' (n * up d) (down d) (m * up e) (down e) (down-pos d) (q .1) (le-of-lt (ltb-true (m * up e * down d) (n * up d * down e) h)))
+
+pub not-under : {L H L' H' : ℕ} {x y : Float} → lt y x ≡ false → Between L H x → Between L' H' y → Between L H' y
+not-under {L} {H} {L'} {H'} {x} {y} h p q = record { span = above-span L H L' H' x y h (p .span) (q .span) }
+
+pub below : {L H L' H' : ℕ} {x y : Float} → lt x y ≡ true → Between L H x → Between L' H' y → Between L H' x
+below {L} {H} {L'} {H'} {x} {y} h p q = record { span = below-span L H L' H' x y h (p .span) (q .span) }

@@ -40,14 +40,15 @@ held-exactly j B u h =
     round-exact binary64 false B (2 ^ j) B (1074 - j) (pow-pos j) h (lt-of-lt-of-le (shl-lt 53 (1074 - j) h) (pow-mono (fits j)))
     (ap (λ (k : ℕ). B * 2 ^ k) (back j u) ∙ ap (λ (k : ℕ). B * k) (pow-add 2 (1074 - j) j) ∙ sym (mul-assoc B (2 ^ (1074 - j)) (2 ^ j)))
 
-or-cases : (a b : Bool) {C : Type 0} → (T a → C) → (T b → C) → T (a || b) → C
+-- ---- tests on numbers as comparisons of floats have them: below, or level
+pub or-cases : (a b : Bool) {C : Type 0} → (T a → C) → (T b → C) → T (a || b) → C
 or-cases true b f g t = f tt
 or-cases false b f g t = g t
 
-up-to : (a b : ℕ) → T (ltb a b || (eqb a b && true)) → a ≤ b
+pub up-to : (a b : ℕ) → T (ltb a b || (eqb a b && true)) → a ≤ b
 up-to a b h = or-cases (ltb a b) (eqb a b && true) (λ p. le-of-lt (ltb→lt a b p)) (λ p. le-of-eq (eqb→eq a b (and-l (eqb a b) true p))) h
 
-down-to : (a b : ℕ) → T (ltb b a || (eqb a b && true)) → b ≤ a
+pub down-to : (a b : ℕ) → T (ltb b a || (eqb a b && true)) → b ≤ a
 down-to a b h = or-cases (ltb b a) (eqb a b && true) (λ p. le-of-lt (ltb→lt b a p)) (λ p. le-of-eq (sym (eqb→eq a b (and-l (eqb a b) true p)))) h
 
 -- a / c ≤ n / d and n / d ≤ B / u
@@ -264,6 +265,11 @@ pub either : {j B : ℕ} {x y : Float} (b : Bool) → Within j B x → Within j 
 either true p q = p
 either false p q = q
 
+-- either of two, each where the test says so
+pub either-by : {j B : ℕ} {x y : Float} (b : Bool) → (b ≡ true → Within j B x) → (b ≡ false → Within j B y) → Within j B (cond b x y)
+either-by true p q = p refl
+either-by false p q = q refl
+
 -- a whole number `as f64`
 pub integer : (j B : ℕ) (z : ℤ) → natAbs z * 2 ^ j ≤ B → j ≤ 1074 → B < 2 ^ 53 → Within j B (ofInt binary64 z)
 unfolding ofInt
@@ -289,21 +295,21 @@ clamped j B k {x} l h t =
     record { size = clamp-size j B k x (and-l (positive k) c v) (leb→le (num k * 2 ^ j) (B * den k) (and-r (positive k) c v)) l h; unit = leb→le j 1074 (and-l (leb j 1074) (positive k && c) t) }
 
 -- and back: what is within lies from -k to k
-or-l : (a b : Bool) → T a → T (a || b)
+pub or-l : (a b : Bool) → T a → T (a || b)
 or-l true b t = tt
 or-l false b t = absurd t
 
-or-r : (a b : Bool) → T b → T (a || b)
+pub or-r : (a b : Bool) → T b → T (a || b)
 or-r true b t = tt
 or-r false b t = t
 
 same : (a b : ℕ) → a ≡ b → T (eqb a b && true)
 same a b e = and-i (eqb a b) true (eq→eqb e) tt
 
-to-le : (a b : ℕ) → a ≤ b → T (ltb a b || (eqb a b && true))
+pub to-le : (a b : ℕ) → a ≤ b → T (ltb a b || (eqb a b && true))
 to-le a b h = elim (eq-or-lt-of-le h) [ inl e ↦ or-r (ltb a b) (eqb a b && true) (same a b e) | inr l ↦ or-l (ltb a b) (eqb a b && true) (lt→ltb a b l) ]
 
-to-ge : (a b : ℕ) → b ≤ a → T (ltb b a || (eqb a b && true))
+pub to-ge : (a b : ℕ) → b ≤ a → T (ltb b a || (eqb a b && true))
 to-ge a b h = elim (eq-or-lt-of-le h) [ inl e ↦ or-r (ltb b a) (eqb a b && true) (same a b (sym e)) | inr l ↦ or-l (ltb b a) (eqb a b && true) (lt→ltb b a l) ]
 
 -- m / e ≤ B / u and B / u ≤ n / d

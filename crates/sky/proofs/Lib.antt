@@ -7,3 +7,12 @@ pub mod Halving
 pub mod Steps
 pub mod Searches
 pub mod Unique
+pub mod Orders
+pub mod TurnRange
+pub mod Norms
+pub mod Numbers
+pub mod Served
+pub mod Degrees
+pub mod Asked
+pub mod OffsetRange
+pub mod Running
