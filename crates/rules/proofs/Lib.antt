@@ -4,3 +4,4 @@ pub mod Accepted
 pub mod Most
 pub mod Used
 pub mod Listed
+pub mod Questions
