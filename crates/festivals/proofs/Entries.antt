@@ -1,0 +1,92 @@
+-- Laws of a rule's day and of the places of a resolved year. Assumes nothing.
+use Prim.Native.Nat.{ℕ, _+_, _-_, _<_}
+use mathlib.Core.Path.{_≡_, refl, sym, ap, _∙_}
+use mathlib.Core.Bool.{true, false}
+use mathlib.Core.List.{List, []}
+use mathlib.Core.Option.{Option, some, none}
+use native.Mathlib.Omega.{arith}
+use borrow.Author.Tests.{eq-eqb, ne-eqb}
+use lib.ListN.{getD, set, replicate}
+use lib.Ieee.{Float, nan}
+use Rattle.paper.specs.Answers.{answered, refused}
+use Rattle.conversion.specs.declared.BsDate.{BsDate}
+use Rattle.conversion.specs.Calendar.{Calendar, fromDay}
+use Rattle.rules.specs.declared.Rule.{Rule}
+use Rattle.rules.specs.Rules.{ruleAt, rulesFrom, ruleGood}
+use Rattle.rules.specs.Sky.{Sky}
+use Rattle.rules.specs.Days.{next, festivalDay}
+use Rattle.rules.specs.Festivals.{dated, tithi, beginning, opening, ruleDay, inTable, entry}
+use Rattle.rules.specs.Resolved.{putEntry, filled, resolved}
+use Rattle.rules.proofs.Walk.{rest, left}
+use Rattle.rules.proofs.Accepted.{computed-of}
+use Rattle.rules.proofs.Used.{fill-none, fill-not, fill-is}
+use Rattle.festivals.specs.declared.months.Months.{Months}
+use Rattle.festivals.specs.Kathmandu.{startAfter, kathmandu}
+use Rattle.festivals.specs.Months.{monthAt, dayBy}
+
+-- ---- where a tithi begins
+pub begins-at-moon : (t : ℕ) (x : Float) → t ≡ 1 → some x ≡ beginning kathmandu t x
+unfolding beginning
+begins-at-moon t x e = rw (eq-eqb t 1 e)
+
+pub begins-after : (t : ℕ) (x : Float) (o : Option Float) → (t ≡ 1 → ⊥) → o ≡ startAfter t x → o ≡ beginning kathmandu t x
+unfolding beginning
+begins-after t x o e q = rw (ne-eqb t 1 e) q
+
+-- ---- the day of a rule, by the twelve places
+module _ (s : Sky Float) (r : Rule) (m : Months) (j : ℕ) where
+  pub day-moonless : getD (m .has) j false ≡ false → none ≡ dayBy s r (monthAt m j)
+  unfolding dayBy monthAt next
+  day-moonless h = rw h
+
+  module _ (h : getD (m .has) j false ≡ true) where
+    pub day-unstarted : none ≡ beginning s (tithi r) (getD (m .moon) j nan) → none ≡ dayBy s r (monthAt m j)
+    unfolding dayBy monthAt next
+    day-unstarted q = rw (h, ← q)
+
+    pub day-started : (b : Float) → some b ≡ beginning s (tithi r) (getD (m .moon) j nan) → (d : Option ℕ) → d ≡ festivalDay s (tithi r) (r .kala) b → d ≡ dayBy s r (monthAt m j)
+    unfolding dayBy monthAt next
+    day-started b p d q = rw (h, ← p) q
+
+rule-day-by : {I : Type 0} (s : Sky I) (c : Calendar) (y : ℕ) (r : Rule) (o : Option I) (d : Option ℕ) → o ≡ opening s c y (r .month) → d ≡ dayBy s r o → ruleDay s c y r ≡ d
+unfolding ruleDay dayBy
+rule-day-by s c y r o d e q = sym (q ∙ ap (dayBy s r) e)
+
+-- from the lunar months of the year
+pub rule-day-at : (s : Sky Float) (c : Calendar) (y : ℕ) (r : Rule) (m : Months) (d : Option ℕ) → ruleGood r ≡ true → r .kind ≡ 3 → ((j : ℕ) → j < 12 → monthAt m j ≡ opening s c y (j + 1)) → d ≡ dayBy s r (monthAt m (r .month - 1)) → ruleDay s c y r ≡ d
+rule-day-at s c y r m d g k h q =
+    let f = computed-of r g k in
+    let e : r .month - 1 + 1 ≡ r .month = omega (arith, f .month-from) in
+    rule-day-by s c y r _ d (h (r .month - 1) (omega (arith, f .month-to)) ∙ ap (opening s c y) e) q
+
+-- ---- its entry
+module _ {I : Type 0} (s : Sky I) (c : Calendar) (y : ℕ) (r : Rule) (d : List ℕ) (j : ℕ) where
+  pub entry-nothing : ruleDay s c y r ≡ none → d ≡ putEntry d j (entry s c y r)
+  unfolding putEntry entry next
+  entry-nothing e = rw e
+
+  pub entry-outside : (n k : ℕ) → ruleDay s c y r ≡ some n → fromDay c n ≡ refused k → d ≡ putEntry d j (entry s c y r)
+  unfolding putEntry entry next inTable dated
+  entry-outside n k e q = rw (e, q)
+
+  pub entry-here : (n : ℕ) (t : BsDate) → ruleDay s c y r ≡ some n → fromDay c n ≡ answered t → set d j n ≡ putEntry d j (entry s c y r)
+  unfolding putEntry entry next inTable dated
+  entry-here n t e q = rw (e, q)
+
+-- ---- a turn of the loop over the rules
+module _ (xs : List ℕ) (i n : ℕ) (h : i < n) (r : Rule) (er : r ≡ ruleAt xs i) {I : Type 0} (s : Sky I) (c : Calendar) (y : ℕ) (d t : List ℕ) (j : ℕ) where
+  pub fill-skip : (r .kind ≡ 3 → ⊥) → filled s c y d j (rulesFrom xs i (n - i)) ≡ t → filled s c y d j (rest xs i n h r er) ≡ t
+  fill-skip e q = sym (ap (filled s c y d j) (left xs i n h r er) ∙ fill-not s c y d j r (rest xs i n h r er) e) ∙ q
+
+  pub fill-next : r .kind ≡ 3 → (d′ : List ℕ) → d′ ≡ putEntry d j (entry s c y r) → filled s c y d j (rulesFrom xs i (n - i)) ≡ t → filled s c y d′ (j + 1) (rest xs i n h r er) ≡ t
+  fill-next e d′ p q =
+      ap (λ z. filled s c y z (j + 1) (rest xs i n h r er)) p
+      ∙ sym (ap (filled s c y d j) (left xs i n h r er) ∙ fill-is s c y d j r (rest xs i n h r er) e)
+      ∙ q
+
+pub fill-end : {I : Type 0} (s : Sky I) (c : Calendar) (y : ℕ) (d t : List ℕ) (j : ℕ) (rs : List Rule) → rs ≡ [] → filled s c y d j rs ≡ t → d ≡ t
+fill-end s c y d t j rs e q = sym (fill-none s c y d j) ∙ (rw e at q)
+
+pub from-zeros : {I : Type 0} (s : Sky I) (c : Calendar) (y : ℕ) (rs : List Rule) → filled s c y (replicate 64 0) 0 rs ≡ resolved s c y rs
+unfolding resolved
+from-zeros s c y rs = refl

@@ -1,0 +1,10 @@
+pub mod Kalas
+pub mod Nepal
+pub mod Claims
+pub mod Asked
+pub mod Dates
+pub mod Placed
+pub mod TableYears
+pub mod Moons
+pub mod Entries
+pub mod Numbered

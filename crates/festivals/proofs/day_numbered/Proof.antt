@@ -1,0 +1,33 @@
+-- `festivals::day_numbered` meets its contract. Assumes nothing.
+use borrow.Author.Needs.{needs}
+use mathlib.Core.Path.{_≡_, sym, ap, _∙_}
+use Rattle.gregorian.specs.declared.Date.{Date}
+use Rattle.gregorian.specs.Answers.{dateSays}
+use Rattle.rules.specs.declared.lists.Day.{Day}
+use Rattle.festivals.proofs.Numbered.{is-date, always-date}
+use Rattle.festivals.proofs.day_numbered.Statement.{statement}
+use Rattle.festivals.proofs.day_numbered.Tie as tie
+
+from-day-number-requires : tie.Need-from-day-number-requires
+from-day-number-requires c κs = search needs
+
+enum-known-date : tie.Need-enum-known-date
+enum-known-date c = search needs
+
+enum-told : tie.Need-enum-told
+enum-told c = search needs
+
+returns : tie.Need-returns
+returns c =
+    let f = c .before .before .before in
+    let o = f .before in
+    rw (is-date (o .args .number) _ (o .pre) (sym (ap dateSays (c .before .date .given .1)) ∙ f .from-day-number .ensures))
+
+returns-2 : tie.Need-returns-2
+returns-2 c =
+    let f = c .before .before in
+    always-date (f .before .args .number) 3 (f .before .pre) (sym (ap dateSays (c .enum-told .given .1)) ∙ f .from-day-number .ensures)
+
+pub day-numbered-spec : {M : Type 1} → statement M
+day-numbered-spec =
+    tie.close (tie.spec from-day-number-requires enum-known-date enum-told returns returns-2)

@@ -1,0 +1,106 @@
+-- `festivals::days::festival_date` meets its contract. Assumes nothing.
+use borrow.Author.Needs.{needs}
+use mathlib.Core.Path.{sym, ap, _∙_}
+use mathlib.Core.Option.{some}
+use native.Mathlib.Omega.{arith}
+use Rattle.sky.specs.Answers.{firstSays}
+use Rattle.festivals.specs.Kathmandu.{kathmandu}
+use Rattle.festivals.specs.Answers.{dayIs}
+use Rattle.festivals.proofs.Kalas.{begins-named, asked-named}
+use Rattle.festivals.proofs.Nepal.{nepal-range}
+use Rattle.festivals.proofs.Dates.{date-none, date-begins, date-endless, date-asked}
+use Rattle.festivals.proofs.days.festival_date.Statement.{statement}
+use Rattle.festivals.proofs.days.festival_date.Tie as tie
+
+day-of-requires : tie.Need-day-of-requires
+day-of-requires c κs = search needs
+
+enum-known-begin : tie.Need-enum-known-begin
+enum-known-begin c = search needs
+
+enum-told : tie.Need-enum-told
+enum-told c = search needs
+
+returns : tie.Need-returns
+returns c =
+    let d = c .before .before in
+    date-none kathmandu _ _ _ (sym (ap dayIs (c .enum-told .given .1)) ∙ d .day-of .ensures)
+
+kala-named-requires : tie.Need-kala-named-requires
+kala-named-requires c κs = search needs
+
+is-begins-requires : tie.Need-is-begins-requires
+is-begins-requires c κs = search needs
+
+returns-2 : tie.Need-returns-2
+returns-2 c =
+    let b = c .before in
+    let k = b .before in
+    let n = k .before .before in
+    let d = n .before .before in
+    let o = d .before in
+    date-begins kathmandu _ _ _ _ (sym (ap dayIs (n .begin .given .1)) ∙ d .day-of .ensures)
+    (begins-named _ _ _ (o .pre .1) (k .kala-named .ensures) (sym (b .is-begins .ensures) ∙ c .if1 .taken))
+
+end-of-requires : tie.Need-end-of-requires
+end-of-requires c κs = search needs
+
+enum-known-end : tie.Need-enum-known-end
+enum-known-end c = search needs
+
+enum-told-2 : tie.Need-enum-told-2
+enum-told-2 c = search needs
+
+returns-3 : tie.Need-returns-3
+returns-3 c =
+    let e = c .before .before in
+    let i = e .before in
+    let b = i .before in
+    let k = b .before in
+    let n = k .before .before in
+    let d = n .before .before in
+    let o = d .before in
+    date-endless kathmandu _ _ _ _ (sym (ap dayIs (n .begin .given .1)) ∙ d .day-of .ensures)
+    (begins-named _ _ _ (o .pre .1) (k .kala-named .ensures) (sym (b .is-begins .ensures) ∙ i .if1 .left))
+    (sym (ap firstSays (c .enum-told2 .given .1)) ∙ e .end-of .ensures)
+
+festival-day-requires : tie.Need-festival-day-requires
+festival-day-requires c κs =
+    let n = c .before .before .before .before .before .before .before .before in
+    let d = n .before .before in
+    let r = nepal-range _ _ (sym (ap dayIs (n .begin .given .1)) ∙ d .day-of .ensures) in
+    (omega (arith, r .0), omega (arith, r .1))
+
+returns-4 : tie.Need-returns-4
+returns-4 c =
+    let x = c .before .before in
+    let e = x .before .before in
+    let i = e .before in
+    let b = i .before in
+    let k = b .before in
+    let n = k .before .before in
+    let d = n .before .before in
+    let o = d .before in
+    let a = o .args in
+    ap some (c .festival-day .ensures ∙ asked-named kathmandu (a .kala) _ _ _ _ (o .pre .1) (k .kala-named .ensures))
+    ∙ date-asked kathmandu _ _ _ _ (sym (ap dayIs (n .begin .given .1)) ∙ d .day-of .ensures)
+    (begins-named _ _ _ (o .pre .1) (k .kala-named .ensures) (sym (b .is-begins .ensures) ∙ i .if1 .left)) _
+    (sym (ap firstSays (x .end .given .1)) ∙ e .end-of .ensures)
+
+pub festival-date-spec : {M : Type 1} → statement M
+festival-date-spec =
+    tie.close
+    (tie.spec
+    day-of-requires
+    enum-known-begin
+    enum-told
+    returns
+    kala-named-requires
+    is-begins-requires
+    returns-2
+    end-of-requires
+    enum-known-end
+    enum-told-2
+    returns-3
+    festival-day-requires
+    returns-4)

@@ -1,0 +1,101 @@
+-- `festivals::days::first_by_night` meets its contract. The invariant: what is left of the four days gives the same, and `today` has the events of day n.
+-- Assumes nothing.
+use borrow.Author.Needs.{needs}
+use mathlib.Core.Path.{_≡_, _∙_}
+use Prim.Native.Nat.{_+_, _≤_}
+use native.Mathlib.Omega.{arith}
+use Rattle.panchanga.specs.Noaa.{eventsOn}
+use Rattle.panchanga.specs.Answers.{spanIs}
+use Rattle.rules.specs.Days.{firstFrom, nishita, claims, claimed}
+use Rattle.festivals.specs.Kathmandu.{kathmandu}
+use Rattle.festivals.proofs.Claims.{night-claims, from-hit, from-miss, from-none, claimed-is}
+use Rattle.festivals.proofs.days.first_by_night.Statement.{statement}
+use Rattle.festivals.proofs.days.first_by_night.Tie as tie
+
+abbrev Inv-loop : tie.InvT-loop
+Inv-loop start end begin n₀ today₀ left₀ n today left =
+    (n + left ≤ begin + 3)
+    × (spanIs today ≡ eventsOn n)
+    × (firstFrom (claims kathmandu (start .0) (end .0) nishita) n left ≡ claimed kathmandu (start .0) (end .0) nishita begin)
+
+abbrev μ-loop : tie.MeasureT-loop
+μ-loop start end begin n₀ today₀ left₀ n today left = left
+
+sub-n : tie.Need-sub-n Inv-loop μ-loop
+sub-n c = search needs
+
+events-on-requires : tie.Need-events-on-requires Inv-loop μ-loop
+events-on-requires c κs = search needs
+
+loop-holds : tie.Need-loop-holds Inv-loop μ-loop
+loop-holds c = (omega arith, c .events-on .ensures, claimed-is _ _ _ _)
+
+add-events-on : tie.Need-add-events-on Inv-loop μ-loop
+add-events-on c = search needs
+
+events-on-requires-2 : tie.Need-events-on-requires-2 Inv-loop μ-loop
+events-on-requires-2 c κs = search needs
+
+nishita-between-requires : tie.Need-nishita-between-requires Inv-loop μ-loop
+nishita-between-requires c κs = search needs
+
+covers-night-requires : tie.Need-covers-night-requires Inv-loop μ-loop
+covers-night-requires c κs = search needs
+
+returns : tie.Need-returns Inv-loop μ-loop
+returns c =
+    let k = c .before in
+    let b = k .before in
+    let e = b .before in
+    let l = e .before .before in
+    let a = l .before .before .args in
+    from-hit (claims kathmandu (a .start .0) (a .end .0) nishita) (l .loop .n) (l .loop .left) (e .before .loop-test .taken) _ _
+    (k .covers-night .ensures ∙ night-claims _ _ _ _ _ _ (l .loop .inv .1) (e .events-on2 .ensures) (b .nishita-between .ensures)) (l .loop .inv .2) (c .if1 .taken)
+
+add-n : tie.Need-add-n Inv-loop μ-loop
+add-n c = search needs
+
+sub-left : tie.Need-sub-left Inv-loop μ-loop
+sub-left c = search needs
+
+loop-less : tie.Need-loop-less Inv-loop μ-loop
+loop-less c = search needs
+
+loop-again : tie.Need-loop-again Inv-loop μ-loop
+loop-again c =
+    let k = c .before in
+    let b = k .before in
+    let e = b .before in
+    let l = e .before .before in
+    let a = l .before .before .args in (
+      omega arith,
+      e .events-on2 .ensures,
+      from-miss (claims kathmandu (a .start .0) (a .end .0) nishita) (l .loop .n) (l .loop .left) (e .before .loop-test .taken) _ _
+          (k .covers-night .ensures ∙ night-claims _ _ _ _ _ _ (l .loop .inv .1) (e .events-on2 .ensures) (b .nishita-between .ensures)) (l .loop .inv .2) (c .if1 .left),
+    )
+
+returns-2 : tie.Need-returns-2 Inv-loop μ-loop
+returns-2 c =
+    let l = c .before .loop in
+    let z : l .left ≡ 0 = omega arith in
+    from-none _ (l .n) (l .left) _ z (l .inv .2)
+
+pub first-by-night-spec : {M : Type 1} → statement M
+first-by-night-spec =
+    tie.close
+    (tie.spec
+    Inv-loop
+    μ-loop
+    sub-n
+    events-on-requires
+    loop-holds
+    add-events-on
+    events-on-requires-2
+    nishita-between-requires
+    covers-night-requires
+    returns
+    add-n
+    sub-left
+    loop-less
+    loop-again
+    returns-2)

@@ -1,0 +1,183 @@
+-- `festivals::festivals_on_ad` meets its contract. Assumes nothing.
+use borrow.Author.Needs.{needs}
+use borrow.Author.Tests.{not-true, not-false}
+use mathlib.Core.Path.{sym, ap, _∙_}
+use Rattle.gregorian.specs.Answers.{numberSays}
+use Rattle.conversion.specs.Flat.{flat}
+use Rattle.rules.specs.Rules.{rulesOf, acceptedRules}
+use Rattle.rules.proofs.Listed.{says-refused, says-by}
+use Rattle.rules.proofs.Questions.{ad-bad-table, ad-bad-rules, ad-no-date, ad-refused, ad-list}
+use Rattle.festivals.specs.Kathmandu.{kathmandu}
+use Rattle.festivals.proofs.Placed.{inside, before-first, after-last}
+use Rattle.festivals.proofs.Numbered.{no-number, its-number, real-numbered}
+use Rattle.festivals.proofs.festivals_on_ad.Statement.{statement}
+use Rattle.festivals.proofs.festivals_on_ad.Tie as tie
+
+accepts-requires : tie.Need-accepts-requires
+accepts-requires c κs = search needs
+
+returns : tie.Need-returns
+returns c =
+    let t = c .before in
+    let a = t .before .before .before .before .args in
+    let k = flat (a .table) (a .rows .now) in
+    let xs = a .rules .now in
+    let bad = sym (t .accepts .ensures) ∙ not-true (t .accepts .result) (c .if1 .taken) in
+    let s = says-by (ad-bad-table kathmandu k (rulesOf xs) (acceptedRules xs) (a .year) (a .month) (a .day) bad) (says-refused 1 (a .out .now)) in
+    (s .answer, s .buffer)
+
+accepts-rules-requires : tie.Need-accepts-rules-requires
+accepts-rules-requires c κs = search needs
+
+returns-2 : tie.Need-returns-2
+returns-2 c =
+    let w = c .before in
+    let i = w .before in
+    let t = i .before in
+    let a = t .before .before .before .before .args in
+    let k = flat (a .table) (a .rows .now) in
+    let xs = a .rules .now in
+    let good = sym (t .accepts .ensures) ∙ not-false (t .accepts .result) (i .if1 .left) in
+    let bad = sym (w .accepts-rules .ensures) ∙ not-true (w .accepts-rules .result) (c .if2 .taken) in
+    let s = says-by (ad-bad-rules kathmandu k (rulesOf xs) (acceptedRules xs) (a .year) (a .month) (a .day) good bad) (says-refused 2 (a .out .now)) in
+    (s .answer, s .buffer)
+
+day-number-requires : tie.Need-day-number-requires
+day-number-requires c κs = search needs
+
+enum-known-n : tie.Need-enum-known-n
+enum-known-n c = search needs
+
+enum-told : tie.Need-enum-told
+enum-told c = search needs
+
+returns-3 : tie.Need-returns-3
+returns-3 c =
+    let d = c .before .before in
+    let j = d .before in
+    let w = j .before in
+    let i = w .before in
+    let t = i .before in
+    let a = t .before .before .before .before .args in
+    let k = flat (a .table) (a .rows .now) in
+    let xs = a .rules .now in
+    let good = sym (t .accepts .ensures) ∙ not-false (t .accepts .result) (i .if1 .left) in
+    let ok = sym (w .accepts-rules .ensures) ∙ not-false (w .accepts-rules .result) (j .if2 .left) in
+    let none = no-number (record { year = a .year; month = a .month; day = a .day }) (sym (ap numberSays (c .enum-told .given .1)) ∙ d .day-number .ensures) in
+    let s = says-by (ad-no-date kathmandu k (rulesOf xs) (acceptedRules xs) (a .year) (a .month) (a .day) good ok none) (says-refused 3 (a .out .now)) in
+    (s .answer, s .buffer)
+
+place-requires : tie.Need-place-requires
+place-requires c κs =
+    let i = c .before .before .before .before .before .before in
+    let t = i .before in
+    sym (t .accepts .ensures) ∙ not-false (t .accepts .result) (i .if1 .left)
+
+enum-told-2 : tie.Need-enum-told-2
+enum-told-2 c = search needs
+
+enum-told-3 : tie.Need-enum-told-3
+enum-told-3 c = search needs
+
+enum-known-place : tie.Need-enum-known-place
+enum-known-place c = search needs
+
+list-day-requires : tie.Need-list-day-requires
+list-day-requires c κs =
+    let n = c .before .before .before .before .before .before in
+    let d = n .before .before in
+    let j = d .before in
+    let w = j .before in
+    let i = w .before in
+    let t = i .before in
+    let a = t .before .before .before .before .args in
+    let x = its-number (record { year = a .year; month = a .month; day = a .day }) _ (sym (ap numberSays (n .n .given .1)) ∙ d .day-number .ensures) in (
+      sym (t .accepts .ensures) ∙ not-false (t .accepts .result) (i .if1 .left),
+      sym (w .accepts-rules .ensures) ∙ not-false (w .accepts-rules .result) (j .if2 .left),
+      real-numbered (record { year = a .year; month = a .month; day = a .day }) _ (x .0) (x .1),
+    )
+
+returns-4 : tie.Need-returns-4
+returns-4 c =
+    let p = c .before .before in
+    let n = p .before .before in
+    let d = n .before .before in
+    let j = d .before in
+    let w = j .before in
+    let i = w .before in
+    let t = i .before in
+    let a = t .before .before .before .before .args in
+    let k = flat (a .table) (a .rows .now) in
+    let xs = a .rules .now in
+    let good = sym (t .accepts .ensures) ∙ not-false (t .accepts .result) (i .if1 .left) in
+    let ok = sym (w .accepts-rules .ensures) ∙ not-false (w .accepts-rules .result) (j .if2 .left) in
+    let x = its-number (record { year = a .year; month = a .month; day = a .day }) _ (sym (ap numberSays (n .n .given .1)) ∙ d .day-number .ensures) in
+    let out = before-first k good _ (p .place .result) (p .place .ensures) _ (c .enum-told2 .given .1) in
+    let s = says-by (ad-refused kathmandu k (rulesOf xs) (acceptedRules xs) (a .year) (a .month) (a .day) good ok (x .0) _ (x .1) 7 out) (says-refused 7 (a .out .now)) in
+    (s .answer, s .buffer)
+
+returns-5 : tie.Need-returns-5
+returns-5 c =
+    let p = c .before .before in
+    let n = p .before .before in
+    let d = n .before .before in
+    let j = d .before in
+    let w = j .before in
+    let i = w .before in
+    let t = i .before in
+    let a = t .before .before .before .before .args in
+    let k = flat (a .table) (a .rows .now) in
+    let xs = a .rules .now in
+    let good = sym (t .accepts .ensures) ∙ not-false (t .accepts .result) (i .if1 .left) in
+    let ok = sym (w .accepts-rules .ensures) ∙ not-false (w .accepts-rules .result) (j .if2 .left) in
+    let x = its-number (record { year = a .year; month = a .month; day = a .day }) _ (sym (ap numberSays (n .n .given .1)) ∙ d .day-number .ensures) in
+    let out = after-last k good _ (p .place .result) (p .place .ensures) _ (c .enum-told3 .given .1) in
+    let s = says-by (ad-refused kathmandu k (rulesOf xs) (acceptedRules xs) (a .year) (a .month) (a .day) good ok (x .0) _ (x .1) 7 out) (says-refused 7 (a .out .now)) in
+    (s .answer, s .buffer)
+
+same-length : tie.Need-same-length
+same-length c = search needs
+
+returns-6 : tie.Need-returns-6
+returns-6 c =
+    let l = c .before .before in
+    let b = l .before .before .before in
+    let p = b .before .before in
+    let n = p .before .before in
+    let d = n .before .before in
+    let j = d .before in
+    let w = j .before in
+    let i = w .before in
+    let t = i .before in
+    let a = t .before .before .before .before .args in
+    let k = flat (a .table) (a .rows .now) in
+    let xs = a .rules .now in
+    let good = sym (t .accepts .ensures) ∙ not-false (t .accepts .result) (i .if1 .left) in
+    let ok = sym (w .accepts-rules .ensures) ∙ not-false (w .accepts-rules .result) (j .if2 .left) in
+    let x = its-number (record { year = a .year; month = a .month; day = a .day }) _ (sym (ap numberSays (n .n .given .1)) ∙ d .day-number .ensures) in
+    let here = inside k good _ (p .place .result) (p .place .ensures) _ (b .place2 .given .1) in
+    let e = ad-list kathmandu k (rulesOf xs) (acceptedRules xs) (a .year) (a .month) (a .day) good ok (x .0) _ (x .1) _ here in
+    let s = says-by e (record { answer = l .list-day .ensures .0; buffer = l .list-day .ensures .1 }) in
+    (s .answer, s .buffer)
+
+pub festivals-on-ad-spec : {M : Type 1} → statement M
+festivals-on-ad-spec =
+    tie.close
+    (tie.spec
+    accepts-requires
+    returns
+    accepts-rules-requires
+    returns-2
+    day-number-requires
+    enum-known-n
+    enum-told
+    returns-3
+    place-requires
+    enum-told-2
+    enum-told-3
+    enum-known-place
+    list-day-requires
+    returns-4
+    returns-5
+    same-length
+    returns-6)

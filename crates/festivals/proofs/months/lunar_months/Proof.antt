@@ -1,0 +1,63 @@
+-- `festivals::months::lunar_months` meets its contract. Assumes nothing.
+use borrow.Author.Needs.{needs}
+use mathlib.Core.Path.{sym, ap, _∙_}
+use mathlib.Core.Option.{none}
+use Prim.Native.Nat.{_+_}
+use Rattle.conversion.specs.Flat.{flat}
+use Rattle.rules.specs.Festivals.{lastOf, inMonth}
+use Rattle.festivals.specs.Kathmandu.{kathmandu}
+use Rattle.festivals.specs.Answers.{daysAre}
+use Rattle.festivals.proofs.TableYears.{opens}
+use Rattle.festivals.proofs.months.lunar_months.Statement.{statement}
+use Rattle.festivals.proofs.months.lunar_months.Tie as tie
+
+year-days-requires : tie.Need-year-days-requires
+year-days-requires c κs = search needs
+
+enum-known-first : tie.Need-enum-known-first
+enum-known-first c = search needs
+
+enum-told : tie.Need-enum-told
+enum-told c = search needs
+
+place-moons-requires : tie.Need-place-moons-requires
+place-moons-requires c κs = search needs
+
+returns : tie.Need-returns
+returns c =
+    let t = c .before .before in
+    let d = t .before .before in
+    let a = d .before .before .args in
+    λ j h.
+    c .place-moons .ensures j h ∙ opens kathmandu (flat (a .table) (a .rows .now)) (a .year) none (sym (ap daysAre (t .enum-told .given .1)) ∙ d .year-days .ensures) (j + 1)
+
+new-moons-requires : tie.Need-new-moons-requires
+new-moons-requires c κs = search needs
+
+place-moons-requires-2 : tie.Need-place-moons-requires-2
+place-moons-requires-2 c κs = search needs
+
+returns-2 : tie.Need-returns-2
+returns-2 c =
+    let w = c .before .before in
+    let t = w .before .before .before in
+    let d = t .before .before in
+    let a = d .before .before .args in
+    let k = flat (a .table) (a .rows .now) in
+    λ j h.
+    c .place-moons2 .ensures j h
+    ∙ ap (lastOf (inMonth kathmandu k (a .year) (j + 1)) none) (w .new-moons .ensures .1)
+    ∙ opens kathmandu k (a .year) _ (sym (ap daysAre (t .first .given .1)) ∙ d .year-days .ensures) (j + 1)
+
+pub lunar-months-spec : {M : Type 1} → statement M
+lunar-months-spec =
+    tie.close
+    (tie.spec
+    year-days-requires
+    enum-known-first
+    enum-told
+    place-moons-requires
+    returns
+    new-moons-requires
+    place-moons-requires-2
+    returns-2)

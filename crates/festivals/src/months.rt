@@ -1,0 +1,113 @@
+// The lunar months of a BS year.
+use super::DayFound;
+use super::days::day_of;
+use conversion::BsDate;
+use conversion::DayAnswer;
+use conversion::MonthDays;
+use conversion::Placed;
+use conversion::Table;
+use gregorian::UtDay;
+use sky::search;
+ghost use mathlib.Core.Path.{_≡_};
+ghost use mathlib.Core.Bool.{true};
+ghost use mathlib.Core.Option.{none};
+ghost use Prim.Native.Nat.{ℕ, _+_, _≤_, _<_};
+ghost use lib.ListN.{length, take};
+ghost use Rattle.conversion.specs.Flat.{accepted, flat};
+ghost use Rattle.rules.specs.Festivals.{lastOf, inMonth, opening};
+ghost use Rattle.festivals.specs.Kathmandu.{moonsAround, kathmandu};
+ghost use Rattle.festivals.specs.Months.{yearDays, monthAt};
+ghost use Rattle.festivals.specs.Answers.{daysAre};
+
+// The new moon that opens each lunar month, where one does.
+pub struct Months {
+    pub moon: [f64; 12],
+    pub has: [bool; 12],
+}
+
+// The first and the last day of a BS year, by their numbers, or nothing.
+pub enum YearDays {
+    Days(u32, u32),
+    Nothing,
+}
+
+// The first and the last day of a year of an accepted table.
+fn year_days(table: Table, rows: &[u16], year: u16) -> YearDays
+    requires { ⌜ accepted table (now rows) ≡ true ⌝ }
+    ensures { λ r. ⌜ daysAre r ≡ yearDays (flat table (now (rows .entry))) year ⌝ }
+{
+    let first = BsDate {
+        year,
+        month: 1,
+        day: 1,
+    };
+    let DayAnswer::Day(a) = conversion::day_of(table, rows, first) else {
+        return YearDays::Nothing;
+    };
+    let MonthDays::Days(len) = conversion::month_days(table, rows, year, 12) else {
+        return YearDays::Nothing;
+    };
+    let last = BsDate {
+        year,
+        month: 12,
+        day: len,
+    };
+    let DayAnswer::Day(b) = conversion::day_of(table, rows, last) else {
+        return YearDays::Nothing;
+    };
+    YearDays::Days(a, b)
+}
+
+// The new moons from 35 days before 0h of one day to 5 after 0h of another, to the front of `found`; how many they are.
+fn new_moons(first: u32, last: u32, found: &mut [f64; 1024]) -> usize
+    requires { ⌜ length (now found) ≡ 1024 ⌝ }
+    ensures { λ r. ⌜ (r ≤ 1024) × (length (now (found .exit)) ≡ 1024) ⌝ }
+    ensures { λ r. ⌜ take r (now (found .exit)) ≡ moonsAround first last ⌝ }
+{
+    let from = UtDay(first as f64 - 0.5 - 35.0);
+    let to = UtDay(last as f64 - 0.5 + 5.0);
+    let walked = search::walk(1, from, to, found);
+    walked.count
+}
+
+// The last of the first n new moons in each month of a year: a new moon whose day is outside the table or in another year opens none.
+fn place_moons(table: Table, rows: &[u16], year: u16, found: &[f64; 1024], n: usize) -> Months
+    requires { ⌜ (accepted table (now rows) ≡ true) × (n ≤ 1024) × (length (now found) ≡ 1024) ⌝ }
+    ensures { λ r. ⌜ ((j : ℕ) → j < 12 → monthAt r j ≡ lastOf (inMonth kathmandu (flat table (now (rows .entry))) year (j + 1)) none (take n (now (found .entry)))) ⌝ }
+{
+    let mut m = Months {
+        moon: [0.0; 12],
+        has: [false; 12],
+    };
+    let mut i = 0;
+    while i < n {
+        let x = found[i];
+        i += 1;
+        let DayFound::Day(k) = day_of(UtDay(x)) else {
+            continue;
+        };
+        let Placed::Inside(date) = conversion::place(table, rows, k) else {
+            continue;
+        };
+        if date.year != year {
+            continue;
+        }
+        let j = (date.month - 1) as usize;
+        m.moon[j] = x;
+        m.has[j] = true;
+    }
+    m
+}
+
+// The lunar months of a year; a year not in the table has none.
+pub fn lunar_months(table: Table, rows: &[u16], year: u16) -> Months
+    requires { ⌜ accepted table (now rows) ≡ true ⌝ }
+    ensures { λ r. ⌜ ((j : ℕ) → j < 12 → monthAt r j ≡ opening kathmandu (flat table (now (rows .entry))) year (j + 1)) ⌝ }
+{
+    let mut found = [0.0; 1024];
+    let YearDays::Days(first, last) = year_days(table, rows, year) else {
+        return place_moons(table, rows, year, &found, 0);
+    };
+    let n = new_moons(first, last, &mut found);
+    place_moons(table, rows, year, &found, n)
+}
