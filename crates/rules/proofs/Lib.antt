@@ -1,0 +1,5 @@
+pub mod Walk
+pub mod Stores
+pub mod Accepted
+pub mod Most
+pub mod Used
