@@ -1,0 +1,2 @@
+-- What stepping a month means.
+pub mod Step
