@@ -7,7 +7,7 @@ use lib.Dec.{leb, ltb}
 use Rattle.paper.specs.Answers.{Answer, answered, given}
 use Rattle.paper.specs.Sums.{sum}
 use Rattle.gregorian.specs.declared.Date.{Date}
-use Rattle.gregorian.specs.Calendar.{isDate, dayNumber, dateOf}
+use Rattle.gregorian.specs.Calendar.{isDate, dayNumber, dateOf, Earlier}
 use Rattle.conversion.specs.declared.BsDate.{BsDate}
 use Rattle.conversion.specs.declared.Placed.{Placed}
 use Rattle.conversion.specs.declared.Placed.the-variants as P
@@ -96,3 +96,14 @@ toAd c y m d = ofDate c y m d (dateOf (dayAt c (y - c .first) (m - 1) (d - 1)))
 -- the BS date of a Gregorian date: refusals 1, 3, 7
 unfoldable pub fromAd : Calendar → ℕ → ℕ → ℕ → Answer BsDate
 fromAd c y m d = given (c .good) 1 (given (isDate y m d) 3 (fromDay c (dayNumber (record { year = y; month = m; day = d }))))
+
+-- ---- the order of BS dates: by the year, then the month, then the day, as that of Gregorian dates
+
+abbrev pub bs : ℕ → ℕ → ℕ → BsDate
+bs y m d = record { year = y; month = m; day = d }
+
+abbrev pub numbers : BsDate → Date
+numbers t = record { year = t .year; month = t .month; day = t .day }
+
+abbrev pub EarlierBs : BsDate → BsDate → Type 0
+EarlierBs s t = Earlier (numbers s) (numbers t)

@@ -1,14 +1,20 @@
 // Conversion between Bikram Sambat and Gregorian dates, over a lent year table.
 ghost use mathlib.Core.Path.{_≡_};
 ghost use mathlib.Core.Bool.{true};
-ghost use Prim.Native.Nat.{_+_, _-_, _*_, _<_, _≤_};
-ghost use lib.ListN.{length};
+ghost use Prim.Native.Nat.{_+_, _-_, _<_};
 ghost use Rattle.paper.specs.Sums.{sum};
-ghost use Rattle.conversion.specs.Calendar.{monthLen, validBs, toDay, dateInYear, placed};
+ghost use Rattle.gregorian.specs.Calendar.{dateOf};
+ghost use Rattle.gregorian.specs.Answers.{numbered};
+ghost use Rattle.conversion.specs.Calendar.{monthLen, validBs, toDay, dateInYear, placed, toAd, fromAd};
 ghost use Rattle.conversion.specs.Flat.{accepted, flat, lens, rowCount};
-ghost use Rattle.conversion.specs.Inner.{firstNumber, column, Inside, InRow, Summed, FoundAt, RowSays, RowsSay};
-ghost use Rattle.conversion.specs.Answers.{daysSays, checkSays, daySays};
+ghost use Rattle.conversion.specs.Inner.{numberOrZero, firstNumber, InRow, PlacedIn};
+ghost use Rattle.conversion.specs.Answers.{daysSays, checkSays, daySays, monthLenSays, validSays, adSays, bsSays};
+
+mod check;
+mod columns;
+
 use gregorian::Date;
+use gregorian::DateAnswer;
 use gregorian::NumberAnswer;
 
 // What a table says besides its rows: the first BS year, and the Gregorian date of its first day.
@@ -30,6 +36,40 @@ pub enum MonthDays {
     Days(u16),
     NoYear,
     NoMonth,
+}
+
+// The length of a month, or refusal 1, 4 or 5.
+pub enum MonthLen {
+    Days(u16),
+    BadTable,
+    NoYear,
+    NoMonth,
+}
+
+// Whether there is such a date: yes, or refusal 1, 4, 5 or 6.
+pub enum Validity {
+    Valid,
+    BadTable,
+    NoYear,
+    NoMonth,
+    NoDay,
+}
+
+// A Gregorian date, or refusal 1, 4, 5 or 6.
+pub enum AdAnswer {
+    Is(Date),
+    BadTable,
+    NoYear,
+    NoMonth,
+    NoDay,
+}
+
+// A BS date, or refusal 1, 3 or 7.
+pub enum BsAnswer {
+    Is(BsDate),
+    BadTable,
+    NoSuchDate,
+    Outside,
 }
 
 // Whether there is such a date: yes, or refusal 4, 5 or 6.
@@ -55,138 +95,30 @@ pub enum Placed {
     After(u32),
 }
 
-// A place in a row of lengths, and what is left there.
-struct Spot {
-    index: usize,
-    rest: u32,
-}
-
-// The sum of count numbers of a table, every step-th from at.
-fn span(rows: &[u16], at: usize, step: usize, count: usize) -> u32
-    requires { ⌜ Inside (now rows) at step count ⌝ }
-    ensures { λ r. ⌜ Summed (column (now (rows .entry)) at step) count r ⌝ }
+// The number of a day; 0 where there is no such date.
+fn number_or_zero(year: u16, month: u16, day: u16) -> u32
+    ensures { λ r. ⌜ r ≡ numberOrZero year month day ⌝ }
 {
-    let mut total: u32 = 0;
-    let mut k = at;
-    let mut i = 0;
-    while i < count {
-        total += rows[k] as u32;
-        k += step;
-        i += 1;
+    let date = Date { year, month, day };
+    match date.day_number() {
+        NumberAnswer::Number(n) => n,
+        NumberAnswer::NoSuchDate => 0,
     }
-    total
-}
-
-// Which of count numbers, every step-th from at, day lies in after the ones before it are taken off.
-fn find(rows: &[u16], at: usize, step: usize, count: usize, day: u32) -> Spot
-    requires { ⌜ Inside (now rows) at step count ⌝ }
-    ensures { λ p. ⌜ FoundAt (column (now (rows .entry)) at step) count day (p .index) (p .rest) ⌝ }
-{
-    let mut rest = day;
-    let mut k = at;
-    let mut i = 0;
-    while i < count {
-        let len = rows[k] as u32;
-        if rest < len {
-            return Spot { index: i, rest };
-        }
-        rest -= len;
-        k += step;
-        i += 1;
-    }
-    Spot { index: count, rest }
-}
-
-// The days of row i, or 0 where the row breaks a rule.
-fn row_days(rows: &[u16], i: usize) -> u32
-    requires { ⌜ 13 * i + 13 ≤ length (now rows) ⌝ }
-    ensures { λ r. ⌜ RowSays (now (rows .entry)) i r ⌝ }
-{
-    let mut days: u32 = 0;
-    let mut m = 0;
-    while m < 12 {
-        let len = rows[13 * i + m];
-        if len < 29 {
-            return 0;
-        }
-        if 32 < len {
-            return 0;
-        }
-        days += len as u32;
-        m += 1;
-    }
-    if rows[13 * i + 12] as u32 == days {
-        days
-    } else {
-        0
-    }
-}
-
-// The days of the first count rows, or 0 where one of them breaks a rule.
-fn table_days(rows: &[u16], count: usize) -> u32
-    requires { ⌜ (1 ≤ count) × (count ≤ 128) × (13 * count ≤ length (now rows)) ⌝ }
-    ensures { λ r. ⌜ RowsSay (now (rows .entry)) count r ⌝ }
-{
-    let mut total: u32 = 0;
-    let mut i = 0;
-    while i < count {
-        let days = row_days(rows, i);
-        if days == 0 {
-            return 0;
-        }
-        total += days;
-        i += 1;
-    }
-    total
 }
 
 // The number of a table's first day; 0 where it is no date.
 pub fn first_day(table: Table) -> u32
     ensures { λ r. ⌜ r ≡ firstNumber table ⌝ }
 {
-    let first = Date {
-        year: table.year,
-        month: table.month,
-        day: table.day,
-    };
-    match first.day_number() {
-        NumberAnswer::Number(n) => n,
-        NumberAnswer::NoSuchDate => 0,
-    }
+    number_or_zero(table.year, table.month, table.day)
 }
 
 // Whether a lent year table keeps the rules of document 01.
 pub fn accepts(table: Table, rows: &[u16]) -> bool
     ensures { λ r. ⌜ r ≡ accepted table (now (rows .entry)) ⌝ }
 {
-    if table.first_year < 1 {
-        return false;
-    }
-    if 3000 < table.first_year {
-        return false;
-    }
-    let count = rows.len() / 13;
-    if rows.len() != 13 * count {
-        return false;
-    }
-    if count < 1 {
-        return false;
-    }
-    if 128 < count {
-        return false;
-    }
-    let start = first_day(table);
-    if start < 2415386 {
-        return false;
-    }
-    let days = table_days(rows, count);
-    if days == 0 {
-        return false;
-    }
-    if 2488069 < start + days - 1 {
-        return false;
-    }
-    true
+    let p = check::pass_table(table, rows, check::frame(table, rows.len()), 0, 0);
+    p.days != 0
 }
 
 // The length of a month of an accepted table.
@@ -237,7 +169,7 @@ fn day_in_row(rows: &[u16], i: usize, first: u32, month: u16, day: u16) -> u32
     requires { ⌜ InRow (now rows) i first month day ⌝ }
     ensures { λ r. ⌜ r ≡ first + sum (lens (now (rows .entry)) i) (month - 1) + (day - 1) ⌝ }
 {
-    let months = span(rows, 13 * i, 1, (month - 1) as usize);
+    let months = columns::span(rows, 13 * i, 1, (month - 1) as usize);
     first + months + (day - 1) as u32
 }
 
@@ -253,7 +185,7 @@ pub fn day_of(table: Table, rows: &[u16], date: BsDate) -> DayAnswer
         DateCheck::NoDay => DayAnswer::NoDay,
         DateCheck::Good => {
             let i = (date.year - table.first_year) as usize;
-            let first = first_day(table) + span(rows, 12, 13, i);
+            let first = first_day(table) + columns::span(rows, 12, 13, i);
             DayAnswer::Day(day_in_row(rows, i, first, date.month, date.day))
         }
     }
@@ -264,12 +196,36 @@ fn date_in_row(table: Table, rows: &[u16], i: usize, rest: u32) -> BsDate
     requires { ⌜ (accepted table (now rows) ≡ true) × (i < rowCount (now rows)) × (rest < sum (lens (now rows) i) 12) ⌝ }
     ensures { λ r. ⌜ r ≡ dateInYear (flat table (now (rows .entry))) i rest ⌝ }
 {
-    let p = find(rows, 13 * i, 1, 12, rest);
+    let p = columns::find(rows, 13 * i, 1, 12, rest);
     BsDate {
         year: table.first_year + i as u16,
         month: p.index as u16 + 1,
         day: p.rest as u16 + 1,
     }
+}
+
+// The days from start to n; 0 where n is not after it.
+fn days_from(start: u32, n: u32) -> u32
+    ensures { λ r. ⌜ r ≡ n - start ⌝ }
+{
+    if n < start {
+        return 0;
+    }
+    n - start
+}
+
+// Where day n lies in an accepted table whose first day is start, once the row is known: the days from start to n end rest days after row i begins.
+fn place_in(table: Table, rows: &[u16], start: u32, n: u32, i: usize, rest: u32) -> Placed
+    requires { ⌜ PlacedIn table (now rows) start n i rest ⌝ }
+    ensures { λ r. ⌜ r ≡ placed (flat table (now (rows .entry))) n ⌝ }
+{
+    if n < start {
+        return Placed::Before(start - n);
+    }
+    if rows.len() / 13 <= i {
+        return Placed::After(rest + 1);
+    }
+    Placed::Inside(date_in_row(table, rows, i, rest))
 }
 
 // Where a day lies in an accepted table.
@@ -278,14 +234,106 @@ pub fn place(table: Table, rows: &[u16], n: u32) -> Placed
     ensures { λ r. ⌜ r ≡ placed (flat table (now (rows .entry))) n ⌝ }
 {
     let start = first_day(table);
-    if n < start {
-        return Placed::Before(start - n);
+    let p = columns::find(rows, 12, 13, rows.len() / 13, days_from(start, n));
+    place_in(table, rows, start, n, p.index, p.rest)
+}
+
+// The length of a month: refusals 1, 4, 5.
+pub fn bs_month_len(table: Table, rows: &[u16], year: u16, month: u16) -> MonthLen
+    ensures { λ r. ⌜ monthLenSays r ≡ monthLen (flat table (now (rows .entry))) year month ⌝ }
+{
+    if !accepts(table, rows) {
+        return MonthLen::BadTable;
     }
-    let count = rows.len() / 13;
-    let p = find(rows, 12, 13, count, n - start);
-    let i = p.index;
-    if count <= i {
-        return Placed::After(p.rest + 1);
+    let days = month_days(table, rows, year, month);
+    match days {
+        MonthDays::Days(n) => MonthLen::Days(n),
+        MonthDays::NoYear => MonthLen::NoYear,
+        MonthDays::NoMonth => MonthLen::NoMonth,
     }
-    Placed::Inside(date_in_row(table, rows, i, p.rest))
+}
+
+// Whether there is such a BS date: refusals 1, 4, 5, 6.
+pub fn validate_bs_date(table: Table, rows: &[u16], date: BsDate) -> Validity
+    ensures { λ r. ⌜ validSays r ≡ validBs (flat table (now (rows .entry))) (date .year) (date .month) (date .day) ⌝ }
+{
+    if !accepts(table, rows) {
+        return Validity::BadTable;
+    }
+    let check = date_check(table, rows, date);
+    match check {
+        DateCheck::Good => Validity::Valid,
+        DateCheck::NoYear => Validity::NoYear,
+        DateCheck::NoMonth => Validity::NoMonth,
+        DateCheck::NoDay => Validity::NoDay,
+    }
+}
+
+// The row of a year; 0 where it is before the first.
+fn row_of(table: Table, year: u16) -> usize
+    ensures { λ r. ⌜ r ≡ year - table .«first_year» ⌝ }
+{
+    if year < table.first_year {
+        return 0;
+    }
+    (year - table.first_year) as usize
+}
+
+// The date of a number that is a date's.
+fn date_of(n: u32) -> Date
+    requires { ⌜ numbered n ≡ true ⌝ }
+    ensures { λ r. ⌜ r ≡ dateOf n ⌝ }
+{
+    let date = Date::from_day_number(n);
+    match date {
+        DateAnswer::Is(d) => d,
+        DateAnswer::NoSuchDate => Date {
+            year: 0,
+            month: 0,
+            day: 0,
+        },
+    }
+}
+
+// The Gregorian date of a BS date: refusals 1, 4, 5, 6.
+pub fn bs_to_ad(table: Table, rows: &[u16], date: BsDate) -> AdAnswer
+    ensures { λ r. ⌜ adSays r ≡ toAd (flat table (now (rows .entry))) (date .year) (date .month) (date .day) ⌝ }
+{
+    let start = check::frame(table, rows.len());
+    let p = check::pass_table(table, rows, start, row_of(table, date.year), 4294967295);
+    if p.days == 0 {
+        return AdAnswer::BadTable;
+    }
+    let check = date_check(table, rows, date);
+    match check {
+        DateCheck::NoYear => AdAnswer::NoYear,
+        DateCheck::NoMonth => AdAnswer::NoMonth,
+        DateCheck::NoDay => AdAnswer::NoDay,
+        DateCheck::Good => {
+            let n = day_in_row(rows, p.row, start + p.before, date.month, date.day);
+            AdAnswer::Is(date_of(n))
+        }
+    }
+}
+
+// The BS date of a Gregorian date: refusals 1, 3, 7.
+pub fn ad_to_bs(table: Table, rows: &[u16], year: u16, month: u16, day: u16) -> BsAnswer
+    ensures { λ r. ⌜ bsSays r ≡ fromAd (flat table (now (rows .entry))) year month day ⌝ }
+{
+    let start = check::frame(table, rows.len());
+    let n = number_or_zero(year, month, day);
+    let offset = days_from(start, n);
+    let p = check::pass_table(table, rows, start, rows.len() / 13, offset);
+    if p.days == 0 {
+        return BsAnswer::BadTable;
+    }
+    if n == 0 {
+        return BsAnswer::NoSuchDate;
+    }
+    let place = place_in(table, rows, start, n, p.row, offset - p.before);
+    match place {
+        Placed::Inside(d) => BsAnswer::Is(d),
+        Placed::Before(_) => BsAnswer::Outside,
+        Placed::After(_) => BsAnswer::Outside,
+    }
 }

@@ -7,8 +7,8 @@ use native.Mathlib.Nat.{mul-add}
 use Rattle.paper.specs.Sums.{sum}
 use Rattle.conversion.specs.Inner.{column}
 use Rattle.paper.proofs.Sums.{sum-zero, sum-step}
-use Rattle.conversion.proofs.span.Statement.{statement}
-use Rattle.conversion.proofs.span.Tie as tie
+use Rattle.conversion.proofs.columns.span.Statement.{statement}
+use Rattle.conversion.proofs.columns.span.Tie as tie
 
 abbrev Inv-loop : tie.InvT-loop
 Inv-loop rows at step count total₀ k₀ i₀ total k i =

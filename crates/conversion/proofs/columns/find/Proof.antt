@@ -7,8 +7,8 @@ use native.Mathlib.Nat.{mul-add}
 use Rattle.paper.specs.Sums.{sum}
 use Rattle.conversion.specs.Inner.{column}
 use Rattle.paper.proofs.Sums.{sum-zero, sum-step}
-use Rattle.conversion.proofs.find.Statement.{statement}
-use Rattle.conversion.proofs.find.Tie as tie
+use Rattle.conversion.proofs.columns.find.Statement.{statement}
+use Rattle.conversion.proofs.columns.find.Tie as tie
 
 abbrev Inv-loop : tie.InvT-loop
 Inv-loop rows at step count day rest₀ k₀ i₀ rest k i =
