@@ -1,109 +1,48 @@
--- The laws of sine and cosine. Negation turns the order of two floats round. The clamp keeps -1 to 1. Sine is odd, and cosine even. Assumes nothing.
+-- The laws of sine, cosine and the arcs. Sine and cosine never leave -1 to 1. In range a negated angle negates the sine and keeps the cosine.
+-- Zeros keep their sign under sine. Out of range, and for no number, the answer is 0.0. There is no second answer. Assumes nothing.
 use Prim.Native.Nat.{ℕ, _+_, _*_, _<_}
-use mathlib.Core.Bool.{Bool, true, false, not, cond, _&&_, _||_, true≢false}
-use mathlib.Core.Path.{_≡_, refl, sym, subst}
-use native.Mathlib.Nat.{add-comm, zero-mul, add-zero, one-mul}
+use mathlib.Core.Bool.{Bool, true, false, cond, _||_, true≢false}
+use mathlib.Core.Path.{_≡_, refl, sym, _∙_}
+use native.Mathlib.Nat.{zero-mul, one-mul}
 use native.Mathlib.Omega.{arith}
 use borrow.Author.Tests.{ltb-false}
-use lib.Dec.{T, ltb, lt→ltb, eqb, eqb→eq, eqb-refl, leb·suc-zero}
-use lib.Ieee.{Float, nan, inf, fin, neg, lt, le, eq, ofBits, below, level, up, down}
-use lib.Ieee.Fits.{and-l, and-r, down-pos}
-use Rattle.trig.specs.Trig.{zero, one, limit, clamp, sineAbove, cosineAbove, signedSine, evenCosine, sine, cosine, withinOne, inRange}
+use lib.Dec.{T, ltb, lt→ltb}
+use lib.Ieee.{Float, nan, inf, fin, add, sub, mul, div, neg, lt, le, eq, ofBits, below, level, up, down}
+use lib.Ieee.Bits.{is-true}
+use lib.Ieee.Fits.{and-i, down-pos}
+use Rattle.trig.specs.Trig.{zero, one, limit, inRange, withinOne, least, most, clamp, turned, signed, magnitude, turnSign, sineSeries, swing, sineAbove, cosineAbove, sine, cosine, tangent, arcsine, arccosine}
+use Rattle.trig.proofs.Signs.{between-neg, magnitude-neg, signed-neg}
 
-pub neg-neg : (x : Float) → neg (neg x) ≡ x
-unfolding neg
-neg-neg nan = refl
-neg-neg (inf true) = refl
-neg-neg (inf false) = refl
-neg-neg (fin true m e) = refl
-neg-neg (fin false m e) = refl
+-- ---- -1 to 1
 
-both : (a b : Bool) → T a → T b → T (a && b)
-both true b p q = q
-both false b p q = absurd p
+lt-le : (x y : Float) → lt x y ≡ true → le x y ≡ true
+unfolding le
+lt-le x y e = rw e
 
--- ---- negation turns the order round
-later : (a b c : Bool) → T (a || b) → (T b → T c) → T (a || c)
-later true b c t f = tt
-later false b c t f = f t
-
-swapped : (a b : ℕ) → T (eqb a b && true) → T (eqb b a && true)
-swapped a b h = subst (λ (k : ℕ). T (eqb k a && true)) (eqb→eq a b (and-l (eqb a b) true h)) (both (eqb a a) true (eqb-refl a) tt)
-
-zeros : (a b : ℕ) → T (eqb a b && eqb a 0) → T (eqb b a && eqb b 0)
-zeros a b h =
-    let e : a ≡ b = eqb→eq a b (and-l (eqb a b) (eqb a 0) h) in
-    subst (λ (k : ℕ). T (eqb k a && eqb k 0)) e (both (eqb a a) (eqb a 0) (eqb-refl a) (and-r (eqb a b) (eqb a 0) h))
-
-turned : (s : Bool) (a : ℕ) (t : Bool) (b : ℕ) → T (below s a t b || level s a t b) → T (below (not t) b (not s) a || level (not t) b (not s) a)
-turned false a false b h = later (ltb a b) (eqb a b && true) (eqb b a && true) h (swapped a b)
-turned true a true b h = later (ltb b a) (eqb a b && true) (eqb b a && true) h (swapped a b)
-turned true a false b h = rw (add-comm b a) (later (ltb 0 (a + b)) (eqb a b && eqb a 0) (eqb b a && eqb b 0) h (zeros a b))
-turned false a true b h = zeros a b h
-
-pub le-neg : (x y : Float) → T (le x y) → T (le (neg y) (neg x))
-unfolding neg le lt eq
-le-neg nan y h = absurd h
-le-neg (inf s) nan h = absurd h
-le-neg (inf true) (inf true) h = tt
-le-neg (inf true) (inf false) h = tt
-le-neg (inf false) (inf true) h = absurd h
-le-neg (inf false) (inf false) h = tt
-le-neg (inf true) (fin t n d) h = tt
-le-neg (inf false) (fin t n d) h = absurd h
-le-neg (fin s m e) nan h = absurd h
-le-neg (fin s m e) (inf true) h = absurd h
-le-neg (fin s m e) (inf false) h = tt
-le-neg (fin s m e) (fin t n d) h = turned s _ t _ h
-
--- ---- which side of zero a number is on
-pub zero-lt-neg : (x : Float) → lt zero (neg x) ≡ lt x zero
-unfolding neg lt ofBits
-zero-lt-neg nan = refl
-zero-lt-neg (inf true) = refl
-zero-lt-neg (inf false) = refl
-zero-lt-neg (fin true n d) = simp (zero-mul, add-zero)
-zero-lt-neg (fin false n d) = simp (zero-mul, leb·suc-zero)
-
-pub neg-lt-zero : (x : Float) → lt (neg x) zero ≡ lt zero x
-neg-lt-zero x = sym (rw (neg-neg x) at (zero-lt-neg (neg x)))
-
-pub not-both : (x : Float) → lt zero x ≡ true → lt x zero ≡ true → ⊥
-unfolding lt ofBits
-not-both nan p q = true≢false (sym p)
-not-both (inf true) p q = true≢false (sym p)
-not-both (inf false) p q = true≢false (sym q)
-not-both (fin true n d) p q = true≢false (sym p)
-not-both (fin false n d) p q = true≢false (sym (simp (zero-mul, leb·suc-zero) at q))
-
--- ---- the bounds
 clamp-within : (v : Float) → T (withinOne (clamp v))
-unfolding clamp le lt eq neg ofBits
-clamp-within v = go (le v one) (le (neg one) v) refl refl
+unfolding clamp least most le lt eq neg ofBits
+clamp-within v = first (lt v one) refl
   where
-    go : (p q : Bool) → le v one ≡ p → le (neg one) v ≡ q → T (withinOne (cond p (cond q v (neg one)) one))
-    go true true a b = rw (a, b) tt
-    go true false a b = tt
-    go false q a b = tt
+    second : (q : Bool) → lt v one ≡ true → lt (neg one) v ≡ q → T (withinOne (cond q v (neg one)))
+    second true a b = rw (lt-le v one a, lt-le (neg one) v b) tt
+    second false a b = tt
 
-neg-within : (v : Float) → T (withinOne v) → T (withinOne (neg v))
-neg-within v h =
-    let l : T (le (neg one) v) = and-l (le (neg one) v) (le v one) h in
-    let r : T (le v one) = and-r (le (neg one) v) (le v one) h in
-    both (le (neg one) (neg v)) (le (neg v) one) (le-neg v one r) (rw (neg-neg one) at (le-neg (neg one) v l))
+    first : (p : Bool) → lt v one ≡ p → T (withinOne (most (cond p v one) (neg one)))
+    first true a = second (lt (neg one) v) a refl
+    first false a = tt
 
--- what lies on neither side of zero, and is a number, is a zero
+-- a number that is on neither side of zero is within -1 to 1
 or-true : (a b : Bool) → T a → T (a || b)
 or-true true b t = tt
 or-true false b t = absurd t
 
-small-low : (s : Bool) (k d : ℕ) → 0 < d → below false 0 s k ≡ false → below s k false 0 ≡ false → T (below true d s k || level true d s k)
-small-low false k d h p q = or-true (ltb 0 (d + k)) (level true d false k) (lt→ltb 0 (d + k) (omega arith))
-small-low true k d h p q = or-true (ltb k d) (level true d true k) (lt→ltb k d (omega (arith, ltb-false 0 (k + 0) q)))
+small-low : (s : Bool) (k d : ℕ) → 0 < d → below s k false 0 ≡ false → T (below true d s k || level true d s k)
+small-low false k d h q = or-true (ltb 0 (d + k)) (level true d false k) (lt→ltb 0 (d + k) (omega arith))
+small-low true k d h q = or-true (ltb k d) (level true d true k) (lt→ltb k d (omega (arith, ltb-false 0 (k + 0) q)))
 
-small-high : (s : Bool) (k d : ℕ) → 0 < d → below false 0 s k ≡ false → below s k false 0 ≡ false → T (below s k false d || level s k false d)
-small-high false k d h p q = or-true (ltb k d) (level false k false d) (lt→ltb k d (omega (arith, ltb-false 0 k p)))
-small-high true k d h p q = or-true (ltb 0 (k + d)) (level true k false d) (lt→ltb 0 (k + d) (omega arith))
+small-high : (s : Bool) (k d : ℕ) → 0 < d → below false 0 s k ≡ false → T (below s k false d || level s k false d)
+small-high false k d h p = or-true (ltb k d) (level false k false d) (lt→ltb k d (omega (arith, ltb-false 0 k p)))
+small-high true k d h p = or-true (ltb 0 (k + d)) (level true k false d) (lt→ltb 0 (k + d) (omega arith))
 
 zero-within : (x : Float) → T (inRange x) → lt zero x ≡ false → lt x zero ≡ false → T (withinOne x)
 unfolding le lt eq neg ofBits
@@ -111,96 +50,100 @@ zero-within nan h p q = h
 zero-within (inf true) h p q = true≢false q
 zero-within (inf false) h p q = true≢false p
 zero-within (fin s m e) h p q =
-    let u : below false 0 s (m * up e * 1) ≡ false = rw (zero-mul (down e)) at p in
-    let v : below s (m * up e * 1) false 0 ≡ false = rw (zero-mul (down e)) at q in
-    let D : 0 < down e = down-pos e in
-    rw (one-mul (down e))
-    (both (below true (down e) s (m * up e * 1) || level true (down e) s (m * up e * 1)) (below s (m * up e * 1) false (down e) || level s (m * up e * 1) false (down e))
-    (small-low s (m * up e * 1) (down e) D u v) (small-high s (m * up e * 1) (down e) D u v))
+    let k = m * up e * 1 in
+    let u : below false 0 s k ≡ false = rw (zero-mul (down e)) at p in
+    let v : below s k false 0 ≡ false = rw (zero-mul (down e)) at q in
+    rw (one-mul (down e)) (and-i (below true (down e) s k || level true (down e) s k) (below s k false (down e) || level s k false (down e))
+    (small-low s k (down e) (down-pos e) v) (small-high s k (down e) (down-pos e) u))
 
-signed-within : (x : Float) → T (inRange x) → T (withinOne (signedSine x))
-unfolding signedSine sineAbove
-signed-within x h = go (lt zero x) (lt x zero) refl refl
+signed-within : (x v : Float) → T (inRange x) → T (withinOne v) → T (withinOne (signed x v))
+unfolding signed turned
+signed-within x v h w = go (lt zero x) (lt x zero) refl refl
   where
-    go : (p q : Bool) → lt zero x ≡ p → lt x zero ≡ q → T (withinOne (cond p (sineAbove x) (cond q (neg (sineAbove (neg x))) x)))
-    go true q a b = clamp-within _
-    go false true a b = neg-within _ (clamp-within _)
+    go : (p q : Bool) → lt zero x ≡ p → lt x zero ≡ q → T (withinOne (cond p v (cond q (neg v) x)))
+    go true q a b = w
+    go false true a b = between-neg one v w
     go false false a b = zero-within x h a b
 
-pub sine-within : (x : Float) → T (withinOne (sine x))
-unfolding sine le lt eq neg ofBits
-sine-within x = go (le (neg limit) x) (le x limit) refl refl
-  where
-    go : (p q : Bool) → le (neg limit) x ≡ p → le x limit ≡ q → T (withinOne (cond p (cond q (signedSine x) zero) zero))
-    go true true a b = signed-within x (rw (a, b) tt)
-    go true false a b = tt
-    go false q a b = tt
+swing-within : (a k h : Float) → T (withinOne (swing a k h))
+unfolding swing
+swing-within a k h = clamp-within _
 
-even-within : (x : Float) → T (withinOne (evenCosine x))
-unfolding evenCosine cosineAbove le lt eq neg ofBits
-even-within x = go (lt zero x) (lt x zero)
+pub sine-within : (x : Float) → T (withinOne (sine x))
+unfolding sine sineAbove le lt eq neg ofBits
+sine-within x = go (inRange x) refl
   where
-    go : (p q : Bool) → T (withinOne (cond p (cosineAbove x) (cond q (cosineAbove (neg x)) one)))
-    go true q = clamp-within _
-    go false true = clamp-within _
-    go false false = tt
+    go : (p : Bool) → inRange x ≡ p → T (withinOne (cond p (signed x (sineAbove (magnitude x))) zero))
+    go true e = signed-within x (sineAbove (magnitude x)) (rw e tt) (swing-within _ _ _)
+    go false e = tt
 
 pub cosine-within : (x : Float) → T (withinOne (cosine x))
-unfolding cosine le lt eq neg ofBits
-cosine-within x = go (le (neg limit) x) (le x limit)
+unfolding cosine cosineAbove le lt eq neg ofBits
+cosine-within x = go (inRange x)
   where
-    go : (p q : Bool) → T (withinOne (cond p (cond q (evenCosine x) zero) zero))
-    go true true = even-within x
-    go true false = tt
-    go false q = tt
+    go : (p : Bool) → T (withinOne (cond p (cosineAbove (magnitude x)) zero))
+    go true = swing-within _ _ _
+    go false = tt
 
--- ---- sine is odd, and cosine is even
-signed-neg : (x : Float) → signedSine (neg x) ≡ neg (signedSine x)
-unfolding signedSine
-signed-neg x = rw (zero-lt-neg x, neg-lt-zero x, neg-neg x) (go (lt zero x) (lt x zero) refl refl)
-  where
-    go : (p q : Bool) → lt zero x ≡ p → lt x zero ≡ q
-        → cond q (sineAbove (neg x)) (cond p (neg (sineAbove x)) (neg x)) ≡ neg (cond p (sineAbove x) (cond q (neg (sineAbove (neg x))) x))
-    go true true a b = absurd (not-both x a b)
-    go true false a b = refl
-    go false true a b = sym (neg-neg _)
-    go false false a b = refl
+-- ---- in range
 
-even-neg : (x : Float) → evenCosine (neg x) ≡ evenCosine x
-unfolding evenCosine
-even-neg x = rw (zero-lt-neg x, neg-lt-zero x, neg-neg x) (go (lt zero x) (lt x zero) refl refl)
-  where
-    go : (p q : Bool) → lt zero x ≡ p → lt x zero ≡ q
-        → cond q (cosineAbove (neg x)) (cond p (cosineAbove x) one) ≡ cond p (cosineAbove x) (cond q (cosineAbove (neg x)) one)
-    go true true a b = absurd (not-both x a b)
-    go true false a b = refl
-    go false true a b = refl
-    go false false a b = refl
+sine-in : (x : Float) → T (inRange x) → sine x ≡ signed x (sineAbove (magnitude x))
+unfolding sine
+sine-in x h = rw (is-true (inRange x) h)
 
-holds : (a : Bool) → T a → a ≡ true
-holds true t = refl
-holds false t = absurd t
+cosine-in : (x : Float) → T (inRange x) → cosine x ≡ cosineAbove (magnitude x)
+unfolding cosine
+cosine-in x h = rw (is-true (inRange x) h)
 
 pub range-neg : (x : Float) → T (inRange x) → T (inRange (neg x))
-range-neg x h =
-    let l : T (le (neg limit) x) = and-l (le (neg limit) x) (le x limit) h in
-    let r : T (le x limit) = and-r (le (neg limit) x) (le x limit) h in
-    both (le (neg limit) (neg x)) (le (neg x) limit) (le-neg x limit r) (rw (neg-neg limit) at (le-neg (neg limit) x l))
-
-sine-in : (x : Float) → T (inRange x) → sine x ≡ signedSine x
-unfolding sine
-sine-in x h = rw (holds (le (neg limit) x) (and-l (le (neg limit) x) (le x limit) h), holds (le x limit) (and-r (le (neg limit) x) (le x limit) h))
-
-cosine-in : (x : Float) → T (inRange x) → cosine x ≡ evenCosine x
-unfolding cosine
-cosine-in x h = rw (holds (le (neg limit) x) (and-l (le (neg limit) x) (le x limit) h), holds (le x limit) (and-r (le (neg limit) x) (le x limit) h))
+range-neg x h = between-neg limit x h
 
 pub sine-neg : (x : Float) → T (inRange x) → sine (neg x) ≡ neg (sine x)
-sine-neg x h = rw (sine-in x h, sine-in (neg x) (range-neg x h)) (signed-neg x)
+sine-neg x h = rw (sine-in x h, sine-in (neg x) (range-neg x h), magnitude-neg x) (signed-neg x _)
 
 pub cosine-neg : (x : Float) → T (inRange x) → cosine (neg x) ≡ cosine x
-cosine-neg x h = rw (cosine-in x h, cosine-in (neg x) (range-neg x h)) (even-neg x)
+cosine-neg x h = rw (cosine-in x h, cosine-in (neg x) (range-neg x h), magnitude-neg x)
 
 pub sine-zero : sine zero ≡ zero
-unfolding sine signedSine le lt eq neg ofBits
+unfolding sine signed turned le lt eq neg ofBits
 sine-zero = refl
+
+pub sine-minus-zero : sine (neg zero) ≡ neg zero
+unfolding sine signed turned le lt eq neg ofBits
+sine-minus-zero = refl
+
+pub cosine-zero : cosine zero ≡ one
+unfolding cosine cosineAbove swing turnSign sineSeries clamp least most magnitude le lt eq neg add sub mul ofBits
+cosine-zero = refl
+
+-- ---- out of range
+
+pub sine-outside : (x : Float) → inRange x ≡ false → sine x ≡ zero
+unfolding sine
+sine-outside x e = rw e
+
+pub cosine-outside : (x : Float) → inRange x ≡ false → cosine x ≡ zero
+unfolding cosine
+cosine-outside x e = rw e
+
+pub arcsine-outside : (x : Float) → withinOne x ≡ false → arcsine x ≡ zero
+unfolding arcsine
+arcsine-outside x e = rw e
+
+pub arccosine-outside : (x : Float) → withinOne x ≡ false → arccosine x ≡ zero
+unfolding arccosine
+arccosine-outside x e = rw e
+
+-- 0.0 / 0.0, which is no number
+pub tangent-outside : (x : Float) → inRange x ≡ false → tangent x ≡ nan
+unfolding tangent div ofBits
+tangent-outside x e = rw (sine-outside x e, cosine-outside x e)
+
+-- no number is neither an angle nor an arc's argument
+pub nan-outside : (inRange nan ≡ false) × (withinOne nan ≡ false)
+unfolding le lt eq neg ofBits
+nan-outside = (refl, refl)
+
+-- ---- no second answer: what a contract `r ≡ f x` fixes
+pub no-second : (f : Float → Float) (x r s : Float) → r ≡ f x → s ≡ f x → r ≡ s
+no-second f x r s p q = p ∙ sym q

@@ -1,16 +1,18 @@
--- Sine and cosine, operation by operation.
+-- Sine, cosine, the arcs and tangent of document 01 ("Trigonometry"), operation by operation, as docs/TRIG.md gives them. Assumes nothing.
 use mathlib.Core.Bool.{Bool, cond, _&&_}
 use lib.Ieee.{Float, neg, lt, le}
 use Rattle.paper.specs.Floats.{_⊕_, _⊖_, _⊗_, _⊘_, bits}
 
+-- ---- constants
+
 abbrev pub zero : Float
 zero = bits 0x0000_0000_0000_0000
 
-abbrev pub one : Float
-one = bits 0x3ff0_0000_0000_0000
-
 abbrev pub half : Float
 half = bits 0x3fe0_0000_0000_0000
+
+abbrev pub one : Float
+one = bits 0x3ff0_0000_0000_0000
 
 abbrev pub two : Float
 two = bits 0x4000_0000_0000_0000
@@ -19,123 +21,172 @@ two = bits 0x4000_0000_0000_0000
 abbrev pub limit : Float
 limit = bits 0x40f8_6a00_0000_0000
 
--- 1.5 * 2 ^ 52: added and taken away again, it rounds to a nearest number
-abbrev pub magic : Float
-magic = bits 0x4338_0000_0000_0000
+-- 1.5 * 2 ^ 52 and 1.5 * 2 ^ 53: one of them added and taken away again leaves the nearest whole number, or the nearest even one
+abbrev pub wholes : Float
+wholes = bits 0x4338_0000_0000_0000
 
-abbrev pub nearest : Float → Float
-nearest x = x ⊕ magic ⊖ magic
+abbrev pub evens : Float
+evens = bits 0x4348_0000_0000_0000
 
-abbrev pub withinOne : Float → Bool
-withinOne r = le (neg one) r && le r one
+-- 1 / pi
+abbrev pub perHalfTurn : Float
+perHalfTurn = bits 0x3fd4_5f30_6dc9_c883
 
-abbrev pub inRange : Float → Bool
-inRange x = le (neg limit) x && le x limit
+-- pi in two parts: of the first a product with up to 63,662 quarters is exact
+abbrev pub piHigh : Float
+piHigh = bits 0x4009_21fb_5444_0000
 
-unfoldable pub clamp : Float → Float
-clamp v = cond (le v one) (cond (le (neg one) v) v (neg one)) one
+abbrev pub piLow : Float
+piLow = bits 0x3d96_8c23_4c4c_6629
 
--- sine of y, for y between -pi/2 and pi/2
-unfoldable pub wave : Float → Float
-wave y =
-    let z = y ⊗ y in
-    let z2 = z ⊗ z in
-    let a = z ⊗ bits 0x3f81_1111_1111_10c1 ⊖ bits 0x3fc5_5555_5555_5555 in
-    let b = z ⊗ bits 0x3ec7_1de3_a528_768a ⊖ bits 0x3f2a_01a0_1a01_48af in
-    let c = z ⊗ bits 0x3de6_123c_b1d8_db70 ⊖ bits 0x3e5a_e645_4cb2_acb2 in
-    let d = z ⊗ bits 0x3ce8_8294_ef60_b147 ⊖ bits 0x3d6a_e431_a8b9_55e7 in
-    let p = a ⊕ z2 ⊗ b ⊕ z2 ⊗ z2 ⊗ (c ⊕ z2 ⊗ d) in
-    y ⊕ y ⊗ z ⊗ p
-
--- sine of a less n quarter turns: pi/2 in three parts, of which the first two have 33 digits, so that their products with n are exact
-unfoldable pub afterQuarters : Float → Float → Float
-afterQuarters a n =
-    wave (a ⊖ n ⊗ bits 0x3ff9_21fb_5440_0000 ⊖ n ⊗ bits 0x3dd0_b461_1a60_0000 ⊖ n ⊗ bits 0x3ba3_198a_2e03_7073)
-
--- 1 at an even k, -1 at an odd one
-unfoldable pub turnSign : Float → Float
-turnSign k =
-    let p = k ⊖ two ⊗ nearest (k ⊗ half) in
-    one ⊖ two ⊗ (p ⊗ p)
-
-unfoldable pub sineAbove : Float → Float
-sineAbove a =
-    let k = nearest (a ⊗ bits 0x3fd4_5f30_6dc9_c883) in
-    clamp (turnSign k ⊗ afterQuarters a (k ⊕ k))
-
-unfoldable pub cosineAbove : Float → Float
-cosineAbove a =
-    let k = nearest (a ⊗ bits 0x3fd4_5f30_6dc9_c883 ⊖ half) in
-    clamp (neg (turnSign k ⊗ afterQuarters a (k ⊕ k ⊕ one)))
-
-unfoldable pub signedSine : Float → Float
-signedSine x = cond (lt zero x) (sineAbove x) (cond (lt x zero) (neg (sineAbove (neg x))) x)
-
-unfoldable pub evenCosine : Float → Float
-evenCosine x = cond (lt zero x) (cosineAbove x) (cond (lt x zero) (cosineAbove (neg x)) one)
-
-unfoldable pub sine : Float → Float
-sine x = cond (le (neg limit) x) (cond (le x limit) (signedSine x) zero) zero
-
-unfoldable pub cosine : Float → Float
-cosine x = cond (le (neg limit) x) (cond (le x limit) (evenCosine x) zero) zero
-
-unfoldable pub tangent : Float → Float
-tangent x = sine x ⊘ cosine x
-
--- ---- the arcs: pi/2 and pi
-abbrev pub quarter : Float
-quarter = bits 0x3ff9_21fb_5444_2d18
+-- pi / 2 and pi, each nearest
+abbrev pub quarterTurn : Float
+quarterTurn = bits 0x3ff9_21fb_5444_2d18
 
 abbrev pub halfTurn : Float
 halfTurn = bits 0x4009_21fb_5444_2d18
 
-unfoldable pub ratio : Float → Float
-ratio z =
-    let p4 = z ⊗ bits 0x3f02_3de1_0dfd_f709 ⊕ bits 0x3f49_efe0_7501_b288 in
-    let p3 = z ⊗ p4 ⊖ bits 0x3fa4_8228_b568_8f3b in
-    let p2 = z ⊗ p3 ⊕ bits 0x3fc9_c155_0e88_4455 in
-    let p1 = z ⊗ p2 ⊖ bits 0x3fd4_d612_03eb_6f7d in
-    let p0 = z ⊗ p1 ⊕ bits 0x3fc5_5555_5555_5555 in
-    let q3 = z ⊗ bits 0x3fb3_b8c5_b12e_9282 ⊖ bits 0x3fe6_066c_1b8d_0159 in
-    let q2 = z ⊗ q3 ⊕ bits 0x4000_2ae5_9c59_8ac8 in
-    let q1 = z ⊗ q2 ⊖ bits 0x4003_3a27_1c8a_2d4b in
-    z ⊗ p0 ⊘ (z ⊗ q1 ⊕ one)
+-- ---- which numbers are served
 
-unfoldable pub arcSmall : Float → Float
-arcSmall x = x ⊕ x ⊗ ratio (x ⊗ x)
+abbrev pub inRange : Float → Bool
+inRange x = le (neg limit) x && le x limit
 
-abbrev pub heron : Float → Float → Float
-heron m g = half ⊗ (g ⊕ m ⊘ g)
+abbrev pub withinOne : Float → Bool
+withinOne x = le (neg one) x && le x one
 
-unfoldable pub rootNear : Float → Float
-rootNear m = heron m (heron m (heron m (heron m (heron m (m ⊗ bits 0x3fe9_9999_9999_999a ⊕ bits 0x3fd0_0000_0000_0000)))))
+-- ---- order and sign
 
--- the root of m, by that of a larger number where m is below an end
-unfoldable pub root4 : Float → Float
-root4 m = cond (lt m (bits 0x3fb0_0000_0000_0000)) (bits 0x3fd0_0000_0000_0000 ⊗ rootNear (m ⊗ bits 0x4030_0000_0000_0000)) (rootNear m)
+-- the smaller and the larger of two numbers; b if one is no number
+unfoldable pub least : Float → Float → Float
+least a b = cond (lt a b) a b
 
-unfoldable pub root8 : Float → Float
-root8 m = cond (lt m (bits 0x3f80_0000_0000_0000)) (bits 0x3fb0_0000_0000_0000 ⊗ root4 (m ⊗ bits 0x4070_0000_0000_0000)) (root4 m)
+unfoldable pub most : Float → Float → Float
+most a b = cond (lt b a) a b
 
-unfoldable pub root14 : Float → Float
-root14 m = cond (lt m (bits 0x3f10_0000_0000_0000)) (bits 0x3f80_0000_0000_0000 ⊗ root8 (m ⊗ bits 0x40d0_0000_0000_0000)) (root8 m)
+unfoldable pub clamp : Float → Float
+clamp v = most (least v one) (neg one)
 
-unfoldable pub root28 : Float → Float
-root28 m = cond (lt m (bits 0x3e30_0000_0000_0000)) (bits 0x3f10_0000_0000_0000 ⊗ root14 (m ⊗ bits 0x41b0_0000_0000_0000)) (root14 m)
+-- x without its sign
+unfoldable pub magnitude : Float → Float
+magnitude x = cond (lt zero x) x (cond (lt x zero) (neg x) zero)
 
--- arccosine of an a from 0.5 to 1
+-- v with the sign of x; a zero x stays
+unfoldable pub turned : Float → Float → Float
+turned x v = cond (lt x zero) (neg v) x
+
+unfoldable pub signed : Float → Float → Float
+signed x v = cond (lt zero x) v (turned x v)
+
+-- ---- sine and cosine
+
+abbrev pub nearestWhole : Float → Float
+nearestWhole x = x ⊕ wholes ⊖ wholes
+
+-- 1 at an even k, -1 at an odd one
+unfoldable pub turnSign : Float → Float
+turnSign k =
+    let p = k ⊖ (k ⊕ evens ⊖ evens) in
+    one ⊖ (p ⊕ p) ⊗ p
+
+-- (sin y - y) / y ^ 3, for z = y ^ 2 and y within a quarter turn
+unfoldable pub sineSeries : Float → Float
+sineSeries z =
+    let zz = z ⊗ z in
+    let a = bits 0x3f81_1111_1111_1107 ⊖ z ⊗ bits 0x3f2a_01a0_1a01_8aad in
+    let b = bits 0x3ec7_1de3_a545_6716 ⊖ z ⊗ bits 0x3e5a_e645_5a1d_7087 in
+    let c = bits 0x3de6_1240_15b5_ee3a ⊖ z ⊗ bits 0x3d6a_e513_8c12_16b3 in
+    let q = a ⊕ zz ⊗ b ⊕ zz ⊗ zz ⊗ (c ⊕ zz ⊗ bits 0x3ce8_9a48_66f5_27eb) in
+    z ⊗ q ⊖ bits 0x3fc5_5555_5555_5555
+
+-- the sine of a less h half turns, negated at an odd k
+unfoldable pub swing : Float → Float → Float → Float
+swing a k h =
+    let y = a ⊖ h ⊗ piHigh ⊖ h ⊗ piLow in
+    let z = y ⊗ y in
+    let w = turnSign k ⊗ y in
+    clamp (w ⊕ w ⊗ z ⊗ sineSeries z)
+
+unfoldable pub sineAbove : Float → Float
+sineAbove a =
+    let k = nearestWhole (a ⊗ perHalfTurn) in
+    swing a k k
+
+-- the sine a quarter turn on
+unfoldable pub cosineAbove : Float → Float
+cosineAbove a =
+    let k = nearestWhole (a ⊗ perHalfTurn ⊕ half) in
+    swing a k (k ⊖ half)
+
+unfoldable pub sine : Float → Float
+sine x = cond (inRange x) (signed x (sineAbove (magnitude x))) zero
+
+unfoldable pub cosine : Float → Float
+cosine x = cond (inRange x) (cosineAbove (magnitude x)) zero
+
+unfoldable pub tangent : Float → Float
+tangent x = sine x ⊘ cosine x
+
+-- ---- the arcs
+
+-- (arcsine y - y) / y ^ 3, for z = y ^ 2 and y from -0.5 to 0.5
+unfoldable pub arcSeries : Float → Float
+arcSeries z =
+    let a = z ⊗ bits 0x3f9c_d864_394d_2ff2 ⊖ bits 0x3f86_0399_1d60_60e0 in
+    let b = z ⊗ (z ⊗ a ⊕ bits 0x3f90_6b9d_26d1_0838) ⊕ bits 0x3f7f_f5fc_4d14_c735 in
+    let c = z ⊗ (z ⊗ b ⊕ bits 0x3f88_522d_dffa_6208) ⊕ bits 0x3f8c_8726_5d47_ef49 in
+    let d = z ⊗ (z ⊗ c ⊕ bits 0x3f91_c593_c7b1_d958) ⊕ bits 0x3f96_e8b2_b3b1_0be4 in
+    let e = z ⊗ (z ⊗ d ⊕ bits 0x3f9f_1c71_f952_69af) ⊕ bits 0x3fa6_db6d_b684_b6a1 in
+    z ⊗ (z ⊗ e ⊕ bits 0x3fb3_3333_3333_6da5) ⊕ bits 0x3fc5_5555_5555_554f
+
+unfoldable pub arcNear : Float → Float
+arcNear x =
+    let z = x ⊗ x in
+    x ⊕ x ⊗ z ⊗ arcSeries z
+
+-- the factor of a root whose square m is below an end
+unfoldable pub lift : Float → Float → Float → Float
+lift m end by = cond (lt m end) by one
+
+-- one over the root of n, from r that is nearly that: Newton's step
+abbrev pub nearer : Float → Float → Float
+nearer n r = r ⊗ (bits 0x3ff8_0000_0000_0000 ⊖ half ⊗ n ⊗ r ⊗ r)
+
+-- one over the root of an n from 0.25 to 1: four steps from the line 2.125 - 1.21875 n
+unfoldable pub overRoot : Float → Float
+overRoot n = nearer n (nearer n (nearer n (nearer n (bits 0x4001_0000_0000_0000 ⊖ n ⊗ bits 0x3ff3_8000_0000_0000))))
+
+-- the root of m: powers of 4 bring m up to 0.25 to 1, and m times one over its root is made better once
+unfoldable pub root : Float → Float
+root m =
+    let a = lift m (bits 0x3e30_0000_0000_0000) (bits 0x40d0_0000_0000_0000) in
+    let ma = m ⊗ a ⊗ a in
+    let b = lift ma (bits 0x3f10_0000_0000_0000) (bits 0x4060_0000_0000_0000) in
+    let mb = ma ⊗ b ⊗ b in
+    let c = lift mb (bits 0x3f70_0000_0000_0000) (bits 0x4030_0000_0000_0000) in
+    let mc = mb ⊗ c ⊗ c in
+    let d = lift mc (bits 0x3fb0_0000_0000_0000) (bits 0x4010_0000_0000_0000) in
+    let md = mc ⊗ d ⊗ d in
+    let e = lift md (bits 0x3fd0_0000_0000_0000) two in
+    let r = overRoot (md ⊗ e ⊗ e) ⊗ (a ⊗ b ⊗ c ⊗ d ⊗ e) in
+    let s = m ⊗ r in
+    s ⊕ half ⊗ r ⊗ (m ⊖ s ⊗ s)
+
+-- the arccosine of an a from 0.5 to 1
 unfoldable pub arcFar : Float → Float
-arcFar a = cond (lt a one) (two ⊗ arcSmall (root28 ((one ⊖ a) ⊗ half))) zero
+arcFar a = two ⊗ arcNear (root ((one ⊖ a) ⊗ half))
+
+unfoldable pub arcsineWithin : Float → Float
+arcsineWithin x =
+    let a = magnitude x in
+    cond (le a half) (arcNear x) (signed x (quarterTurn ⊖ arcFar a))
+
+unfoldable pub arccosineWithin : Float → Float
+arccosineWithin x =
+    let a = magnitude x in
+    cond (le a half) (quarterTurn ⊖ arcNear x) (cond (lt x zero) (halfTurn ⊖ arcFar a) (arcFar a))
 
 unfoldable pub arcsine : Float → Float
-arcsine x =
-    cond (le (neg half) x)
-    (cond (le x half) (arcSmall x) (cond (le x one) (quarter ⊖ arcFar x) zero))
-    (cond (le (neg one) x) (arcFar (neg x) ⊖ quarter) zero)
+arcsine x = cond (withinOne x) (arcsineWithin x) zero
 
 unfoldable pub arccosine : Float → Float
-arccosine x =
-    cond (le (neg half) x)
-    (cond (le x half) (quarter ⊖ arcSmall x) (cond (le x one) (arcFar x) zero))
-    (cond (le (neg one) x) (halfTurn ⊖ arcFar (neg x)) zero)
+arccosine x = cond (withinOne x) (arccosineWithin x) zero

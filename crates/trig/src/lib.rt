@@ -1,222 +1,255 @@
-// Sine, cosine, the arcs and tangent on f64, as fixed sequences of f64 operations.
+// Sine, cosine, the arcs and tangent on every f64, as the fixed sequences of f64 operations of docs/TRIG.md.
 ghost use mathlib.Core.Path.{_≡_};
 ghost use Rattle.trig.specs.Trig as Trig;
 
-const MAGIC: f64 = 6755399441055744.0;
+// The smaller of two numbers; b if one of them is no number.
+fn least(a: f64, b: f64) -> f64
+    ensures { λ r. ⌜ r ≡ Trig.least a b ⌝ }
+{
+    if a < b { a } else { b }
+}
 
+// The larger of two numbers; b if one of them is no number.
+fn most(a: f64, b: f64) -> f64
+    ensures { λ r. ⌜ r ≡ Trig.most a b ⌝ }
+{
+    if b < a { a } else { b }
+}
+
+// v, cut to -1 to 1.
 fn clamp(v: f64) -> f64
     ensures { λ r. ⌜ r ≡ Trig.clamp v ⌝ }
 {
-    if v <= 1.0 {
-        if -1.0 <= v { v } else { -1.0 }
-    } else {
-        1.0
-    }
+    most(least(v, 1.0), -1.0)
 }
 
-fn wave(y: f64) -> f64
-    ensures { λ r. ⌜ r ≡ Trig.wave y ⌝ }
+// The size of x without its sign; 0.0 for both zeros.
+fn magnitude(x: f64) -> f64
+    ensures { λ r. ⌜ r ≡ Trig.magnitude x ⌝ }
 {
-    let z = y * y;
-    let z2 = z * z;
-    let a = z * 0.008333333333333194 - 0.16666666666666666;
-    let b = z * 2.755731921113087e-6 - 0.00019841269841209183;
-    let c = z * 1.6058939674881455e-10 - 2.5052106872200254e-8;
-    let d = z * 2.7211660778907827e-15 - 7.642990663440566e-13;
-    let p = a + z2 * b + z2 * z2 * (c + z2 * d);
-    y + y * z * p
+    most(most(x, -x), 0.0)
 }
 
-fn after_quarters(a: f64, n: f64) -> f64
-    ensures { λ r. ⌜ r ≡ Trig.afterQuarters a n ⌝ }
+// -v for a negative x, else x.
+fn turned(x: f64, v: f64) -> f64
+    ensures { λ r. ⌜ r ≡ Trig.turned x v ⌝ }
 {
-    wave(a - n * 1.5707963267341256 - n * 6.077100506303966e-11 - n * 2.0222662487959506e-21)
+    if x < 0.0 { -v } else { x }
 }
 
+// v with the sign of x; x itself if it is a zero.
+fn signed(x: f64, v: f64) -> f64
+    ensures { λ r. ⌜ r ≡ Trig.signed x v ⌝ }
+{
+    let w = turned(x, v);
+    if 0.0 < x { v } else { w }
+}
+
+// Whether sine and cosine serve the angle x.
+fn in_range(x: f64) -> bool
+    ensures { λ r. ⌜ r ≡ Trig.inRange x ⌝ }
+{
+    (-100000.0 <= x) & (x <= 100000.0)
+}
+
+// Whether x is from -1 to 1, so that the arcs serve it.
+fn within_one(x: f64) -> bool
+    ensures { λ r. ⌜ r ≡ Trig.withinOne x ⌝ }
+{
+    (-1.0 <= x) & (x <= 1.0)
+}
+
+// The whole number nearest to x.
+fn nearest_whole(x: f64) -> f64
+    ensures { λ r. ⌜ r ≡ Trig.nearestWhole x ⌝ }
+{
+    x + 6755399441055744.0 - 6755399441055744.0
+}
+
+// 1.0 at an even k, -1.0 at an odd one.
 fn turn_sign(k: f64) -> f64
     ensures { λ r. ⌜ r ≡ Trig.turnSign k ⌝ }
 {
-    let p = k - 2.0 * (k * 0.5 + MAGIC - MAGIC);
-    1.0 - 2.0 * (p * p)
+    let p = k - (k + 13510798882111488.0 - 13510798882111488.0);
+    1.0 - (p + p) * p
 }
 
+// (sin y - y) / y^3, for z = y^2.
+fn sine_series(z: f64) -> f64
+    ensures { λ r. ⌜ r ≡ Trig.sineSeries z ⌝ }
+{
+    let zz = z * z;
+    let a = 0.008333333333333316 - z * 0.00019841269841254974;
+    let b = 2.7557319219163234e-6 - z * 2.5052107616996182e-8;
+    let c = 1.6058977312464087e-10 - z * 7.643970296798572e-13;
+    let q = a + zz * b + zz * zz * (c + zz * 2.7314447669863995e-15);
+    z * q - 0.16666666666666666
+}
+
+// The sine of a less h half turns, with the sign of an even or odd k.
+fn swing(a: f64, k: f64, h: f64) -> f64
+    ensures { λ r. ⌜ r ≡ Trig.swing a k h ⌝ }
+{
+    let y = a - h * 3.1415926535846666 - h * 5.126688303189038e-12;
+    let z = y * y;
+    let w = turn_sign(k) * y;
+    clamp(w + w * z * sine_series(z))
+}
+
+// The sine of an angle that is not negative.
 fn sine_above(a: f64) -> f64
     ensures { λ r. ⌜ r ≡ Trig.sineAbove a ⌝ }
 {
-    let k = a * 0.3183098861837907 + MAGIC - MAGIC;
-    clamp(turn_sign(k) * after_quarters(a, k + k))
+    let k = nearest_whole(a * 0.3183098861837907);
+    swing(a, k, k)
 }
 
+// The cosine of an angle that is not negative: the sine a quarter turn on.
 fn cosine_above(a: f64) -> f64
     ensures { λ r. ⌜ r ≡ Trig.cosineAbove a ⌝ }
 {
-    let k = a * 0.3183098861837907 - 0.5 + MAGIC - MAGIC;
-    clamp(-(turn_sign(k) * after_quarters(a, k + k + 1.0)))
+    let k = nearest_whole(a * 0.3183098861837907 + 0.5);
+    swing(a, k, k - 0.5)
 }
 
-fn signed_sine(x: f64) -> f64
-    ensures { λ r. ⌜ r ≡ Trig.signedSine x ⌝ }
-{
-    if 0.0 < x {
-        sine_above(x)
-    } else {
-        if x < 0.0 { -sine_above(-x) } else { x }
-    }
-}
-
-fn even_cosine(x: f64) -> f64
-    ensures { λ r. ⌜ r ≡ Trig.evenCosine x ⌝ }
-{
-    if 0.0 < x {
-        cosine_above(x)
-    } else {
-        if x < 0.0 { cosine_above(-x) } else { 1.0 }
-    }
-}
-
+// The sine of x radians.
 pub fn sine(x: f64) -> f64
     ensures { λ r. ⌜ r ≡ Trig.sine x ⌝ }
 {
-    if -100000.0 <= x {
-        if x <= 100000.0 { signed_sine(x) } else { 0.0 }
+    if in_range(x) {
+        signed(x, sine_above(magnitude(x)))
     } else {
         0.0
     }
 }
 
+// The cosine of x radians.
 pub fn cosine(x: f64) -> f64
     ensures { λ r. ⌜ r ≡ Trig.cosine x ⌝ }
 {
-    if -100000.0 <= x {
-        if x <= 100000.0 { even_cosine(x) } else { 0.0 }
+    if in_range(x) {
+        cosine_above(magnitude(x))
     } else {
         0.0
     }
 }
 
+// The tangent of x radians: sine over cosine.
 pub fn tangent(x: f64) -> f64
     ensures { λ r. ⌜ r ≡ Trig.tangent x ⌝ }
 {
     sine(x) / cosine(x)
 }
 
-fn ratio(z: f64) -> f64
-    ensures { λ r. ⌜ r ≡ Trig.ratio z ⌝ }
+// (arcsine y - y) / y^3, for z = y^2.
+fn arc_series(z: f64) -> f64
+    ensures { λ r. ⌜ r ≡ Trig.arcSeries z ⌝ }
 {
-    let p4 = z * 3.47933107596021167570e-05 + 7.91534994289814532176e-04;
-    let p3 = z * p4 - 4.00555345006794114027e-02;
-    let p2 = z * p3 + 2.01212532134862925881e-01;
-    let p1 = z * p2 - 3.25565818622400915405e-01;
-    let p0 = z * p1 + 1.66666666666666657415e-01;
-    let q3 = z * 7.70381505559019352791e-02 - 6.88283971605453293030e-01;
-    let q2 = z * q3 + 2.02094576023350569471;
-    let q1 = z * q2 - 2.40339491173441421878;
-    z * p0 / (z * q1 + 1.0)
+    let a = z * 0.028169218060881414 - 0.010749050339697808;
+    let b = z * (z * a + 0.01603551434914882) + 0.0078029494773533175;
+    let c = z * (z * b + 0.011875494382636922) + 0.013929652902326633;
+    let d = z * (z * c + 0.017355259955786323) + 0.02237204763174451;
+    let e = z * (z * d + 0.03038194736709848) + 0.044642857103423646;
+    z * (z * e + 0.07500000000020764) + 0.1666666666666665
 }
 
-fn arc_small(x: f64) -> f64
-    ensures { λ r. ⌜ r ≡ Trig.arcSmall x ⌝ }
+// The arcsine of an x from -0.5 to 0.5.
+fn arc_near(x: f64) -> f64
+    ensures { λ r. ⌜ r ≡ Trig.arcNear x ⌝ }
 {
-    x + x * ratio(x * x)
+    let z = x * x;
+    x + x * z * arc_series(z)
 }
 
-fn root_near(m: f64) -> f64
-    ensures { λ r. ⌜ r ≡ Trig.rootNear m ⌝ }
+// The factor for the root of an m that is below an end.
+fn lift(m: f64, end: f64, by: f64) -> f64
+    ensures { λ r. ⌜ r ≡ Trig.lift m end by ⌝ }
 {
-    let g0 = m * 0.8 + 0.25;
-    let g1 = 0.5 * (g0 + m / g0);
-    let g2 = 0.5 * (g1 + m / g1);
-    let g3 = 0.5 * (g2 + m / g2);
-    let g4 = 0.5 * (g3 + m / g3);
-    0.5 * (g4 + m / g4)
+    if m < end { by } else { 1.0 }
 }
 
-fn root4(m: f64) -> f64
-    ensures { λ r. ⌜ r ≡ Trig.root4 m ⌝ }
+// One over the root of an n from 0.25 to 1, nearly.
+fn over_root(n: f64) -> f64
+    ensures { λ r. ⌜ r ≡ Trig.overRoot n ⌝ }
 {
-    if m < 0.0625 {
-        0.25 * root_near(m * 16.0)
-    } else {
-        root_near(m)
-    }
+    let s = 2.125 - n * 1.21875;
+    let t = s * (1.5 - 0.5 * n * s * s);
+    let u = t * (1.5 - 0.5 * n * t * t);
+    let v = u * (1.5 - 0.5 * n * u * u);
+    v * (1.5 - 0.5 * n * v * v)
 }
 
-fn root8(m: f64) -> f64
-    ensures { λ r. ⌜ r ≡ Trig.root8 m ⌝ }
+// The root of an m from 0.0 to 0.25. Powers of two bring m up to n, from 0.25 to 1, where its root is near; 0.0 gives 0.0.
+fn root(m: f64) -> f64
+    ensures { λ r. ⌜ r ≡ Trig.root m ⌝ }
 {
-    if m < 0.0078125 {
-        0.0625 * root4(m * 256.0)
-    } else {
-        root4(m)
-    }
+    let a = lift(m, 3.725290298461914e-9, 16384.0);
+    let ma = m * a * a;
+    let b = lift(ma, 0.00006103515625, 128.0);
+    let mb = ma * b * b;
+    let c = lift(mb, 0.00390625, 16.0);
+    let mc = mb * c * c;
+    let d = lift(mc, 0.0625, 4.0);
+    let md = mc * d * d;
+    let e = lift(md, 0.25, 2.0);
+    let r = over_root(md * e * e) * (a * b * c * d * e);
+    let s = m * r;
+    s + 0.5 * r * (m - s * s)
 }
 
-fn root14(m: f64) -> f64
-    ensures { λ r. ⌜ r ≡ Trig.root14 m ⌝ }
-{
-    if m < 0.00006103515625 {
-        0.0078125 * root8(m * 16384.0)
-    } else {
-        root8(m)
-    }
-}
-
-fn root28(m: f64) -> f64
-    ensures { λ r. ⌜ r ≡ Trig.root28 m ⌝ }
-{
-    if m < 3.725290298461914e-9 {
-        0.00006103515625 * root14(m * 268435456.0)
-    } else {
-        root14(m)
-    }
-}
-
+// The arccosine of an a from 0.5 to 1.
 fn arc_far(a: f64) -> f64
     ensures { λ r. ⌜ r ≡ Trig.arcFar a ⌝ }
 {
-    if a < 1.0 {
-        2.0 * arc_small(root28((1.0 - a) * 0.5))
+    2.0 * arc_near(root((1.0 - a) * 0.5))
+}
+
+// The arcsine of an x from -1 to 1.
+fn arcsine_within(x: f64) -> f64
+    ensures { λ r. ⌜ r ≡ Trig.arcsineWithin x ⌝ }
+{
+    let a = magnitude(x);
+    if a <= 0.5 {
+        arc_near(x)
+    } else {
+        signed(x, 1.5707963267948966 - arc_far(a))
+    }
+}
+
+// The arccosine of an x from -1 to 1.
+fn arccosine_within(x: f64) -> f64
+    ensures { λ r. ⌜ r ≡ Trig.arccosineWithin x ⌝ }
+{
+    let a = magnitude(x);
+    if a <= 0.5 {
+        1.5707963267948966 - arc_near(x)
+    } else {
+        if x < 0.0 {
+            3.141592653589793 - arc_far(a)
+        } else {
+            arc_far(a)
+        }
+    }
+}
+
+// The angle from -pi/2 to pi/2 whose sine is x.
+pub fn arcsine(x: f64) -> f64
+    ensures { λ r. ⌜ r ≡ Trig.arcsine x ⌝ }
+{
+    if within_one(x) {
+        arcsine_within(x)
     } else {
         0.0
     }
 }
 
-pub fn arcsine(x: f64) -> f64
-    ensures { λ r. ⌜ r ≡ Trig.arcsine x ⌝ }
-{
-    if -0.5 <= x {
-        if x <= 0.5 {
-            arc_small(x)
-        } else {
-            if x <= 1.0 {
-                1.5707963267948966 - arc_far(x)
-            } else {
-                0.0
-            }
-        }
-    } else {
-        if -1.0 <= x {
-            arc_far(-x) - 1.5707963267948966
-        } else {
-            0.0
-        }
-    }
-}
-
+// The angle from 0 to pi whose cosine is x.
 pub fn arccosine(x: f64) -> f64
     ensures { λ r. ⌜ r ≡ Trig.arccosine x ⌝ }
 {
-    if -0.5 <= x {
-        if x <= 0.5 {
-            1.5707963267948966 - arc_small(x)
-        } else {
-            if x <= 1.0 { arc_far(x) } else { 0.0 }
-        }
+    if within_one(x) {
+        arccosine_within(x)
     } else {
-        if -1.0 <= x {
-            3.141592653589793 - arc_far(-x)
-        } else {
-            0.0
-        }
+        0.0
     }
 }

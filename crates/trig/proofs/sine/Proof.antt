@@ -4,20 +4,33 @@ use Rattle.trig.specs.Trig.{sine}
 use Rattle.trig.proofs.sine.Statement.{statement}
 use Rattle.trig.proofs.sine.Tie as tie
 
-signed-sine-requires : tie.Need-signed-sine-requires
-signed-sine-requires c κs = search needs
+in-range-requires : tie.Need-in-range-requires
+in-range-requires c κs = search needs
+
+magnitude-requires : tie.Need-magnitude-requires
+magnitude-requires c κs = search needs
+
+sine-above-requires : tie.Need-sine-above-requires
+sine-above-requires c κs = search needs
+
+signed-requires : tie.Need-signed-requires
+signed-requires c κs = search needs
 
 returns : tie.Need-returns
 unfolding sine
-returns c = rw (c .before .before .if1 .taken, c .before .if2 .taken) (c .signed-sine .ensures)
+returns c = rw (← c .before .before .before .before .in-range .ensures, c .before .before .before .if1 .taken) (cc)
 
 returns-2 : tie.Need-returns-2
 unfolding sine
-returns-2 c = rw (c .before .if1 .taken, c .if2 .left)
-
-returns-3 : tie.Need-returns-3
-unfolding sine
-returns-3 c = rw (c .if1 .left)
+returns-2 c = rw (← c .before .in-range .ensures, c .if1 .left)
 
 pub sine-spec : {M : Type 1} → statement M
-sine-spec = tie.close (tie.spec signed-sine-requires returns returns-2 returns-3)
+sine-spec =
+    tie.close
+    (tie.spec
+    in-range-requires
+    magnitude-requires
+    sine-above-requires
+    signed-requires
+    returns
+    returns-2)

@@ -1,0 +1,9 @@
+pub mod Whole
+pub mod Minutes
+pub mod Days
+pub mod Unique
+pub mod Examples
+pub mod Small
+pub mod Noon
+pub mod Angles
+pub mod Shown

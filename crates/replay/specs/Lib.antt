@@ -1,0 +1,3 @@
+-- What the contracts of `replay` are written in.
+pub mod Line
+pub mod Handed

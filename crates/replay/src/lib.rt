@@ -1,0 +1,17 @@
+// What the replay programs and `ask` have in common: standard input a line at a time, a line's words, and lines of words written to standard output.
+mod floats;
+mod input;
+mod output;
+pub mod tags;
+mod words;
+
+pub use floats::float_of;
+pub use input::Input;
+pub use input::Next;
+pub use input::next_line;
+pub use input::open;
+pub use output::Out;
+pub use output::empty;
+pub use words::Whole;
+pub use words::Words;
+pub use words::split;

@@ -1,0 +1,9 @@
+pub mod Marks
+pub mod Runs
+pub mod Decimals
+pub mod Signs
+pub mod Texts
+pub mod Writes
+pub mod Turns
+pub mod Lines
+pub mod Said

@@ -1,0 +1,5 @@
+-- What the contracts of `text` are written in.
+pub mod Digits
+pub mod Reading
+pub mod Written
+pub mod Kept

@@ -1,0 +1,218 @@
+//! festivals.rs over a lent rule list; every lunar year is resolved afresh.
+use crate::Answer;
+use crate::conversion::{BsDate, Table, ad_to_bs, bs_month_len, bs_to_ad, validate_bs_date};
+use crate::gregorian::Date;
+use crate::panchanga::{self, KALAS, Kala, Ut};
+
+/// One record of a rule list.
+#[derive(Debug, Clone, Copy)]
+pub struct Rule {
+    pub kind: u16,
+    pub year: u16,
+    pub month: u16,
+    pub day: u16,
+    pub half: u16,
+    pub kala: u16,
+    pub name: u16,
+    pub holiday: u16,
+}
+
+/// One entry of a day's list.
+#[derive(Debug, Clone, Copy, PartialEq, Eq)]
+pub struct Entry {
+    pub name: u16,
+    pub holiday: u16,
+}
+
+/// The whole records of a flat list.
+pub fn records(rules: &[u16]) -> impl Iterator<Item = Rule> + '_ {
+    rules.chunks_exact(8).map(|r| Rule {
+        kind: r[0],
+        year: r[1],
+        month: r[2],
+        day: r[3],
+        half: r[4],
+        kala: r[5],
+        name: r[6],
+        holiday: r[7],
+    })
+}
+
+fn of_kind(rules: &[u16], kind: u16) -> impl Iterator<Item = Rule> + '_ {
+    records(rules).filter(move |rule| rule.kind == kind)
+}
+
+impl Rule {
+    fn is_good(&self) -> bool {
+        let (most_day, most_half, most_kala) = match self.kind {
+            1 | 4 => (32, 0, 0),
+            2 => (31, 0, 0),
+            3 => (15, 1, 5),
+            _ => return false,
+        };
+        (self.kind == 4 || self.year == 0)
+            && (1..=12).contains(&self.month)
+            && (1..=most_day).contains(&self.day)
+            && self.half <= most_half
+            && self.kala <= most_kala
+            && self.holiday <= 1
+    }
+
+    fn entry(&self) -> Entry {
+        Entry { name: self.name, holiday: self.holiday }
+    }
+
+    /// The tithi of a computed rule, 1 to 30.
+    fn tithi(&self) -> u16 {
+        self.day + 15 * self.half
+    }
+}
+
+/// 2.
+pub fn check_rules(rules: &[u16]) -> Answer<()> {
+    let few = |kind: u16, most: usize| of_kind(rules, kind).count() <= most;
+    let good = rules.len() % 8 == 0
+        && records(rules).all(|rule| rule.is_good())
+        && few(1, 64)
+        && few(2, 64)
+        && few(3, 64)
+        && few(4, 128);
+    if good { Ok(()) } else { Err(2) }
+}
+
+/// The new moons that open a year's lunar months: the last one in each solar month.
+pub fn lunar_month_starts(table: &Table, year: u16) -> [Option<Ut>; 12] {
+    let mut places = [None; 12];
+    let Ok(length) = bs_month_len(table, year, 12) else {
+        return places;
+    };
+    let midnight = |month, day| bs_to_ad(table, BsDate { year, month, day })?.midnight();
+    let (Ok(first), Ok(last)) = (midnight(1, 1), midnight(12, length)) else {
+        return places;
+    };
+    let (moons, _) = panchanga::tithi_starts(1, Ut(first - 35.0), Ut(last + 5.0))
+        .expect("a table year can be searched");
+    for moon in moons {
+        let Ok(bs) = panchanga::npt_date(moon).and_then(|ad| ad_to_bs(table, ad)) else {
+            continue;
+        };
+        if bs.year == year {
+            places[bs.month as usize - 1] = Some(moon);
+        }
+    }
+    places
+}
+
+/// Whether a tithi from `start` to `end` claims a day.
+fn claims(day: Date, kala: Kala, start: Ut, end: Ut) -> bool {
+    if kala == Kala::Nishita {
+        let window = panchanga::nishita_window(day).ok().flatten();
+        window.is_some_and(|(from, to)| start <= from && to <= end)
+    } else {
+        let instant = panchanga::kala_instant(day, kala).ok().flatten();
+        instant.is_some_and(|instant| start <= instant && instant < end)
+    }
+}
+
+/// The day that a tithi which begins at `start` is kept on.
+fn festival_date(start: Ut, tithi: u16, kala: Kala) -> Option<Date> {
+    let begin = panchanga::npt_date(start).ok()?;
+    if kala == Kala::Begins {
+        return Some(begin);
+    }
+    let next = panchanga::next_tithi(tithi);
+    let end = panchanga::first_start(next, Ut(start.0 + 0.1), Ut(start.0 + 2.5)).ok()??;
+    for offset in -1..=2 {
+        let day = Date::from_day_number(begin.day_number().ok()? + offset).ok()?;
+        if claims(day, kala, start, end) {
+            return Some(day);
+        }
+    }
+    if kala != Kala::Udaya {
+        return festival_date(start, tithi, Kala::Udaya);
+    }
+    Some(begin)
+}
+
+/// A year's computed entries, in the order of the list.
+pub fn computed_for_year(table: &Table, rules: &[u16], year: u16) -> Vec<(BsDate, Entry)> {
+    let moons = lunar_month_starts(table, year);
+    let mut found = Vec::new();
+    for rule in of_kind(rules, 3) {
+        let Some(moon) = moons[rule.month as usize - 1] else {
+            continue;
+        };
+        let tithi = rule.tithi();
+        let start = if tithi == 1 {
+            Some(moon)
+        } else {
+            panchanga::first_start(tithi, Ut(moon.0 + 0.5), Ut(moon.0 + 30.0))
+                .expect("a lunar month can be searched")
+        };
+        let kala = KALAS[rule.kala as usize];
+        let Some(ad) = start.and_then(|start| festival_date(start, tithi, kala)) else {
+            continue;
+        };
+        let Ok(bs) = ad_to_bs(table, ad) else {
+            continue;
+        };
+        found.push((bs, rule.entry()));
+    }
+    found
+}
+
+/// A good day's list; `computed` gives a year's computed entries.
+pub fn festivals_on(
+    rules: &[u16],
+    bs: BsDate,
+    ad: Date,
+    computed: &mut dyn FnMut(u16) -> Vec<(BsDate, Entry)>,
+) -> Vec<Entry> {
+    let mut found: Vec<Entry> = Vec::new();
+    let on_bs = |rule: &Rule| (rule.month, rule.day) == (bs.month, bs.day);
+    let on_ad = |rule: &Rule| (rule.month, rule.day) == (ad.month, ad.day);
+    let of_year = |rule: &Rule| rule.year == bs.year;
+    let silenced = |name| of_kind(rules, 4).any(|rule| of_year(&rule) && rule.name == name);
+
+    found.extend(of_kind(rules, 1).filter(on_bs).map(|rule| rule.entry()));
+    found.extend(of_kind(rules, 2).filter(on_ad).map(|rule| rule.entry()));
+    let years = if bs.month <= 2 { vec![bs.year - 1, bs.year] } else { vec![bs.year] };
+    for year in years {
+        let of_day = computed(year).into_iter().filter(|(when, _)| *when == bs);
+        found.extend(of_day.map(|(_, entry)| entry).filter(|entry| !silenced(entry.name)));
+    }
+    let overrides = of_kind(rules, 4).filter(of_year).filter(on_bs);
+    found.extend(overrides.map(|rule| rule.entry()));
+
+    found.dedup_by(|a, b| a.name == b.name);
+    found
+}
+
+fn written(found: &[Entry], out: &mut [u16]) -> Answer<usize> {
+    if out.len() < 2 * found.len() {
+        return Err(9);
+    }
+    for (place, entry) in out.chunks_exact_mut(2).zip(found) {
+        place.copy_from_slice(&[entry.name, entry.holiday]);
+    }
+    Ok(found.len())
+}
+
+fn list(table: &Table, rules: &[u16], bs: BsDate, ad: Date) -> Vec<Entry> {
+    festivals_on(rules, bs, ad, &mut |year| computed_for_year(table, rules, year))
+}
+
+/// A day's list by its BS date. 1, 2, 4, 5, 6, 9.
+pub fn day_list_bs(table: &Table, rules: &[u16], bs: BsDate, out: &mut [u16]) -> Answer<usize> {
+    table.check()?;
+    check_rules(rules)?;
+    validate_bs_date(table, bs)?;
+    written(&list(table, rules, bs, bs_to_ad(table, bs)?), out)
+}
+
+/// A day's list by its Gregorian date. 1, 2, 3, 7, 9.
+pub fn day_list_ad(table: &Table, rules: &[u16], ad: Date, out: &mut [u16]) -> Answer<usize> {
+    table.check()?;
+    check_rules(rules)?;
+    written(&list(table, rules, ad_to_bs(table, ad)?, ad), out)
+}

@@ -1,0 +1,94 @@
+//! grid.rs: a month as flat cells, and steps from month to month.
+use crate::Answer;
+use crate::conversion::{BsDate, Table, bs_month_len, bs_to_ad};
+use crate::festivals::{Entry, check_rules, computed_for_year, festivals_on};
+use crate::gregorian::Date;
+use crate::panchanga;
+
+const CELL: usize = 12;
+const SATURDAY: u16 = 6;
+
+/// What the grid call answers beside its two buffers.
+#[derive(Debug, Clone, Copy, PartialEq, Eq)]
+pub struct Month {
+    pub days: u16,
+    pub first: Date,
+    pub last: Date,
+    pub cells: usize,
+    pub festivals: usize,
+}
+
+fn cell(day: u16, ad: Date, today: Date, festivals: &[Entry]) -> Answer<[u16; CELL]> {
+    let weekday = ad.weekday()?;
+    let holiday = weekday == SATURDAY || festivals.iter().any(|entry| entry.holiday == 1);
+    let reading = panchanga::reading(ad)?;
+    Ok([
+        day,
+        ad.year,
+        ad.month,
+        ad.day,
+        weekday,
+        (ad == today) as u16,
+        holiday as u16,
+        reading.tithi,
+        reading.end,
+        reading.sunrise,
+        reading.sunset,
+        festivals.len() as u16,
+    ])
+}
+
+/// 1, 2, 3 for today, 4, 5, 9 for either buffer.
+pub fn month_grid(
+    table: &Table,
+    rules: &[u16],
+    today: Date,
+    year: u16,
+    month: u16,
+    cell_buffer: &mut [u16],
+    festival_buffer: &mut [u16],
+) -> Answer<Month> {
+    table.check()?;
+    check_rules(rules)?;
+    today.check()?;
+    let days = bs_month_len(table, year, month)?;
+    let ad_of = |day| bs_to_ad(table, BsDate { year, month, day });
+    let (first, last) = (ad_of(1)?, ad_of(days)?);
+
+    // Each lunar year is resolved once in a call: the answer is as if each day resolved it afresh.
+    let mut resolved: Vec<(u16, Vec<(BsDate, Entry)>)> = Vec::new();
+    let mut computed = |year: u16| match resolved.iter().find(|(known, _)| *known == year) {
+        Some((_, entries)) => entries.clone(),
+        None => {
+            resolved.push((year, computed_for_year(table, rules, year)));
+            resolved[resolved.len() - 1].1.clone()
+        }
+    };
+    let mut cells = vec![0; CELL * first.weekday()? as usize];
+    let mut festivals = Vec::new();
+    for day in 1..=days {
+        let ad = ad_of(day)?;
+        let list = festivals_on(rules, BsDate { year, month, day }, ad, &mut computed);
+        cells.extend(cell(day, ad, today, &list)?);
+        festivals.extend(list.iter().flat_map(|entry| [entry.name, entry.holiday]));
+    }
+    cells.resize(cells.len().next_multiple_of(7 * CELL), 0);
+
+    if cell_buffer.len() < cells.len() || festival_buffer.len() < festivals.len() {
+        return Err(9);
+    }
+    cell_buffer[..cells.len()].copy_from_slice(&cells);
+    festival_buffer[..festivals.len()].copy_from_slice(&festivals);
+    Ok(Month { days, first, last, cells: cells.len() / CELL, festivals: festivals.len() / 2 })
+}
+
+/// 1, 10.
+pub fn step_month(table: &Table, year: u16, month: u8, delta: i32) -> Answer<(u16, u16)> {
+    table.check()?;
+    let absolute = year as i64 * 12 + (month as i64 - 1) + delta as i64;
+    let new_year = absolute.div_euclid(12);
+    if new_year < table.first_year as i64 || new_year > table.last_year() as i64 {
+        return Err(10);
+    }
+    Ok((new_year as u16, absolute.rem_euclid(12) as u16 + 1))
+}

@@ -1,0 +1,130 @@
+//! Oracle P's answers in the line language.
+use crate::lines::{Lent, Query, float_word};
+use parameterised::conversion::{self, BsDate};
+use parameterised::gregorian::Date;
+use parameterised::panchanga::{self, KALAS, Tt, Ut};
+use parameterised::{Answer, festivals, grid, trig};
+
+/// What every element of a buffer is before the call.
+pub const FILL: u16 = 7;
+
+/// The refusal number alone, or `0` and the values.
+pub fn told(answer: Answer<String>) -> String {
+    match answer {
+        Ok(values) if values.is_empty() => "0".into(),
+        Ok(values) => format!("0 {values}"),
+        Err(refusal) => refusal.to_string(),
+    }
+}
+
+pub fn date_words(date: Date) -> String {
+    format!("{} {} {}", date.year, date.month, date.day)
+}
+
+pub fn bs_words(bs: BsDate) -> String {
+    format!("{} {} {}", bs.year, bs.month, bs.day)
+}
+
+/// An answer, then every element of a buffer.
+pub fn with_buffer(answer: String, words: impl Iterator<Item = String>) -> String {
+    words.fold(answer + " |", |line, word| line + " " + &word)
+}
+
+fn instant_word(instant: Option<Ut>) -> String {
+    instant.map_or("none".into(), |at| float_word(at.0))
+}
+
+fn pair_words(pair: Option<(Ut, Ut)>) -> String {
+    pair.map_or("none".into(), |(a, b)| format!("{} {}", float_word(a.0), float_word(b.0)))
+}
+
+fn day_words(date: Date) -> Answer<String> {
+    let next = date.next().map_or("none".into(), date_words);
+    Ok(format!("{} {} {next}", date.day_number()?, date.weekday()?))
+}
+
+fn reading_words(date: Date) -> Answer<String> {
+    let r = panchanga::reading(date)?;
+    Ok(format!("{} {} {} {}", r.tithi, r.end, r.sunrise, r.sunset))
+}
+
+fn starts_line(tithi: u16, from: f64, to: f64, length: u16) -> String {
+    let mut buffer = vec![FILL as f64; length as usize];
+    let answer = panchanga::tithi_starts_between(tithi, Ut(from), Ut(to), &mut buffer);
+    let answer = told(answer.map(|(count, steps)| format!("{count} {steps}")));
+    with_buffer(answer, buffer.into_iter().map(float_word))
+}
+
+fn list_line(length: u16, list: impl FnOnce(&mut [u16]) -> Answer<usize>) -> String {
+    let mut buffer = vec![FILL; length as usize];
+    let answer = told(list(&mut buffer).map(|count| count.to_string()));
+    with_buffer(answer, buffer.into_iter().map(|word| word.to_string()))
+}
+
+fn grid_line(lent: &Lent, today: Date, (year, month): (u16, u16), lengths: [u16; 2]) -> String {
+    let [mut cells, mut names] = lengths.map(|length| vec![FILL; length as usize]);
+    let answer =
+        grid::month_grid(&lent.table, &lent.rules, today, year, month, &mut cells, &mut names);
+    let answer = told(answer.map(|m| {
+        let (first, last) = (date_words(m.first), date_words(m.last));
+        format!("{} {first} {last} {} {}", m.days, m.cells, m.festivals)
+    }));
+    let answer = with_buffer(answer, cells.into_iter().map(|word| word.to_string()));
+    with_buffer(answer, names.into_iter().map(|word| word.to_string()))
+}
+
+pub fn answer(lent: &Lent, query: Query) -> String {
+    let (table, rules) = (&lent.table, &lent.rules);
+    told(match query {
+        Query::Check => table.check().map(|()| String::new()),
+        Query::CheckRules => festivals::check_rules(rules).map(|()| String::new()),
+        Query::Bs(bs) => conversion::bs_to_ad(table, bs).map(date_words),
+        Query::Ad(ad) => conversion::ad_to_bs(table, ad).map(bs_words),
+        Query::Len(year, month) => {
+            conversion::bs_month_len(table, year, month).map(|days| days.to_string())
+        }
+        Query::Valid(bs) => conversion::validate_bs_date(table, bs).map(|()| String::new()),
+        Query::Step(year, month, delta) => {
+            grid::step_month(table, year, month, delta).map(|(y, m)| format!("{y} {m}"))
+        }
+        Query::Day(date) => day_words(date),
+        Query::DateOf(number) => Date::from_day_number(number as i64).map(date_words),
+        Query::JulianDay(date, fraction) => {
+            panchanga::julian_day(date, fraction).map(|at| float_word(at.0))
+        }
+        Query::DeltaT(year) => Ok(float_word(panchanga::delta_t(year))),
+        Query::Tt(ut) => panchanga::tt_from_ut(Ut(ut)).map(|tt| float_word(tt.0)),
+        Query::Sun(tt) => panchanga::sun_longitude(Tt(tt)).map(float_word),
+        Query::Moon(tt) => panchanga::moon_longitude(Tt(tt)).map(float_word),
+        Query::Elongation(ut) => panchanga::elongation(Ut(ut)).map(float_word),
+        Query::Tithi(ut) => panchanga::tithi_at(Ut(ut)).map(|tithi| tithi.to_string()),
+        Query::TithiOf(elongation) => Ok(panchanga::tithi_of(elongation).to_string()),
+        Query::End(ut) => panchanga::tithi_end(Ut(ut)).map(instant_word),
+        Query::Events(date) => panchanga::sun_events(date).map(pair_words),
+        Query::Rise(date) => panchanga::sunrise(date).map(instant_word),
+        Query::Set(date) => panchanga::sunset(date).map(instant_word),
+        Query::Kala(date, kala) => {
+            panchanga::kala_instant(date, KALAS[kala as usize]).map(instant_word)
+        }
+        Query::Nishita(date) => panchanga::nishita_window(date).map(pair_words),
+        Query::NptDate(ut) => panchanga::npt_date(Ut(ut)).map(date_words),
+        Query::Clock(ut) => panchanga::npt_clock(Ut(ut)).map(|minute| minute.to_string()),
+        Query::Minutes(fraction) => Ok(panchanga::minutes_of(fraction).to_string()),
+        Query::Read(date) => reading_words(date),
+        Query::Sin(x) => Ok(float_word(trig::sin(x))),
+        Query::Cos(x) => Ok(float_word(trig::cos(x))),
+        Query::Asin(x) => Ok(float_word(trig::asin(x))),
+        Query::Acos(x) => Ok(float_word(trig::acos(x))),
+        Query::Tan(x) => Ok(float_word(trig::tan(x))),
+        Query::Starts(tithi, from, to, length) => return starts_line(tithi, from, to, length),
+        Query::ListBs(bs, length) => {
+            return list_line(length, |out| festivals::day_list_bs(table, rules, bs, out));
+        }
+        Query::ListAd(ad, length) => {
+            return list_line(length, |out| festivals::day_list_ad(table, rules, ad, out));
+        }
+        Query::Grid { today, year, month, cells, festivals } => {
+            return grid_line(lent, today, (year, month), [cells, festivals]);
+        }
+    })
+}

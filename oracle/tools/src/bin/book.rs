@@ -1,0 +1,120 @@
+//! Asks oracle P document 01's checked examples and Meeus's 7.a, 25.a and 47.a; the answers stand
+//! here as the paper and the book print them.
+//!
+//!   book [recipe|host]
+use parameterised::convert;
+use parameterised::gregorian::date;
+use parameterised::panchanga::{self, Tt};
+use parameterised::trig::{self, Mode};
+use std::process::ExitCode;
+use tools::answers;
+use tools::lines::{self, Lent, bits_word};
+
+/// Lines over document 01's own table, and what the paper says; the control lines answer nothing.
+const PAPER: [(&str, &str); 30] = [
+    ("table 100 1950 1 1", ""),
+    ("cells 31 31 32 31 31 31 30 29 30 29 30 30 365", ""),
+    ("cells 31 31 32 32 31 30 30 29 30 29 30 31 366", ""),
+    ("check", "0"),
+    ("bs 100 1 1", "0 1950 1 1"),
+    ("bs 100 2 29", "0 1950 3 1"),
+    ("bs 100 4 1", "0 1950 4 5"),
+    ("bs 100 12 30", "0 1950 12 31"),
+    ("bs 101 1 1", "0 1951 1 1"),
+    ("bs 101 12 31", "0 1952 1 1"),
+    ("bs 100 12 31", "6"),
+    ("bs 100 13 40", "5"),
+    ("bs 102 13 1", "4"),
+    ("ad 1952 1 2", "7"),
+    ("ad 1949 12 31", "7"),
+    ("ad 1950 3 1", "0 100 2 29"),
+    ("step 100 12 1", "0 101 1"),
+    ("step 100 1 -1", "10"),
+    ("day 1950 1 1", "0 2433283 0 1950 1 2"),
+    ("day 1900 2 29", "3"),
+    ("day 2150 1 1", "3"),
+    ("day 2149 12 31", "0 2506331 3 none"),
+    ("tithiof 0x0000000000000000", "0 1"),
+    ("tithiof 0x4027ffffffffffff", "0 1"),
+    ("tithiof 0x4028000000000000", "0 2"),
+    ("tithiof 0x4075c00000000000", "0 30"),
+    ("tithiof 0x4076800000000000", "0 30"),
+    ("table 100 1950 1 1", ""),
+    ("cells 31 31 32 31 31 31 30 29 30 29 30 30 364", ""),
+    ("bs 100 1 1", "1"),
+];
+
+/// Questions on floats, which the paper writes as decimals.
+fn on_floats() -> Vec<(String, String)> {
+    vec![
+        (format!("jd 2000 2 29 {}", bits_word(0.0)), format!("0 {}", bits_word(2451603.5))),
+        (format!("clock {}", bits_word(2451544.5)), "0 345".into()),
+        (format!("minutes {}", bits_word(0.9998)), "0 0".into()),
+    ]
+}
+
+/// Counts the answers that are not the expected ones.
+fn differing(pairs: impl Iterator<Item = (String, String)>) -> usize {
+    let mut lent = Lent::default();
+    let mut differ = 0;
+    for (line, expected) in pairs {
+        let parsed = lines::parse(line.as_bytes()).expect("a line in form");
+        let answer = lent.take(parsed).map(|query| answers::answer(&lent, query));
+        if answer.clone().unwrap_or_default() != expected {
+            println!("{line}: {answer:?}, not {expected}");
+            differ += 1;
+        }
+    }
+    differ
+}
+
+/// Month 100/2: three blanks before, one after, 35 cells.
+fn month_differs() -> bool {
+    let (mut cells, mut names) = ([9; 36 * 12], [9; 2]);
+    let month = parameterised::grid::month_grid(
+        &convert::own_table(),
+        &[],
+        date(1950, 2, 14),
+        100,
+        2,
+        &mut cells,
+        &mut names,
+    );
+    let days: Vec<u16> = cells.chunks(12).map(|cell| cell[0]).collect();
+    let blank = |cell: usize| cells[12 * cell..12 * cell + 12] == [0; 12];
+    !(month.is_ok_and(|month| month.cells == 35 && month.days == 31)
+        && (0..3).all(blank)
+        && days[3..34] == (1..=31).collect::<Vec<u16>>()
+        && blank(34)
+        && days[35] == 9)
+}
+
+fn convert_differs() -> bool {
+    let printed = "bs=100-12-30\nad=1950-12-31\nrefusal=0\nbs=none\nad=1952-01-02\nrefusal=7\n";
+    convert::run(b"bs=100-12-30\nad=1952-01-02\n") != printed
+}
+
+/// Meeus prints decimals: the last digit may be one off.
+fn meeus_differs(name: &str, answer: f64, book: f64, last_digit: f64) -> bool {
+    println!("Meeus {name}: {answer}, the book {book}");
+    (answer - book).abs() > last_digit
+}
+
+fn main() -> ExitCode {
+    let host = std::env::args().nth(1).as_deref() == Some("host") || !trig::has_recipe();
+    trig::set_mode(if host { Mode::Host } else { Mode::Recipe });
+    let paper = PAPER.iter().map(|(line, answer)| (line.to_string(), answer.to_string()));
+    let julian_day = panchanga::julian_day(date(1957, 10, 4), 0.81).expect("an instant").0;
+    let sun = panchanga::sun_longitude(Tt(2448908.5)).expect("a longitude");
+    let moon = panchanga::moon_longitude(Tt(2448724.5)).expect("a longitude");
+    let checks = [
+        month_differs(),
+        convert_differs(),
+        meeus_differs("7.a, 1957 October 4.81", julian_day, 2436116.31, 1e-9),
+        meeus_differs("25.a, the sun's true longitude", sun, 199.90987, 2e-5),
+        meeus_differs("47.a, the moon's geometric longitude", moon, 133.162655, 2e-6),
+    ];
+    let differ = differing(paper.chain(on_floats())) + checks.iter().filter(|bad| **bad).count();
+    println!("{differ} of the paper's and the book's examples differ");
+    if differ == 0 { ExitCode::SUCCESS } else { ExitCode::FAILURE }
+}

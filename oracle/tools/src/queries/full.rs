@@ -1,0 +1,163 @@
+//! The sets at full scale: what an issue asks to be run beside the oracles.
+use super::festivals::{self, Almanac};
+use super::{Maker, conversion, grid, panchanga};
+use crate::lines::bits_word;
+use crate::random::neighbour;
+use crate::tables::{Months, Place, nepal_rules, owner_table, random_table, stress_rules};
+use ::parameterised::gregorian::{Date, FIRST, LAST};
+use ::parameterised::panchanga::NPT_OFFSET;
+
+/// All dates: day number, weekday, next, Julian days, sun events, a kala, nishita and reading.
+pub fn dates(maker: &mut Maker) {
+    for number in FIRST..=LAST {
+        let date = Date::from_day_number(number).expect("a day number in range");
+        let Date { year, month, day } = date;
+        maker.on("day", date);
+        maker.line(format_args!("date {number}"));
+        for fraction in [0.0, 0.25 - NPT_OFFSET, maker.random.between(-2.0, 2.0)] {
+            maker.line(format_args!("jd {year} {month} {day} {}", bits_word(fraction)));
+        }
+        maker.on("events", date);
+        maker.line(format_args!("kala {year} {month} {day} {}", number % 6));
+        maker.on("nishita", date);
+        maker.on("read", date);
+    }
+}
+
+/// All questions on an instant but a search.
+fn of_instant(maker: &mut Maker, instant: f64) {
+    let year = 2000.0 + (instant - 2451545.0) / 365.25;
+    maker.at("deltat", year);
+    for tag in ["tt", "sun", "moon", "elong", "tithi", "clock", "npt"] {
+        maker.at(tag, instant);
+    }
+}
+
+/// Random instants, all local midnights and some tithi boundaries to three places either way.
+pub fn instants(maker: &mut Maker) {
+    for _ in 0..200_000 {
+        let instant = maker.random_instant();
+        of_instant(maker, instant);
+    }
+    for number in FIRST - 1..=LAST + 2 {
+        let midnight = number as f64 - 0.5 - NPT_OFFSET;
+        maker.around("npt", midnight, 3);
+        maker.around("clock", midnight, 1);
+    }
+    for i in 0..6_000 {
+        let start = panchanga::some_start(maker, i % 30 + 1);
+        maker.around("tithi", start, 3);
+        maker.around("elong", start, 3);
+        maker.at("end", start);
+    }
+    for _ in 0..20_000 {
+        let instant = maker.random.between(2400000.0, 2509997.5);
+        maker.at("end", instant);
+    }
+    for joint in panchanga::JOINTS {
+        for steps in -50..=50 {
+            of_instant(maker, neighbour(2451545.0 + (joint - 2000.0) * 365.25, steps));
+        }
+    }
+}
+
+/// A million angles, and arcs.
+pub fn angles(maker: &mut Maker) {
+    for _ in 0..1_000_000 {
+        let size = maker.random.one_of(&[1.0, 10.0, 1000.0, 63100.0, 100000.0]);
+        let x = maker.random.between(-size, size);
+        maker.at("sin", x);
+        maker.at("cos", x);
+    }
+    for _ in 0..250_000 {
+        let size = maker.random.one_of(&[1.0, 1.0, 0.5, 0.01]);
+        let x = maker.random.between(-size, size);
+        maker.at("asin", x);
+        maker.at("acos", x);
+        maker.at("tan", x);
+    }
+}
+
+/// A year for all thirty tithis in 25 years, and every refusal.
+pub fn searches(maker: &mut Maker) {
+    for year in 0..25 {
+        for tithi in 1..=30 {
+            let from = 2415020.5 + year as f64 * 3652.5 + maker.random.unit();
+            panchanga::search(maker, tithi, from, from + 365.25, 14);
+        }
+    }
+    for _ in 0..20 {
+        panchanga::searches(maker);
+    }
+    panchanga::search_refusals(maker);
+}
+
+/// Every day and every y/m/d around every month's end of 40 tables; broken and damaged tables.
+pub fn conversions(maker: &mut Maker) {
+    for table in conversion::full_tables(maker) {
+        conversion::whole_table(maker, &table);
+    }
+    for table in conversion::broken_tables(maker) {
+        conversion::asked(maker, &table);
+    }
+    for _ in 0..300 {
+        let table = conversion::damaged_table(maker);
+        conversion::asked(maker, &table);
+    }
+}
+
+/// A million month steps.
+pub fn steps(maker: &mut Maker) {
+    for round in 0..10 {
+        let table = match round {
+            0 => owner_table(),
+            _ => {
+                let years = maker.random.whole(1, 128) as usize;
+                random_table(&mut maker.random, years, Months::Any, Place::Anywhere)
+            }
+        };
+        maker.table(&table);
+        for _ in 0..100_000 {
+            grid::random_step(maker, &table);
+        }
+    }
+}
+
+/// A random table of few years with a random rule list.
+fn random_almanac(maker: &mut Maker, rules: usize) -> Almanac {
+    let months =
+        maker.random.one_of(&[Months::Real, Months::Any, Months::All(29), Months::All(32)]);
+    let place = maker.random.one_of(&[Place::First, Place::Last, Place::Anywhere]);
+    let years = maker.random.whole(1, 4) as usize;
+    let table = random_table(&mut maker.random, years, months, place);
+    let rules = festivals::random_rules(maker, &table, rules);
+    Almanac::new(table, rules)
+}
+
+/// Every month of the owner's table with two rule lists, and 360 months of random tables.
+pub fn grids(maker: &mut Maker) {
+    for rules in [nepal_rules(), stress_rules()] {
+        grid::whole_table(maker, owner_table(), rules);
+    }
+    for _ in 0..60 {
+        let mut almanac = random_almanac(maker, 12);
+        festivals::lend(maker, &almanac);
+        for _ in 0..6 {
+            let (year, month) = (almanac.random_year(maker), maker.random.whole(1, 12) as u16);
+            grid::month(maker, &mut almanac, year, month);
+        }
+    }
+}
+
+/// 2,400 day lists over random tables, and every rule list at the edge of the paper's lines.
+pub fn lists(maker: &mut Maker) {
+    for _ in 0..80 {
+        let mut almanac = random_almanac(maker, 12);
+        festivals::lend(maker, &almanac);
+        festivals::random_days(maker, &mut almanac, 30);
+    }
+    for rules in festivals::edge_rules() {
+        maker.rules(&rules);
+        maker.line("checkrules");
+    }
+}
