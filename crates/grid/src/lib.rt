@@ -1,4 +1,6 @@
-// Months: stepping from one to another.
+// Months: stepping from one to another, and the cells of one laid out in weeks.
+mod cells;
+mod page;
 mod step;
 
 ghost use mathlib.Core.Path.{_≡_};
@@ -8,6 +10,7 @@ use crate::step::absolute_month;
 use crate::step::month_at;
 use conversion::Table;
 use conversion::accepts;
+use gregorian::Date;
 
 pub struct BsMonth {
     pub year: u16,
@@ -19,6 +22,26 @@ pub enum StepAnswer {
     Month(BsMonth),
     BadTable,
     OffTable,
+}
+
+// A month's days, its first and last Gregorian date, and how many cells and festivals were written.
+pub struct Month {
+    pub days: u16,
+    pub first: Date,
+    pub last: Date,
+    pub cells: usize,
+    pub festivals: usize,
+}
+
+// A month, or refusal 1, 2, 3, 4, 5 or 9.
+pub enum GridAnswer {
+    Is(Month),
+    BadTable,
+    BadRules,
+    NoSuchDate,
+    NoYear,
+    NoMonth,
+    NoRoom,
 }
 
 // A month stepped by a number of months, worked exactly: month 0 and months past 12 are stepped too.

@@ -9,7 +9,7 @@ use mir.Syntax.{w32, w64}
 use mir.Val.{toZ, ofZ}
 use mir.ValLaws.{toZ-ofZ}
 use Rattle.conversion.specs.Calendar.{Calendar}
-use Rattle.conversion.specs.Flat.{flat, accepted}
+use Rattle.conversion.specs.Flat.{flat}
 use Rattle.conversion.proofs.Accepted.{Facts, facts}
 use Rattle.grid.specs.Step.{absolute, monthAt, stepSays}
 use Rattle.grid.proofs.Stepped.{step-bad, step-good}
