@@ -77,7 +77,7 @@ pub record Computed (r : Rule) : Type 0 where
   pub half-to : r .half ≤ 1
   pub kala-to : r .kala ≤ 5
 
-computed-of : (r : Rule) → ruleGood r ≡ true → r .kind ≡ 3 → Computed r
+pub computed-of : (r : Rule) → ruleGood r ≡ true → r .kind ≡ 3 → Computed r
 unfolding ruleGood
 computed-of r e q =
     let m₁ = leb 1 (r .month) in
@@ -104,8 +104,8 @@ computed-of r e q =
       kala-to = leb-true (r .kala) 5 (and-right (y && d₂ && p) k b);
     }
 
--- rule number i of a good list, where it is a computed one
-pub computed-at : (xs : List ℕ) (i : ℕ) (r : Rule) → acceptedRules xs ≡ true → i < length xs / 8 → r ≡ ruleAt xs i → r .kind ≡ 3 → Computed r
-computed-at xs i r e h er q =
+-- rule number i of a good list
+pub good-rule : (xs : List ℕ) (i : ℕ) (r : Rule) → acceptedRules xs ≡ true → i < length xs / 8 → r ≡ ruleAt xs i → ruleGood r ≡ true
+good-rule xs i r e h er =
     let z : 0 + i ≡ i = omega arith in
-    computed-of r (rw (er, ← z) (good-at xs 0 (length xs / 8) i (good-rules xs e .good) h)) q
+    rw (er, ← z) (good-at xs 0 (length xs / 8) i (good-rules xs e .good) h)

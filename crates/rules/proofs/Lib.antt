@@ -3,3 +3,4 @@ pub mod Stores
 pub mod Accepted
 pub mod Most
 pub mod Used
+pub mod Listed

@@ -10,16 +10,14 @@ use borrow.Author.Tests.{eq-eqb, ne-eqb, eqb-true, eqb-false}
 use lib.Dec.{eqb, leb}
 use lib.ListN.{length, getD, replicate, length-set, length-replicate}
 use lib.Seq.{getD-set-same, getD-set-other}
-use Rattle.gregorian.specs.Calendar.{dateOf}
 use Rattle.conversion.specs.declared.BsDate.{BsDate}
 use Rattle.conversion.specs.Calendar.{Calendar}
 use Rattle.rules.specs.declared.Rule.{Rule}
-use Rattle.rules.specs.declared.lists.Day.{Day}
 use Rattle.rules.specs.Rules.{countKind}
 use Rattle.rules.specs.Sky.{Sky}
 use Rattle.rules.specs.Days.{holds}
 use Rattle.rules.specs.Festivals.{entry, entryOn, Pair, picked, silenced, isComputed, dayPairs, dayList}
-use Rattle.rules.specs.Resolved.{putEntry, filled, resolved, used, pairsBy, listBy}
+use Rattle.rules.specs.Resolved.{putEntry, filled, resolved, dayNumbered, used, pairsBy, listBy}
 use Rattle.rules.proofs.Walk.{count-is, count-not}
 use Rattle.rules.proofs.Stores.{picked-cons, used-not, used-is}
 
@@ -129,13 +127,10 @@ early-only : (b : Bool) (u v : List Pair) → (b ≡ true → u ≡ v) → cond 
 early-only true u v h = h refl
 early-only false u v h = refl
 
-abbrev pub dayOf : BsDate → ℕ → Day
-dayOf t n = record { bs = t; ad = dateOf n; number = n }
-
 -- a day's list from two resolved years; the year before counts in months 1 and 2 alone
 pub two-years : {I : Type 0} (s : Sky I) (c : Calendar) (rs : List Rule) (t : BsDate) (n : ℕ) (before this : List ℕ) → countKind 3 rs ≤ 64 → 1 ≤ n
     → (leb (t .month) 2 ≡ true → before ≡ resolved s c (t .year - 1) rs) → this ≡ resolved s c (t .year) rs
-    → listBy rs (dayOf t n) before this ≡ dayList s c rs t n
+    → listBy rs (dayNumbered t n) before this ≡ dayList s c rs t n
 unfolding listBy pairsBy dayList dayPairs
 two-years s c rs t n before this h p eb et =
     let b = early-only (leb (t .month) 2) (used rs (t .year) before n 0 rs) (picked (isComputed s c rs (t .year - 1) t n) rs)

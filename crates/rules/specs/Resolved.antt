@@ -5,6 +5,8 @@ use mathlib.Core.List.{List, [], _∷_, _++_}
 use mathlib.Core.Option.{Option, some, none}
 use lib.Dec.{leb, eqb}
 use lib.ListN.{getD, set, replicate}
+use Rattle.gregorian.specs.Calendar.{dateOf}
+use Rattle.conversion.specs.declared.BsDate.{BsDate}
 use Rattle.conversion.specs.Calendar.{Calendar}
 use Rattle.rules.specs.declared.Rule.{Rule}
 use Rattle.rules.specs.declared.lists.Day.{Day}
@@ -29,6 +31,10 @@ unfoldable pub resolved : {I : Type 0} → Sky I → Calendar → ℕ → List R
 resolved s c y rs = filled s c y (replicate 64 0) 0 rs
 
 -- ---- a day's list
+
+-- day number n, whose BS date is t
+abbrev pub dayNumbered : BsDate → ℕ → Day
+dayNumbered t n = record { bs = t; ad = dateOf n; number = n }
 
 -- a computed rule with this name, entered at day k, shows on day n of year y
 abbrev pub shows : List Rule → ℕ → ℕ → ℕ → ℕ → Bool
