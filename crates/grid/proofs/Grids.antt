@@ -11,11 +11,13 @@ use Rattle.paper.specs.Answers.{Answer, answered, refused, given}
 use Rattle.paper.proofs.Stores.{sets-front, front-of}
 use Rattle.gregorian.specs.Calendar.{weekdayOf}
 use Rattle.rules.specs.Festivals.{numbers}
+use Rattle.grid.specs.declared.Month.{Month}
 use Rattle.grid.specs.declared.page.Plan.{Plan}
 use Rattle.grid.specs.Cells.{each, joined}
-use Rattle.grid.specs.Month.{Grid, cellNumbers, festivalNumbers, fitted, counts, written, gridOf}
+use Rattle.grid.specs.Month.{Grid, cellNumbers, festivalNumbers, fitted, shown, gridOf}
 use Rattle.grid.specs.Inner.{listAt, cellAt, gridBy, cellsOf, monthOf}
-use Rattle.grid.proofs.Marks.{cell-length, numbers-length}
+use Rattle.rules.proofs.Listed.{numbers-length}
+use Rattle.grid.proofs.Marks.{cell-length}
 use Rattle.grid.proofs.Weeks.{month-length, month-numbers, month-laid}
 
 -- ---- what fits
@@ -33,19 +35,25 @@ module _ (g : Grid) (a b : ℕ) where
   unfolding fitted given
   fits h k = rw (le-leb _ _ h, le-leb _ _ k)
 
--- a refusal answers its number and changes nothing
-pub count-refused : (x : Answer Grid) (k : ℕ) → x ≡ refused k → refused k ≡ counts x
-unfolding counts
-count-refused x k e = rw e
+-- an answer and two buffers are what is shown
+pub record Says (a : Answer Grid) (cells festivals : List ℕ) (r : Answer Month) (cells′ festivals′ : List ℕ) : Type 0 where
+  pub answer : r ≡ shown a cells festivals .answer
+  pub first : cells′ ≡ shown a cells festivals .cells
+  pub second : festivals′ ≡ shown a cells festivals .festivals
 
-pub write-refused : (f : Grid → List ℕ) (x : Answer Grid) (k : ℕ) (l : List ℕ) → x ≡ refused k → l ≡ written f x l
-unfolding written
-write-refused f x k l e = rw e
+-- a refusal answers its number and changes nothing
+pub says-refused : (a : Answer Grid) (k : ℕ) (cells festivals : List ℕ) → a ≡ refused k → Says a cells festivals (refused k) cells festivals
+unfolding shown
+says-refused a k cells festivals e = rw e (record { answer = refl; first = refl; second = refl })
 
 -- what fits is stored from the front
-pub write-front : (f : Grid → List ℕ) (x : Answer Grid) (g : Grid) (l vs : List ℕ) → x ≡ answered g → vs ≡ f g → length (f g) ≤ length l → sets l 0 vs ≡ written f x l
-unfolding written
-write-front f x g l vs e q h = rw (e, q) (sets-front (f g) l h)
+pub says-grid : (a : Answer Grid) (g : Grid) (cells festivals vs ws : List ℕ) (r : Month) → a ≡ answered g
+    → r ≡ record { days = g .days; first = g .first; last = g .last; cells = length (g .cells); festivals = length (g .festivals) }
+    → vs ≡ cellNumbers g → ws ≡ festivalNumbers g → length (cellNumbers g) ≤ length cells → length (festivalNumbers g) ≤ length festivals
+    → Says a cells festivals (answered r) (sets cells 0 vs) (sets festivals 0 ws)
+unfolding shown
+says-grid a g cells festivals vs ws r e m p q h k =
+    rw (e, m, p, q) (record { answer = refl; first = sets-front (cellNumbers g) cells h; second = sets-front (festivalNumbers g) festivals k })
 
 -- ---- the month of a plan
 
@@ -83,6 +91,7 @@ module _ (rules : List ℕ) (p : Plan) where
   lists-front lists₀ lists n e q h =
       front-of (festivalNumbers (gridBy rules p)) lists₀ lists (n * 2) e (festival-numbers-length ∙ ap (λ (k : ℕ). k * 2) (sym q)) h
 
-  pub answered-as : (x : Answer Grid) (cells festivals : ℕ) → x ≡ answered (gridBy rules p) → cells ≡ cellsOf p → festivals ≡ length (gridBy rules p .festivals) → answered (monthOf p cells festivals) ≡ counts x
-  unfolding counts gridOf
-  answered-as x cells festivals e a b = rw (e, a, b, cells-length)
+  pub month-is : (r : Month) (cells festivals : ℕ) → r ≡ monthOf p cells festivals → cells ≡ cellsOf p → festivals ≡ length (gridBy rules p .festivals)
+      → let g = gridBy rules p in r ≡ record { days = g .days; first = g .first; last = g .last; cells = length (g .cells); festivals = length (g .festivals) }
+  unfolding gridOf
+  month-is r cells festivals e a b = rw (e, a, b, cells-length)

@@ -4,4 +4,6 @@ pub mod Marks
 pub mod Pages
 pub mod Weeks
 pub mod Grids
+pub mod Asked
+pub mod Theorems
 pub mod Unique

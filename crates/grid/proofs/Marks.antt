@@ -10,6 +10,7 @@ use lib.Seq.{sets, sets-eq, getD-drop, drop-drop, drop-at, length-take-le}
 use Rattle.gregorian.specs.declared.Date.{Date}
 use Rattle.rules.specs.declared.lists.Day.{Day}
 use Rattle.rules.specs.Festivals.{Pair, numbers}
+use Rattle.rules.proofs.Listed.{numbers-length}
 use Rattle.panchanga.specs.declared.lunar.Reading.{Reading}
 use Rattle.grid.specs.Cells.{anyHoliday, cellWith, dayCell}
 use Rattle.grid.specs.Inner.{anyMark}
@@ -48,10 +49,6 @@ stored-marks l xs i h =
   where
     drop-after : (a b c : List ℕ) (n : ℕ) → length a ≡ n → drop n (a ++ b ++ c) ≡ b ++ c
     drop-after a b c n e = rw append-assoc (drop-at a (b ++ c) n e)
-
-pub numbers-length : (l : List Pair) → length (numbers l) ≡ length l * 2
-numbers-length [] = refl
-numbers-length (e ∷ l) = omega (arith, numbers-length l)
 
 -- what is told of a day's list by where it ends and by its marks
 pub shown : (l : List Pair) (xs ys : List ℕ) (i e : ℕ) → ys ≡ sets xs (i * 2) (numbers l) → e ≡ i + length l → e * 2 ≤ length xs

@@ -8,8 +8,8 @@ use lib.ListN.{length, length-append}
 use lib.Seq.{sets, length-sets}
 use Rattle.paper.proofs.Stores.{sets-append}
 use Rattle.rules.specs.Festivals.{Pair, numbers}
+use Rattle.rules.proofs.Listed.{numbers-length, numbers-append}
 use Rattle.grid.specs.Cells.{each, joined}
-use Rattle.grid.proofs.Marks.{numbers-length}
 
 -- nothing is left at the end
 none-left : {A : Type 0} (f : ℕ → List A) (d k : ℕ) → k ≡ 0 → joined (each f d k) ≡ []
@@ -25,10 +25,6 @@ joined-turn : {A : Type 0} (f : ℕ → List A) (d n : ℕ) → d < n → joined
 joined-turn f d n h =
     let e : n - d ≡ suc (n - (d + 1)) = omega arith in
     rw e (each-joined f d (n - (d + 1)))
-
-numbers-append : (xs ys : List Pair) → numbers (xs ++ ys) ≡ numbers xs ++ numbers ys
-numbers-append [] ys = refl
-numbers-append (e ∷ xs) ys = ap (λ (r : List ℕ). e .0 ∷ e .1 ∷ r) (numbers-append xs ys)
 
 module _ (d n : ℕ) (h : d < n) where
   cells-turn : (f : ℕ → List ℕ) (lead : ℕ) (out : List ℕ) → length (f d) ≡ 12

@@ -1,10 +1,10 @@
 -- Cells in whole weeks: how many there are, what stands before the first day, and what the page holds. Assumes nothing.
-use Prim.Native.Nat.{ℕ, zero, suc, _+_, _-_, _*_, _%_, _≤_}
+use Prim.Native.Nat.{ℕ, zero, suc, _+_, _-_, _*_, _%_, _≤_, _<_}
 use mathlib.Core.Path.{_≡_, refl, sym, ap, _∙_}
 use mathlib.Core.List.{List, [], _∷_, _++_, append-assoc}
 use native.Mathlib.Omega.{arith}
-use lib.ListN.{length, take, drop, replicate, length-append, length-replicate, replicate-append-replicate}
-use lib.Seq.{sets, sets-eq, take-at, drop-at}
+use lib.ListN.{length, getD, take, drop, replicate, length-append, length-replicate, replicate-append-replicate}
+use lib.Seq.{getD-take, getD-drop, sets, sets-eq, take-at, drop-at}
 use Rattle.grid.specs.Cells.{blank, toFill, weeks, each, joined}
 
 -- ---- lists of cells
@@ -53,6 +53,18 @@ unfolding weeks
 weeks-days lead days =
     rw append-assoc
     (ap (take (length days)) (drop-at (replicate lead blank) _ lead (length-replicate lead blank)) ∙ take-at days _ (length days) refl)
+
+pub weeks-at : (lead d : ℕ) (days : List (List ℕ)) (z : List ℕ) → d < length days → getD (weeks lead days) (lead + d) z ≡ getD days d z
+weeks-at lead d days z h =
+    sym (getD-drop lead (weeks lead days) d z)
+    ∙ sym (getD-take (length days) (drop lead (weeks lead days)) d z h)
+    ∙ ap (λ (l : List (List ℕ)). getD l d z) (weeks-days lead days)
+
+-- and blanks follow them
+pub weeks-tail : (lead : ℕ) (days : List (List ℕ)) → drop (lead + length days) (weeks lead days) ≡ replicate (toFill (lead + length days)) blank
+unfolding weeks
+weeks-tail lead days =
+    drop-at (replicate lead blank ++ days) _ (lead + length days) (length-append (replicate lead blank) days ∙ ap (λ (k : ℕ). k + length days) (length-replicate lead blank))
 
 -- ---- the page
 

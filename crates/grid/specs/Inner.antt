@@ -14,7 +14,7 @@ use Rattle.panchanga.specs.Reading.{readingOf}
 use Rattle.grid.specs.declared.page.Plan.{Plan}
 use Rattle.grid.specs.declared.Month.{Month}
 use Rattle.grid.specs.Cells.{toFill}
-use Rattle.grid.specs.Month.{Grid, listOn, cellOn, gridOf}
+use Rattle.grid.specs.Month.{Grid, Shown, listOn, cellOn, gridOf, fitted, shown}
 
 -- a day number from that of 1 January 1900 to that of 31 December 2149
 pub record Dated (n : ℕ) : Type 0 where
@@ -56,6 +56,10 @@ module _ (rules : List ℕ) (p : Plan) where
 
   abbrev pub gridBy : Grid
   gridBy = gridOf listFor readingOn (p .today) (p .year) (p .month) (p .first) (p .days)
+
+-- it is written where each buffer is long enough
+abbrev pub shownBy : List ℕ → Plan → List ℕ → List ℕ → Shown
+shownBy rules p cells festivals = shown (fitted (gridBy rules p) (length cells) (length festivals)) cells festivals
 
 abbrev pub cellsOf : Plan → ℕ
 cellsOf p = weekdayOf (p .first) + p .days + toFill (weekdayOf (p .first) + p .days)

@@ -8,9 +8,10 @@ use Rattle.paper.specs.Answers.{Answer, answered, refused, given}
 use Rattle.gregorian.specs.declared.Date.{Date}
 use Rattle.gregorian.specs.Calendar.{dateOf, weekdayOf}
 use Rattle.gregorian.specs.Answers.{real}
-use Rattle.conversion.specs.Calendar.{Calendar, yearOk, monthOk, dayAt}
+use Rattle.conversion.specs.Calendar.{Calendar, bs, yearOk, monthOk, dayAt}
 use Rattle.rules.specs.declared.lists.Day.{Day}
 use Rattle.rules.specs.Festivals.{Pair, numbers}
+use Rattle.rules.specs.Resolved.{dayNumbered}
 use Rattle.panchanga.specs.declared.lunar.Reading.{Reading}
 use Rattle.grid.specs.declared.Month.{Month}
 use Rattle.grid.specs.declared.GridAnswer.{GridAnswer}
@@ -19,8 +20,7 @@ use Rattle.grid.specs.Cells.{dayCell, weeks, each, joined}
 
 -- a month whose first day has the number `first`: its day d, counted from 0
 abbrev pub dayOn : ℕ → ℕ → ℕ → ℕ → Day
-dayOn y m first d =
-    record { bs = record { year = y; month = m; day = d + 1 }; ad = dateOf (first + d); number = first + d }
+dayOn y m first d = dayNumbered (bs y m (d + 1)) (first + d)
 
 -- the month as cells in whole weeks, and the lists of its days one after the other
 pub record Grid : Type 0 where
@@ -71,16 +71,25 @@ monthGrid c ok list reading today y m cellRoom festivalRoom =
     (given (yearOk c y) 4
     (given (monthOk m) 5 (fitted (gridOf list reading today y m first days) cellRoom festivalRoom)))))
 
--- the answer's numbers: days, first and last Gregorian date, cells and festivals
-unfoldable pub counts : Answer Grid → Answer Month
-counts (answered g) =
-    answered (record { days = g .days; first = g .first; last = g .last; cells = length (g .cells); festivals = length (g .festivals) })
-counts (refused k) = refused k
+-- what is answered, and the two lent buffers as they then stand
+pub record Shown : Type 0 where
+  pub answer : Answer Month
+  pub cells : List ℕ
+  pub festivals : List ℕ
 
--- a lent buffer as it then stands: what is written from the front, and what lies past it; a refusal changes nothing
-unfoldable pub written : (Grid → List ℕ) → Answer Grid → List ℕ → List ℕ
-written f (answered g) out = f g ++ drop (length (f g)) out
-written f (refused k) out = out
+-- a list of numbers from the front of a buffer; what lies past it stays
+abbrev pub over : List ℕ → List ℕ → List ℕ
+over vs l = vs ++ drop (length vs) l
+
+-- days, first and last Gregorian date, cells and festivals are answered, and both are written; a refusal changes nothing
+unfoldable pub shown : Answer Grid → List ℕ → List ℕ → Shown
+shown (answered g) cells festivals =
+    record {
+      answer = answered (record { days = g .days; first = g .first; last = g .last; cells = length (g .cells); festivals = length (g .festivals) });
+      cells = over (cellNumbers g) cells;
+      festivals = over (festivalNumbers g) festivals;
+    }
+shown (refused k) cells festivals = record { answer = refused k; cells = cells; festivals = festivals }
 
 abbrev pub gridSays : GridAnswer → Answer Month
 gridSays (GA.Is m) = answered m

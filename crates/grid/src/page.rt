@@ -8,8 +8,8 @@ ghost use Rattle.gregorian.specs.Calendar.{weekdayOf};
 ghost use Rattle.rules.specs.Rules.{acceptedRules};
 ghost use Rattle.rules.specs.Festivals.{numbers};
 ghost use Rattle.grid.specs.Cells.{each, joined};
-ghost use Rattle.grid.specs.Month.{cellNumbers, festivalNumbers, fitted, counts, written, gridSays};
-ghost use Rattle.grid.specs.Inner.{Planned, Roomy, anyMark, listAt, cellAt, gridBy, cellsOf, monthOf};
+ghost use Rattle.grid.specs.Month.{gridSays};
+ghost use Rattle.grid.specs.Inner.{Planned, Roomy, anyMark, listAt, cellAt, shownBy, cellsOf, monthOf};
 use crate::GridAnswer;
 use crate::Month;
 use crate::cells::ad_of;
@@ -155,9 +155,9 @@ fn copy_month(
     requires { ⌜ acceptedRules (now rules) ≡ true ⌝ }
     requires { ⌜ Planned plan × Roomy (now page) (now lists) ⌝ }
     requires { ⌜ now page ≡ replicate (length (now page)) 0 ⌝ }
-    ensures { λ r. ⌜ gridSays r ≡ counts (fitted (gridBy (now (rules .entry)) plan) (length (now (cells .entry))) (length (now (festivals .entry)))) ⌝ }
-    ensures { λ r. ⌜ now (cells .exit) ≡ written cellNumbers (fitted (gridBy (now (rules .entry)) plan) (length (now (cells .entry))) (length (now (festivals .entry)))) (now (cells .entry)) ⌝ }
-    ensures { λ r. ⌜ now (festivals .exit) ≡ written festivalNumbers (fitted (gridBy (now (rules .entry)) plan) (length (now (cells .entry))) (length (now (festivals .entry)))) (now (festivals .entry)) ⌝ }
+    ensures { λ r. ⌜ gridSays r ≡ shownBy (now (rules .entry)) plan (now (cells .entry)) (now (festivals .entry)) .answer ⌝ }
+    ensures { λ r. ⌜ now (cells .exit) ≡ shownBy (now (rules .entry)) plan (now (cells .entry)) (now (festivals .entry)) .cells ⌝ }
+    ensures { λ r. ⌜ now (festivals .exit) ≡ shownBy (now (rules .entry)) plan (now (cells .entry)) (now (festivals .entry)) .festivals ⌝ }
 {
     let total = cell_count(plan);
     if cells.len() < total * 12 {
@@ -181,9 +181,9 @@ pub fn write_month(
 ) -> GridAnswer
     requires { ⌜ acceptedRules (now rules) ≡ true ⌝ }
     requires { ⌜ Planned plan ⌝ }
-    ensures { λ r. ⌜ gridSays r ≡ counts (fitted (gridBy (now (rules .entry)) plan) (length (now (cells .entry))) (length (now (festivals .entry)))) ⌝ }
-    ensures { λ r. ⌜ now (cells .exit) ≡ written cellNumbers (fitted (gridBy (now (rules .entry)) plan) (length (now (cells .entry))) (length (now (festivals .entry)))) (now (cells .entry)) ⌝ }
-    ensures { λ r. ⌜ now (festivals .exit) ≡ written festivalNumbers (fitted (gridBy (now (rules .entry)) plan) (length (now (cells .entry))) (length (now (festivals .entry)))) (now (festivals .entry)) ⌝ }
+    ensures { λ r. ⌜ gridSays r ≡ shownBy (now (rules .entry)) plan (now (cells .entry)) (now (festivals .entry)) .answer ⌝ }
+    ensures { λ r. ⌜ now (cells .exit) ≡ shownBy (now (rules .entry)) plan (now (cells .entry)) (now (festivals .entry)) .cells ⌝ }
+    ensures { λ r. ⌜ now (festivals .exit) ≡ shownBy (now (rules .entry)) plan (now (cells .entry)) (now (festivals .entry)) .festivals ⌝ }
 {
     let mut page = [0u16; 504];
     let mut lists = [0u16; 24576];

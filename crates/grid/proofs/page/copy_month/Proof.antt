@@ -1,13 +1,12 @@
 -- The fronts of the page and of the lists are what the month's buffers hold. Assumes nothing.
 use borrow.Author.Needs.{needs}
 use Prim.Native.Nat.{ℕ, _*_, _≤_}
-use mathlib.Core.Path.{sym, ap, _∙_}
+use mathlib.Core.Path.{_≡_, sym, ap, _∙_}
 use native.Mathlib.Omega.{arith}
 use lib.ListN.{length, take}
-use Rattle.paper.specs.Answers.{answered}
-use Rattle.grid.specs.Month.{cellNumbers, festivalNumbers}
+use Rattle.grid.specs.Month.{cellNumbers, festivalNumbers, fitted}
 use Rattle.grid.specs.Inner.{gridBy}
-use Rattle.grid.proofs.Grids.{no-cells, no-festivals, fits, count-refused, write-refused, write-front, cell-numbers-length, festival-numbers-length, festivals-are, page-front, lists-front, answered-as}
+use Rattle.grid.proofs.Grids.{no-cells, no-festivals, fits, says-refused, says-grid, cell-numbers-length, festival-numbers-length, festivals-are, page-front, lists-front, month-is}
 use Rattle.grid.proofs.page.copy_month.Statement.{statement}
 use Rattle.grid.proofs.page.copy_month.Tie as tie
 
@@ -22,7 +21,8 @@ returns c =
     let a = c .before .before .before .before .before .before .before .args in
     let g = gridBy (a .rules .now) (a .plan) in
     let h = no-cells g (length (a .cells .now)) (length (a .festivals .now)) (omega (arith, c .if1 .taken, c .before .cell-count .ensures, cell-numbers-length (a .rules .now) (a .plan))) in
-    (count-refused _ 9 h, (write-refused cellNumbers _ 9 _ h, write-refused festivalNumbers _ 9 _ h))
+    let r = says-refused _ 9 (a .cells .now) (a .festivals .now) h in
+    (r .answer, (r .first, r .second))
 
 fill-requires : tie.Need-fill-requires
 fill-requires c κs = search needs
@@ -42,7 +42,8 @@ returns-2 c =
     let g = gridBy (a .rules .now) (a .plan) in
     let n = c .before .before .before .before .before .fill .ensures .1 .1 .0 ∙ ap length (sym (festivals-are (a .rules .now) (a .plan))) in
     let h = no-festivals g (length (a .cells .now)) (length (a .festivals .now)) (omega (arith, c .if2 .taken, n, festival-numbers-length (a .rules .now) (a .plan))) in
-    (count-refused _ 9 h, (write-refused cellNumbers _ 9 _ h, write-refused festivalNumbers _ 9 _ h))
+    let r = says-refused _ 9 (a .cells .now) (a .festivals .now) h in
+    (r .answer, (r .first, r .second))
 
 mul-put-front : tie.Need-mul-put-front
 mul-put-front c = search needs
@@ -86,13 +87,9 @@ returns-3 c =
     let h = fits g (length (a .cells .now)) (length (a .festivals .now)) room space in
     let page = c .before .before .before .before .before .before .before .before .before .before .before .before .before .before .before .before .fill .last .1 .1 .0 in
     let cells-front = ap (λ (k : ℕ). take (k * 12) page) e ∙ page-front rules p (a .page .now) page (s .pre .1 .1) (f .0) (omega (arith, s .pre .1 .0)) in
-    let festivals-front = lists-front rules p (a .lists .now) (c .before .before .before .before .before .before .before .before .before .before .before .before .before .before .before .before .fill .last .1 .1 .1 .0) (c .before .before .before .before .before .before .before .before .before .before .before .before .before .before .before .before .fill .result) (f .1 .0) (f .1 .1 .0) (omega (arith, f .1 .1 .1, s .pre .1 .0 .1 .festivals)) in (
-      ap answered (c .month-of .ensures) ∙ answered-as rules p _ _ _ h e n,
-      (
-        c .before .before .before .before .before .before .before .before .put-front .ensures ∙ write-front cellNumbers _ g (a .cells .now) _ h cells-front room,
-        c .before .before .before .put-front2 .ensures ∙ write-front festivalNumbers _ g (a .festivals .now) _ h festivals-front space,
-      ),
-    )
+    let festivals-front = lists-front rules p (a .lists .now) (c .before .before .before .before .before .before .before .before .before .before .before .before .before .before .before .before .fill .last .1 .1 .1 .0) (c .before .before .before .before .before .before .before .before .before .before .before .before .before .before .before .before .fill .result) (f .1 .0) (f .1 .1 .0) (omega (arith, f .1 .1 .1, s .pre .1 .0 .1 .festivals)) in
+    let r = says-grid _ g (a .cells .now) (a .festivals .now) _ _ (c .month-of .result) h (month-is rules p _ _ _ (c .month-of .ensures) e n) cells-front festivals-front room space in
+    (r .answer, (c .before .before .before .before .before .before .before .before .put-front .ensures ∙ r .first, c .before .before .before .put-front2 .ensures ∙ r .second))
 
 pub copy-month-spec : {M : Type 1} → statement M
 copy-month-spec =
