@@ -20,6 +20,7 @@ use Rattle.conversion.specs.declared.Table.{Table}
 use Rattle.conversion.specs.declared.BsDate.{BsDate}
 use Rattle.conversion.specs.Calendar.{Calendar, end, bs, EarlierBs, dayAt, toDay, fromDay, toAd, fromAd}
 use Rattle.conversion.specs.Flat.{date, firstDay, lens, rowCount, accepted, flat}
+use Rattle.conversion.specs.Claims.{firstOf, lastOf, TableDay}
 use Rattle.conversion.proofs.Rows.{row-lens}
 use Rattle.conversion.proofs.Accepted.{facts}
 use Rattle.conversion.proofs.Days.{Valid, OnTable, found, from-outside, in-date, of-date, converts, converted, valid-on, number-of, from-to, to-from, to-order, from-order}
@@ -59,19 +60,7 @@ module _ (c : Calendar) (y m d : ℕ) where
   unfolding fromAd
   ad-from t e = let a = given-answered (c .good) _ _ e in given-answered (isDate y m d) _ _ (a .1)
 
--- ---- the first day and the last, and the days between them
-abbrev pub firstOf : Calendar → Date
-firstOf c = dateOf (c .start)
-
-abbrev pub lastOf : Calendar → Date
-lastOf c = dateOf (end c - 1)
-
--- a Gregorian date, not before the first day and not after the last
-pub record TableDay (c : Calendar) (x : Date) : Type 0 where
-  pub real : isDate (x .year) (x .month) (x .day) ≡ true
-  pub from : Earlier x (firstOf c) → ⊥
-  pub to : Earlier (lastOf c) x → ⊥
-
+-- ---- the days of the table
 is-real : (x : Date) → isDate (x .year) (x .month) (x .day) ≡ true → IsReal x
 is-real x e = real-of x (subst⁻¹ T e tt)
 

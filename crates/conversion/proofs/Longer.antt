@@ -12,11 +12,12 @@ use Rattle.paper.proofs.Answers.{answered-same, refused-answered}
 use Rattle.paper.proofs.Sums.{sum-ext}
 use Rattle.paper.proofs.Tests.{split}
 use Rattle.gregorian.specs.declared.Date.{Date}
-use Rattle.gregorian.specs.Calendar.{dayNumber, dateOf}
+use Rattle.gregorian.specs.Calendar.{dateOf}
 use Rattle.conversion.specs.declared.Table.{Table}
 use Rattle.conversion.specs.declared.BsDate.{BsDate}
 use Rattle.conversion.specs.Calendar.{Calendar, yearLen, dayAt, dateAfter, dayOk, ofMonth, monthLen, validBs, toDay, fromDay, toAd, fromAd}
-use Rattle.conversion.specs.Flat.{date, accepted, flat}
+use Rattle.conversion.specs.Flat.{accepted, flat}
+use Rattle.conversion.specs.Claims.{Added, RefusedIf}
 use Rattle.conversion.proofs.Accepted.{facts}
 use Rattle.conversion.proofs.Days.{InTable, OnTable, of-month, in-month, no-year, converted, found, from-outside, from-to, to-from}
 use Rattle.conversion.proofs.Ad.{from-ad, ad-from}
@@ -41,15 +42,6 @@ extends t rows more a b =
       years = omega (arith, length-append rows more);
       len = λ i m h l. sym (List·getD-append rows more 0 (13 * i + m) (omega arith));
     }
-
--- the years that the longer adds
-abbrev pub Added : Calendar → ℕ → Type 0
-Added c y = c .first + c .years ≤ y
-
--- refused with k, and with no other number, exactly if P holds
-pub record RefusedIf {A : Type 0} (a : Answer A) (k : ℕ) (P : Type 0) : Type 0 where
-  pub when : P → a ≡ refused k
-  pub only : (j : ℕ) → a ≡ refused j → P
 
 refused-if : {A : Type 0} (a : Answer A) (k : ℕ) (y n : ℕ) {x : A} → (n ≤ y → a ≡ refused k) → (y < n → a ≡ answered x) → RefusedIf a k (n ≤ y)
 refused-if a k y n f g =
@@ -122,9 +114,13 @@ module _ (c e : Calendar) (x : Extends c e) where
   unfolding validBs
   valid-added y m d h = added y m _ _ (same-date y m d tt tt (λ k. refl)) h
 
-  day-longer : (y m d n : ℕ) → toDay c y m d ≡ answered n → toDay e y m d ≡ answered n
+  pub day-longer : (y m d n : ℕ) → toDay c y m d ≡ answered n → toDay e y m d ≡ answered n
   unfolding toDay
   day-longer y m d n h = longer y m _ _ (same-date y m d _ _ (same-day y m d)) h
+
+  pub day-added : (y m d n : ℕ) → toDay e y m d ≡ answered n → RefusedIf (toDay c y m d) 4 (Added c y)
+  unfolding toDay
+  day-added y m d n h = added y m _ _ (same-date y m d _ _ (same-day y m d)) h
 
   day-kept : (y m d n : ℕ) → y < c .first + c .years → toDay e y m d ≡ answered n → toDay c y m d ≡ answered n
   unfolding toDay
@@ -139,7 +135,7 @@ module _ (c e : Calendar) (x : Extends c e) where
   to-added y m d g h = added y m _ _ (same-date y m d _ _ (λ k. ap dateOf (same-day y m d k))) h
 
   -- ---- the date of a day
-  from-day-longer : (n : ℕ) (t : BsDate) → fromDay c n ≡ answered t → fromDay e n ≡ answered t
+  pub from-day-longer : (n : ℕ) (t : BsDate) → fromDay c n ≡ answered t → fromDay e n ≡ answered t
   from-day-longer n t h = from-to e _ _ _ n (day-longer _ _ _ n (to-from c n t h))
 
   -- a day of the shorter has no date in an added year
@@ -149,6 +145,12 @@ module _ (c e : Calendar) (x : Extends c e) where
       let v = converted c _ _ _ n (to-from c n t (found c n o ∙ ap answered q)) in
       omega (arith, v .month)
 
+  pub from-day-added : (n : ℕ) (t : BsDate) → fromDay e n ≡ answered t → RefusedIf (fromDay c n) 7 (Added c (t .year))
+  from-day-added n t h =
+      refused-if _ 7 (t .year) _
+      (λ l. from-outside c n (x .good) (not-added n t h l))
+      (λ l. from-to c _ _ _ n (day-kept _ _ _ n l (to-from e n t h)))
+
   pub from-longer : (y m d : ℕ) (t : BsDate) → fromAd c y m d ≡ answered t → fromAd e y m d ≡ answered t
   from-longer y m d t h =
       let a = ad-from c y m d t h in
@@ -157,7 +159,4 @@ module _ (c e : Calendar) (x : Extends c e) where
   pub from-added : (y m d : ℕ) (t : BsDate) → fromAd e y m d ≡ answered t → RefusedIf (fromAd c y m d) 7 (Added c (t .year))
   from-added y m d t h =
       let a = ad-from e y m d t h in
-      let n = dayNumber (date y m d) in
-      refused-if _ 7 (t .year) _
-      (λ l. from-ad c y m d (x .good) (a .0) ∙ from-outside c n (x .good) (not-added n t (a .1) l))
-      (λ l. from-ad c y m d (x .good) (a .0) ∙ from-to c _ _ _ n (day-kept _ _ _ n l (to-from e n t (a .1))))
+      rw (from-ad c y m d (x .good) (a .0)) (from-day-added _ t (a .1))

@@ -1,7 +1,7 @@
 -- What is proved of conversion, for every accepted year table. It matches the BS dates of the table and the days from its first to its last
 -- one to one and in order, and refuses all else with the exact number. And it is steady: rows added to a table change no answer, and the
 -- shorter table refuses exactly what lies in an added year. Assumes nothing.
-use Prim.Native.Nat.{ℕ, _+_, _-_, _≤_, _<_}
+use Prim.Native.Nat.{ℕ, _+_, _-_}
 use mathlib.Core.Path.{_≡_, _∙_}
 use mathlib.Core.Bool.{true, false}
 use mathlib.Core.List.{List, _++_}
@@ -14,27 +14,12 @@ use Rattle.conversion.specs.declared.Table.{Table}
 use Rattle.conversion.specs.declared.BsDate.{BsDate}
 use Rattle.conversion.specs.Calendar.{Calendar, bs, EarlierBs, monthLen, validBs, toAd, fromAd}
 use Rattle.conversion.specs.Flat.{date, firstDay, accepted, flat}
+use Rattle.conversion.specs.Claims.{YearIn, MonthIn, DayIn, BsIn, firstOf, TableDay, Added, RefusedIf}
 use Rattle.conversion.proofs.Days as Days
 use Rattle.conversion.proofs.Ad as Ad
-use Rattle.conversion.proofs.Ad.{TableDay, firstOf}
 use Rattle.conversion.proofs.Longer as Longer
-use Rattle.conversion.proofs.Longer.{Added, RefusedIf}
 
--- the year is one of the table, the month one of 1 to 12, the day one of the month
-abbrev pub YearIn : Calendar → ℕ → Type 0
-YearIn c y = (c .first ≤ y) × (y < c .first + c .years)
-
-abbrev pub MonthIn : ℕ → Type 0
-MonthIn m = (1 ≤ m) × (m ≤ 12)
-
-abbrev pub DayIn : Calendar → ℕ → ℕ → ℕ → Type 0
-DayIn c y m d = (1 ≤ d) × (d ≤ c .len (y - c .first) (m - 1))
-
--- a BS date of the table
-abbrev pub BsIn : Calendar → ℕ → ℕ → ℕ → Type 0
-BsIn c y m d = YearIn c y × (MonthIn m × DayIn c y m d)
-
--- ---- ONE TO ONE. A `TableDay` is a Gregorian date that is not earlier than the first table day and not later than the last.
+-- ---- ONE TO ONE. `BsIn` is a BS date of the table; a `TableDay` is a Gregorian date from the first table day to the last.
 pub record OneToOne (c : Calendar) : Type 0 where
   -- each BS date of the table has a table day, and each table day a BS date of the table
   pub to : (y m d : ℕ) → BsIn c y m d → (x : Date) × ((toAd c y m d ≡ answered x) × TableDay c x)
@@ -87,7 +72,8 @@ bs-valid c y m d g b = record { month = in-table c y m g (b .0) (b .1 .0); day-f
 valid-bs : (c : Calendar) (y m d : ℕ) → Days.Valid c y m d → BsIn c y m d
 valid-bs c y m d v = let k = v .month in ((k .year-from, k .year-to), ((k .month-from, k .month-to), (v .day-from, v .day-to)))
 
-matched : (c : Calendar) → Ad.Served c → OneToOne c
+-- for every calendar that is good and whose days are Gregorian dates
+pub matched : (c : Calendar) → Ad.Served c → OneToOne c
 unfolding toAd fromAd validBs monthLen
 matched c s =
     record {
@@ -123,17 +109,20 @@ no-table t rows e =
       from = λ y m d. given-off _ 1 _ e;
     }
 
+-- for every two good calendars of which the longer begins as the shorter does
+pub extended : (c e : Calendar) → Longer.Extends c e → Steady c e
+extended c e x =
+    record {
+      len = Longer.len-longer c e x;
+      valid = Longer.valid-longer c e x;
+      to = Longer.to-longer c e x;
+      from = Longer.from-longer c e x;
+      len-added = Longer.len-added c e x;
+      valid-added = Longer.valid-added c e x;
+      to-added = Longer.to-added c e x;
+      from-added = Longer.from-added c e x;
+    }
+
 -- for every accepted table, and the same with more rows where that is accepted too
 pub steady : (t : Table) (rows more : List ℕ) → accepted t rows ≡ true → accepted t (rows ++ more) ≡ true → Steady (flat t rows) (flat t (rows ++ more))
-steady t rows more a b =
-    let x = Longer.extends t rows more a b in
-    record {
-      len = Longer.len-longer _ _ x;
-      valid = Longer.valid-longer _ _ x;
-      to = Longer.to-longer _ _ x;
-      from = Longer.from-longer _ _ x;
-      len-added = Longer.len-added _ _ x;
-      valid-added = Longer.valid-added _ _ x;
-      to-added = Longer.to-added _ _ x;
-      from-added = Longer.from-added _ _ x;
-    }
+steady t rows more a b = extended _ _ (Longer.extends t rows more a b)

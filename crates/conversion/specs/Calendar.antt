@@ -12,6 +12,7 @@ use Rattle.conversion.specs.declared.BsDate.{BsDate}
 use Rattle.conversion.specs.declared.Placed.{Placed}
 use Rattle.conversion.specs.declared.Placed.the-variants as P
 
+-- whether the table behind it is accepted, the first BS year, the first day, how many years, and the lengths of the months
 pub record Calendar : Type 0 where
   pub good : Bool
   pub first : ℕ
@@ -45,17 +46,19 @@ ofMonth c y m a = given (c .good) 1 (given (yearOk c y) 4 (given (monthOk m) 5 a
 abbrev pub ofDate : {A : Type 0} → Calendar → ℕ → ℕ → ℕ → A → Answer A
 ofDate c y m d x = ofMonth c y m (given (dayOk c y m d) 6 (answered x))
 
--- whether there is such a date: nothing but the refusals
+-- whether there is such a date: refusals 1, 4, 5, 6, else yes
 unfoldable pub validBs : Calendar → ℕ → ℕ → ℕ → Answer Unit
 validBs c y m d = ofDate c y m d tt
 
--- the number of a day
+-- the number of day d of month m of year i
 abbrev pub dayAt : Calendar → ℕ → ℕ → ℕ → ℕ
 dayAt c i m d = c .start + sum (yearLen c) i + sum (c .len i) m + d
 
+-- the length of a month: refusals 1, 4, 5
 unfoldable pub monthLen : Calendar → ℕ → ℕ → Answer ℕ
 monthLen c y m = ofMonth c y m (answered (c .len (y - c .first) (m - 1)))
 
+-- the number of a BS date's day: refusals 1, 4, 5, 6
 unfoldable pub toDay : Calendar → ℕ → ℕ → ℕ → Answer ℕ
 toDay c y m d = ofDate c y m d (dayAt c (y - c .first) (m - 1) (d - 1))
 
@@ -66,6 +69,7 @@ unfoldable pub last : (ℕ → ℕ) → ℕ → ℕ → ℕ
 last f zero r = 0
 last f (suc n) r = cond (leb (sum f n) r) n (last f n r)
 
+-- that day as a BS date
 abbrev pub dateAt : Calendar → ℕ → ℕ → ℕ → BsDate
 dateAt c i m d = record { year = c .first + i; month = m + 1; day = d + 1 }
 

@@ -33,28 +33,21 @@ pub fn row_days(rows: &[u16], i: usize) -> u32
     if good { days as u32 } else { 0 }
 }
 
-// A pass with one row more: i rows with their days.
+// A pass with one row more, so that i rows have these days: how far it reached.
 pub fn further(p: Passed, i: usize, days: u32, until: usize, day: u32) -> Passed
     ensures { λ r. ⌜ r ≡ furtherOf p i days until day ⌝ }
 {
-    if until < i {
+    if (i <= until) & (days <= day) {
         return Passed {
             days,
-            row: p.row,
-            before: p.before,
-        };
-    }
-    if day < days {
-        return Passed {
-            days,
-            row: p.row,
-            before: p.before,
+            row: i,
+            before: days,
         };
     }
     Passed {
         days,
-        row: i,
-        before: days,
+        row: p.row,
+        before: p.before,
     }
 }
 

@@ -6,12 +6,10 @@ pub mod tags;
 mod words;
 
 pub use floats::float_of;
-pub use input::Input;
-pub use input::Next;
-pub use input::next_line;
-pub use input::open;
+pub use input::Turn;
+pub use input::begin;
+pub use input::next;
 pub use output::Out;
-pub use output::empty;
 pub use words::Whole;
 pub use words::Words;
 pub use words::split;

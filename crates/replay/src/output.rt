@@ -54,10 +54,10 @@ impl Out {
         }
     }
 
-    // Room for a word of at most thirty bytes.
-    fn ready(self, buffer: &[u8]) -> Out {
+    // Room for so many bytes, where the buffer has that many.
+    pub fn room(self, buffer: &[u8], bytes: usize) -> Out {
         if self.at <= buffer.len() {
-            if 32 <= buffer.len() - self.at {
+            if bytes <= buffer.len() - self.at {
                 return self;
             }
         }
@@ -66,7 +66,7 @@ impl Out {
 
     // A word of at most thirty bytes.
     pub fn word(self, buffer: &mut [u8], word: &[u8]) -> Out {
-        let o = self.ready(buffer);
+        let o = self.room(buffer, 32);
         let at = put_space(buffer, o.at, o.begun);
         Out {
             at: text::put(buffer, at, word),
@@ -77,7 +77,7 @@ impl Out {
 
     // A decimal number.
     pub fn number(self, buffer: &mut [u8], n: u64) -> Out {
-        let o = self.ready(buffer);
+        let o = self.room(buffer, 32);
         let at = put_space(buffer, o.at, o.begun);
         Out {
             at: text::put_decimal(buffer, at, n),
@@ -88,7 +88,7 @@ impl Out {
 
     // A float by its bits, or nan.
     pub fn float(self, buffer: &mut [u8], x: f64) -> Out {
-        let o = self.ready(buffer);
+        let o = self.room(buffer, 32);
         let at = put_space(buffer, o.at, o.begun);
         Out {
             at: floats::put_float(buffer, at, x),
@@ -97,9 +97,12 @@ impl Out {
         }
     }
 
-    // The end of the line.
+    // The end of the line, if it has a word.
     pub fn end(self, buffer: &mut [u8]) -> Out {
-        let o = self.ready(buffer);
+        if !self.begun {
+            return self;
+        }
+        let o = self.room(buffer, 32);
         Out {
             at: text::put(buffer, o.at, b"\n"),
             begun: false,

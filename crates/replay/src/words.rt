@@ -3,7 +3,7 @@ ghost use mathlib.Core.Path.{_≡_};
 ghost use Prim.Native.Nat.{_<_, _≤_};
 ghost use mathlib.Core.Bool.{true, false};
 ghost use lib.Ieee.{binary64, ofBits};
-ghost use lib.ListN.{drop, getD};
+ghost use lib.ListN.{take, drop, getD};
 ghost use Rattle.text.specs.Reading.{Says, readSays, readEnd};
 ghost use Rattle.replay.specs.Line as Line;
 ghost use Rattle.replay.specs.Line.{letter, letters, kindOf, kinded, foundSays, foundEnd, foundKind, unformed, wordsOf, fitting, wholeOf};
@@ -103,8 +103,8 @@ fn out_of_form() -> Words
     }
 }
 
-// The words of a line.
-pub fn split(s: &[u8]) -> Words
+// The words of a whole text.
+fn split_all(s: &[u8]) -> Words
     ensures { λ r. ⌜ r ≡ wordsOf (now (s .entry)) ⌝ }
 {
     let Read::Number(tag, after) = read_tag(s) else {
@@ -130,6 +130,16 @@ pub fn split(s: &[u8]) -> Words
         k += 1;
     }
     Words { tag, form, values }
+}
+
+// The words of the line that is the first n bytes of a buffer.
+pub fn split(line: &[u8], n: usize) -> Words
+    ensures { λ r. ⌜ r ≡ wordsOf (take n (now (line .entry))) ⌝ }
+{
+    if n <= line.len() {
+        return split_all(&line[..n]);
+    }
+    split_all(line)
 }
 
 impl Words {

@@ -1,4 +1,4 @@
--- `replay::input::fill_on` meets its contract. Assumes nothing.
+-- `replay::input::fill_on` is proved. Assumes nothing.
 use mathlib.Core.Path.{sym}
 use lib.Seq.{length-take-le}
 use borrow.Author.Needs.{needs}
@@ -6,7 +6,7 @@ use Rattle.replay.proofs.input.fill_on.Statement.{statement}
 use Rattle.replay.proofs.input.fill_on.Tie as tie
 
 slice-aggregate-fill : tie.Need-slice-aggregate-fill
-slice-aggregate-fill c = sym (length-take-le (c .before .before .before .before .args .input .to) (c .before .before .before .before .args .piece .now) (c .before .if1 .taken))
+slice-aggregate-fill c = sym (length-take-le (c .before .before .before .before .args .to) (c .before .before .before .before .args .piece .now) (c .before .if1 .taken))
 
 fill-requires : tie.Need-fill-requires
 fill-requires c κs = search needs

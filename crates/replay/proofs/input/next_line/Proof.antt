@@ -1,25 +1,23 @@
--- `replay::input::next_line` meets its contract: what is held lies in the buffer, and the steps fall. Assumes nothing.
-use Prim.Native.Nat.{_-_, _≤_}
-use mathlib.Core.Path.{_≡_, refl, ap, _∙_}
+-- `replay::input::next_line` meets its contract: the steps fall. Assumes nothing.
+use Prim.Native.Nat.{_≤_}
+use mathlib.Core.Path.{_≡_, refl, _∙_}
 use native.Mathlib.Omega.{arith}
 use lib.ListN.{length}
-use Rattle.text.specs.Kept.{heldOf}
-use Rattle.replay.proofs.Hands.{handed-over, held-on}
 use borrow.Author.Needs.{needs}
 use Rattle.replay.proofs.input.next_line.Statement.{statement}
 use Rattle.replay.proofs.input.next_line.Tie as tie
 
 abbrev Inv-loop : tie.InvT-loop
-Inv-loop piece₀ line₀ held₀ rest₀ piece line held rest = (length piece ≡ length piece₀) × (length line ≡ length line₀) × (held .kept ≤ length line) × (rest .left ≤ rest₀ .left)
+Inv-loop piece₀ line₀ held₀ left₀ from₀ to₀ piece line held left from to = (length piece ≡ length piece₀) × (length line ≡ length line₀) × (left ≤ left₀)
 
 abbrev μ-loop : tie.MeasureT-loop
-μ-loop piece₀ line₀ held₀ rest₀ piece line held rest = rest .left
+μ-loop piece₀ line₀ held₀ left₀ from₀ to₀ piece line held left from to = left
 
 nothing-requires : tie.Need-nothing-requires Inv-loop μ-loop
 nothing-requires c κs = search needs
 
 loop-holds : tie.Need-loop-holds Inv-loop μ-loop
-loop-holds c = (refl, refl, omega (arith, c .nothing .ensures .0), omega arith)
+loop-holds c = (refl, refl, omega arith)
 
 sub-left : tie.Need-sub-left Inv-loop μ-loop
 sub-left c = search needs
@@ -34,16 +32,13 @@ handed-requires : tie.Need-handed-requires Inv-loop μ-loop
 handed-requires c κs = search needs
 
 same-length : tie.Need-same-length Inv-loop μ-loop
-same-length c = c .before .before .before .before .before .before .before .before .before .before .before .before .loop .inv .0
+same-length c = c .before .before .before .before .before .before .before .before .before .before .loop .inv .0
 
 same-length-2 : tie.Need-same-length-2 Inv-loop μ-loop
-same-length-2 c = c .before .before .before .before .before .before .fill-on .kept .1 .1 .0 ∙ c .before .before .before .before .before .before .before .before .before .before .before .before .loop .inv .1
+same-length-2 c = c .before .before .before .before .before .before .fill-on .kept .1 .1 .1 .0 ∙ c .before .before .before .before .before .before .before .before .before .before .loop .inv .1
 
 returns : tie.Need-returns Inv-loop μ-loop
-returns c = let l = c .before .before .before .before .before .before .before .before .before .before .before .before .loop in
-    let f = c .before .before .before .before .before .before .fill-on in
-    let k = held-on (f .result) (f .ensures) (l .inv .2) (ap heldOf (c .before .before .h .given .1)) in
-    handed-over _ _ (l .rest .left - 1) _ (c .handed .result) (c .handed .ensures) (omega (arith, f .kept .1 .1 .0)) (omega arith)
+returns c = search needs
 
 enum-known-h-2 : tie.Need-enum-known-h-2 Inv-loop μ-loop
 enum-known-h-2 c = search needs
@@ -58,10 +53,7 @@ loop-less : tie.Need-loop-less Inv-loop μ-loop
 loop-less c = search needs
 
 loop-again : tie.Need-loop-again Inv-loop μ-loop
-loop-again c = let l = c .before .before .before .before .before .before .before .before .before .before .before .before .before .before .before .before .before .before .loop in
-    let f = c .before .before .before .before .before .before .before .before .before .before .before .before .fill-on in
-    let k = held-on (f .result) (f .ensures) (l .inv .2) (ap heldOf (c .before .before .before .before .before .before .before .before .h2 .given .1)) in
-    (c .before .before .before .before .before .read-piece .kept .0 ∙ l .inv .0, f .kept .1 .1 .0 ∙ l .inv .1, omega (arith, f .kept .1 .1 .0), omega arith)
+loop-again c = let l = c .before .before .before .before .before .before .before .before .before .before .before .before .before .before .before .before .loop in (c .before .before .before .before .before .read-piece .kept .0 ∙ l .inv .0, c .before .before .before .before .before .before .before .before .before .before .before .before .fill-on .kept .1 .1 .1 .0 ∙ l .inv .1, omega arith)
 
 enum-told : tie.Need-enum-told Inv-loop μ-loop
 enum-told c = search needs
@@ -70,28 +62,31 @@ last-requires : tie.Need-last-requires Inv-loop μ-loop
 last-requires c κs = search needs
 
 same-length-3 : tie.Need-same-length-3 Inv-loop μ-loop
-same-length-3 c = c .before .before .before .before .before .read-piece .kept .0 ∙ c .before .before .before .before .before .before .before .before .before .before .before .before .before .before .before .before .before .before .loop .inv .0
+same-length-3 c = c .before .before .before .before .before .read-piece .kept .0 ∙ c .before .before .before .before .before .before .before .before .before .before .before .before .before .before .before .before .loop .inv .0
 
 same-length-4 : tie.Need-same-length-4 Inv-loop μ-loop
-same-length-4 c = c .before .before .before .before .before .before .before .before .before .before .before .before .fill-on .kept .1 .1 .0 ∙ c .before .before .before .before .before .before .before .before .before .before .before .before .before .before .before .before .before .before .loop .inv .1
+same-length-4 c = c .before .before .before .before .before .before .before .before .before .before .before .before .fill-on .kept .1 .1 .1 .0 ∙ c .before .before .before .before .before .before .before .before .before .before .before .before .before .before .before .before .loop .inv .1
 
 returns-2 : tie.Need-returns-2 Inv-loop μ-loop
-returns-2 c = let l = c .before .before .before .before .before .before .before .before .before .before .before .before .before .before .before .before .before .before .loop in
-    let f = c .before .before .before .before .before .before .before .before .before .before .before .before .fill-on in
-    let k = held-on (f .result) (f .ensures) (l .inv .2) (ap heldOf (c .before .before .before .before .before .before .before .before .h2 .given .1)) in
-    handed-over _ _ (l .rest .left - 1) _ (c .last .result) (c .last .ensures) (omega (arith, f .kept .1 .1 .0)) (omega arith)
+returns-2 c = search needs
 
 enum-told-2 : tie.Need-enum-told-2 Inv-loop μ-loop
 enum-told-2 c = search needs
 
+over-requires : tie.Need-over-requires Inv-loop μ-loop
+over-requires c κs = search needs
+
 same-length-5 : tie.Need-same-length-5 Inv-loop μ-loop
-same-length-5 c = c .before .before .before .before .read-piece .kept .0 ∙ c .before .before .before .before .before .before .before .before .before .before .before .before .before .before .before .before .before .loop .inv .0
+same-length-5 c = c .before .before .before .before .before .read-piece .kept .0 ∙ c .before .before .before .before .before .before .before .before .before .before .before .before .before .before .before .before .loop .inv .0
 
 same-length-6 : tie.Need-same-length-6 Inv-loop μ-loop
-same-length-6 c = c .before .before .before .before .before .before .before .before .before .before .before .fill-on .kept .1 .1 .0 ∙ c .before .before .before .before .before .before .before .before .before .before .before .before .before .before .before .before .before .loop .inv .1
+same-length-6 c = c .before .before .before .before .before .before .before .before .before .before .before .before .fill-on .kept .1 .1 .1 .0 ∙ c .before .before .before .before .before .before .before .before .before .before .before .before .before .before .before .before .loop .inv .1
 
 returns-3 : tie.Need-returns-3 Inv-loop μ-loop
 returns-3 c = search needs
+
+over-requires-2 : tie.Need-over-requires-2 Inv-loop μ-loop
+over-requires-2 c κs = search needs
 
 same-length-7 : tie.Need-same-length-7 Inv-loop μ-loop
 same-length-7 c = c .before .before .loop .inv .0
@@ -128,9 +123,11 @@ next-line-spec =
     same-length-4
     returns-2
     enum-told-2
+    over-requires
     same-length-5
     same-length-6
     returns-3
+    over-requires-2
     same-length-7
     same-length-8
     returns-4)
