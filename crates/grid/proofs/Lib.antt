@@ -1,0 +1,9 @@
+pub mod Signed
+pub mod Stepped
+pub mod Marks
+pub mod Pages
+pub mod Weeks
+pub mod Grids
+pub mod Asked
+pub mod Theorems
+pub mod Unique

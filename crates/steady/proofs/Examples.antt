@@ -1,0 +1,83 @@
+-- The examples of document 01 that are marked P hold; and its month 100/2 in weeks. Assumes nothing.
+use Prim.Native.Nat.{ℕ, _-_}
+use mathlib.Core.Path.{_≡_, refl, ap, _∙_}
+use mathlib.Core.Bool.{true}
+use mathlib.Core.List.{List, [], _∷_}
+use lib.Dec.{T}
+use lib.ListN.{length, take, drop, replicate}
+use lib.IntN.{pos, negsuc}
+use Rattle.paper.specs.Answers.{answered, refused, given}
+use Rattle.paper.specs.Sums.{sum, all}
+use Rattle.gregorian.specs.declared.Date.{Date}
+use Rattle.gregorian.specs.Calendar.{isDate, dayNumber, weekdayOf}
+use Rattle.gregorian.specs.Answers.{real}
+use Rattle.gregorian.proofs.Laws.{of-number, real-of}
+use Rattle.conversion.specs.declared.BsDate.{BsDate}
+use Rattle.conversion.specs.Calendar.{bs, dayAt, toDay, toAd, fromDay, fromAd}
+use Rattle.conversion.specs.Flat.{rowOk, accepted, date}
+use Rattle.conversion.proofs.Ad.{number-ad, served, ad-to-from}
+use Rattle.rules.specs.declared.lists.Day.{Day}
+use Rattle.rules.specs.Festivals.{Pair}
+use Rattle.panchanga.specs.declared.lunar.Reading.{Reading}
+use Rattle.grid.specs.Cells.{blank}
+use Rattle.grid.specs.Month.{gridOf}
+use Rattle.grid.specs.Step.{absolute, wholeYears, monthsLeft, monthAt, stepMonth}
+use Rattle.grid.proofs.Theorems.{cell-count, blanks-before, blanks-after}
+use Rattle.steady.specs.Own.{ownTable, ownRows, own}
+use Rattle.steady.specs.Examples.{Says, AllSay, is, noBs, noAd, step, noStep, examples}
+
+good : own .good ≡ true
+unfolding accepted rowOk all sum isDate dayNumber
+good = refl
+
+-- a date by its number
+by-number : (t : BsDate) (x : Date) → toDay own (t .year) (t .month) (t .day) ≡ answered (dayNumber x) → T (real x) → Says (is t x)
+unfolding Says
+by-number t x e r =
+    let a : toAd own (t .year) (t .month) (t .day) ≡ answered x = number-ad own (served ownTable ownRows good) _ _ _ _ e ∙ ap answered (of-number x (real-of x r)) in
+    (a, ad-to-from own (served ownTable ownRows good) _ _ _ x a)
+
+-- THE EXAMPLES
+pub checked : AllSay examples
+unfolding AllSay Says examples toDay toAd fromAd fromDay given accepted rowOk all sum isDate dayNumber stepMonth monthAt absolute wholeYears monthsLeft
+checked = (
+  by-number (bs 100 1 1) (date 1950 1 1) refl tt,
+  (
+    by-number (bs 100 2 29) (date 1950 3 1) refl tt,
+    (
+      by-number (bs 100 4 1) (date 1950 4 5) refl tt,
+      (
+        by-number (bs 100 12 30) (date 1950 12 31) refl tt,
+        (
+          by-number (bs 101 1 1) (date 1951 1 1) refl tt,
+          (
+            by-number (bs 101 12 31) (date 1952 1 1) refl tt,
+            (refl, (refl, (refl, (refl, (refl, (refl, (refl, tt))))))),
+          ),
+        ),
+      ),
+    ),
+  ),
+)
+
+-- ---- month 100/2 of the own table, whatever its lists and readings are
+
+abbrev firstNumber : ℕ
+firstNumber = dayAt own (100 - own .first) (2 - 1) 0
+
+abbrev days : ℕ
+days = own .len (100 - own .first) (2 - 1)
+
+wednesday : weekdayOf firstNumber ≡ 3
+unfolding sum dayNumber
+wednesday = refl
+
+-- 3 blanks before, 1 after, 35 cells
+pub month-100-2 : (list : Day → List Pair) (reading : Day → Reading) (today : Date)
+    → let g = gridOf list reading today 100 2 firstNumber days in
+    (length (g .cells) ≡ 35) × (take 3 (g .cells) ≡ replicate 3 blank) × (drop 34 (g .cells) ≡ replicate 1 blank)
+month-100-2 list reading today = (
+  rw wednesday at (cell-count list reading today 100 2 firstNumber days),
+  rw wednesday at (blanks-before list reading today 100 2 firstNumber days),
+  rw wednesday at (blanks-after list reading today 100 2 firstNumber days),
+)
