@@ -38,3 +38,12 @@ then-refused k f = refl
 -- what an answer says tells the answer, where it can be read back
 pub told-by : {R A : Type 0} (says : R → A) (back : A → R) → ((r : R) → back (says r) ≡ r) → (r s : R) → says r ≡ says s → r ≡ s
 told-by says back h r s e = sym (h r) ∙ ap back e ∙ h s
+
+-- a test passed leaves the answer, a test failed gives the refusal
+pub given-on : {A : Type 0} (b : Bool) (k : ℕ) (a : Answer A) → b ≡ true → given b k a ≡ a
+unfolding given
+given-on b k a e = rw e
+
+pub given-off : {A : Type 0} (b : Bool) (k : ℕ) (a : Answer A) → b ≡ false → given b k a ≡ refused k
+unfolding given
+given-off b k a e = rw e

@@ -3,3 +3,5 @@ pub mod Answers
 pub mod Sums
 pub mod Stores
 pub mod Floats
+pub mod Within
+pub mod Between

@@ -62,3 +62,8 @@ all-not p n k h e = go (all p n) refl
     go : (t : Bool) → all p n ≡ t → t ≡ false
     go true q = sym (all-at p n q k h) ∙ e
     go false q = refl
+
+-- a test that passes at each place passes at all
+pub all-every : (p : ℕ → Bool) (n : ℕ) → ((k : ℕ) → k < n → p k ≡ true) → all p n ≡ true
+all-every p zero h = all-zero p
+all-every p (suc n) h = rw (all-suc, all-every p n (λ k l. h k (omega arith)), h n (omega arith))

@@ -62,3 +62,12 @@ at f (suc n) t k h =
       | inl e ↦ subst (λ (m : ℕ). T (f m)) (sym e) (both-left (f n) (below f n) t)
       | inr l ↦ at f n (both-right (f n) (below f n) t) k l
     ]
+
+-- a test that cannot pass fails; so do two of which not both can pass
+pub never : (b : Bool) → (b ≡ true → ⊥) → b ≡ false
+never true h = absurd (h refl)
+never false h = refl
+
+pub and-never : (a b : Bool) → (a ≡ true → b ≡ true → ⊥) → (a && b) ≡ false
+and-never true b h = never b (h refl)
+and-never false b h = refl

@@ -1,0 +1,232 @@
+-- BS dates and day numbers, for every calendar: what converts, both ways, and where a day lies. Assumes nothing.
+use Prim.Native.Nat.{ℕ, _+_, _-_, _≤_, _<_}
+use mathlib.Core.Path.{_≡_, refl, ap, _∙_}
+use mathlib.Core.Bool.{Bool, true, false, _&&_, cond}
+use native.Mathlib.Omega.{arith}
+use borrow.Author.Tests.{leb-true, leb-false, le-leb, ltb-true, lt-ltb, le-ltb}
+use lib.Dec.{leb, ltb}
+use Rattle.paper.specs.Answers.{Answer, answered, refused, given, then}
+use Rattle.paper.specs.Sums.{sum}
+use Rattle.paper.proofs.Answers.{answered-same, given-answered, given-then, given-on, given-off, then-answered, then-refused}
+use Rattle.paper.proofs.Sums.{sum-past}
+use Rattle.paper.proofs.Tests.{and-left, and-right, and-both, and-never}
+use Rattle.conversion.specs.declared.BsDate.{BsDate}
+use Rattle.conversion.specs.declared.Placed.{Placed}
+use Rattle.conversion.specs.declared.Placed.the-variants as P
+use Rattle.conversion.specs.Calendar.{Calendar, yearLen, end, yearOk, monthOk, dayOk, ofMonth, ofDate, dayAt, dateAt, dateInYear, dateAfter, monthLen, validBs, toDay, fromDay, placed}
+use Rattle.conversion.proofs.Places.{Within, last-is}
+
+-- ---- a month of the calendar
+pub record InTable (c : Calendar) (y m : ℕ) : Type 0 where
+  pub good : c .good ≡ true
+  pub year-from : c .first ≤ y
+  pub year-to : y < c .first + c .years
+  pub month-from : 1 ≤ m
+  pub month-to : m ≤ 12
+
+-- a question about a month: what is refused, and what is left
+module _ {A : Type 0} (c : Calendar) (y m : ℕ) (a : Answer A) where
+  pub no-table : c .good ≡ false → ofMonth c y m a ≡ refused 1
+  no-table g = given-off (c .good) 1 _ g
+
+  pub no-year : c .good ≡ true → (c .first ≤ y → y < c .first + c .years → ⊥) → ofMonth c y m a ≡ refused 4
+  no-year g h =
+      given-on (c .good) 1 _ g ∙ given-off (yearOk c y) 4 _ (and-never _ _ (λ p q. h (leb-true _ _ p) (ltb-true _ _ q)))
+
+  pub no-month : c .good ≡ true → c .first ≤ y → y < c .first + c .years → (1 ≤ m → m ≤ 12 → ⊥) → ofMonth c y m a ≡ refused 5
+  no-month g f t h =
+      given-on (c .good) 1 _ g
+      ∙ given-on (yearOk c y) 4 _ (and-both _ _ (le-leb _ _ f) (lt-ltb _ _ t))
+      ∙ given-off (monthOk m) 5 _ (and-never _ _ (λ p q. h (leb-true _ _ p) (leb-true _ _ q)))
+
+  pub of-month : InTable c y m → ofMonth c y m a ≡ a
+  of-month k =
+      given-on (c .good) 1 _ (k .good)
+      ∙ given-on (yearOk c y) 4 _ (and-both _ _ (le-leb _ _ (k .year-from)) (lt-ltb _ _ (k .year-to)))
+      ∙ given-on (monthOk m) 5 _ (and-both _ _ (le-leb _ _ (k .month-from)) (le-leb _ _ (k .month-to)))
+
+  pub in-month : {x : A} → ofMonth c y m a ≡ answered x → InTable c y m × (a ≡ answered x)
+  in-month e =
+      let p = given-answered (c .good) _ _ e in
+      let q = given-answered (yearOk c y) _ _ (p .1) in
+      let r = given-answered (monthOk m) _ _ (q .1) in (
+        record {
+          good = p .0;
+          year-from = leb-true _ _ (and-left (leb (c .first) y) _ (q .0));
+          year-to = ltb-true _ _ (and-right (leb (c .first) y) _ (q .0));
+          month-from = leb-true _ _ (and-left (leb 1 m) _ (r .0));
+          month-to = leb-true _ _ (and-right (leb 1 m) _ (r .0));
+        },
+        r .1,
+      )
+
+-- the length of a month tells that there is one
+pub len-told : (c : Calendar) (y m n : ℕ) → monthLen c y m ≡ answered n → InTable c y m × (c .len (y - c .first) (m - 1) ≡ n)
+unfolding monthLen
+len-told c y m n e = let k = in-month c y m _ e in (k .0, answered-same (k .1))
+
+-- ---- a date of the calendar
+pub record Valid (c : Calendar) (y m d : ℕ) : Type 0 where
+  pub month : InTable c y m
+  pub day-from : 1 ≤ d
+  pub day-to : d ≤ c .len (y - c .first) (m - 1)
+
+-- a question about a date: what is refused, and what is answered
+module _ {A : Type 0} (c : Calendar) (y m d : ℕ) (x : A) where
+  pub no-day : InTable c y m → (1 ≤ d → d ≤ c .len (y - c .first) (m - 1) → ⊥) → ofDate c y m d x ≡ refused 6
+  no-day k h =
+      of-month c y m _ k ∙ given-off (dayOk c y m d) 6 _ (and-never _ _ (λ p q. h (leb-true _ _ p) (leb-true _ _ q)))
+
+  pub of-date : Valid c y m d → ofDate c y m d x ≡ answered x
+  of-date v =
+      of-month c y m _ (v .month) ∙ given-on (dayOk c y m d) 6 _ (and-both _ _ (le-leb _ _ (v .day-from)) (le-leb _ _ (v .day-to)))
+
+  pub in-date : {z : A} → ofDate c y m d x ≡ answered z → Valid c y m d × (x ≡ z)
+  in-date e =
+      let p = in-month c y m _ e in
+      let q = given-answered (dayOk c y m d) _ _ (p .1) in (
+        record {
+          month = p .0;
+          day-from = leb-true _ _ (and-left (leb 1 d) _ (q .0));
+          day-to = leb-true _ _ (and-right (leb 1 d) _ (q .0));
+        },
+        answered-same (q .1),
+      )
+
+  -- by way of the length of the month; by way of whether it is a date at all
+  pub by-len : ofDate c y m d x ≡ then (monthLen c y m) (λ n. given (leb 1 d && leb d n) 6 (answered x))
+  unfolding monthLen
+  by-len = simp (given-then, then-answered)
+
+  pub by-valid : ofDate c y m d x ≡ then (validBs c y m d) (λ u. answered x)
+  unfolding validBs
+  by-valid = simp (given-then, then-answered)
+
+  pub len-refused : (k : ℕ) → monthLen c y m ≡ refused k → ofDate c y m d x ≡ refused k
+  len-refused k e = rw (by-len, e) (then-refused k _)
+
+  pub valid-refused : (k : ℕ) → validBs c y m d ≡ refused k → ofDate c y m d x ≡ refused k
+  valid-refused k e = rw (by-valid, e) (then-refused k _)
+
+pub valid-told : (c : Calendar) (y m d : ℕ) → validBs c y m d ≡ answered tt → Valid c y m d
+unfolding validBs
+valid-told c y m d e = in-date c y m d tt e .0
+
+-- exactly the dates have a number
+pub converts : (c : Calendar) (y m d : ℕ) → Valid c y m d → toDay c y m d ≡ answered (dayAt c (y - c .first) (m - 1) (d - 1))
+unfolding toDay
+converts c y m d v = of-date c y m d _ v
+
+pub converted : (c : Calendar) (y m d n : ℕ) → toDay c y m d ≡ answered n → Valid c y m d
+unfolding toDay
+converted c y m d n e = in-date c y m d _ e .0
+
+-- ---- a day of the table
+pub record OnTable (c : Calendar) (n : ℕ) : Type 0 where
+  pub good : c .good ≡ true
+  pub from : c .start ≤ n
+  pub to : n < end c
+
+-- exactly these convert back
+pub found : (c : Calendar) (n : ℕ) → OnTable c n → fromDay c n ≡ answered (dateAfter c (n - c .start))
+unfolding fromDay given
+found c n t = simp (t .good, le-leb _ _ (t .from), lt-ltb _ _ (t .to))
+
+pub on-table : (c : Calendar) (n : ℕ) (t : BsDate) → fromDay c n ≡ answered t → OnTable c n
+unfolding fromDay
+on-table c n t e =
+    let a = given-answered (c .good) _ _ e in
+    let b = given-answered _ _ _ (a .1) in
+    record {
+      good = a .0;
+      from = leb-true _ _ (and-left (leb (c .start) n) _ (b .0));
+      to = ltb-true _ _ (and-right (leb (c .start) n) _ (b .0));
+    }
+
+-- a day by its year, and by what is left in that year
+module _ (c : Calendar) (i r n : ℕ) (hi : i < c .years) (hr : r < yearLen c i) (e : c .start + sum (yearLen c) i + r ≡ n) where
+  in-year : dateAfter c (n - c .start) ≡ dateInYear c i r
+  in-year =
+      let a : n - c .start ≡ sum (yearLen c) i + r = omega arith in
+      let b : sum (yearLen c) i + r - sum (yearLen c) i ≡ r = omega arith in
+      let w : Within (yearLen c) (c .years) (sum (yearLen c) i + r) i = record { below = hi; from = omega arith; to = omega arith } in
+      rw (a, last-is (yearLen c) (c .years) _ i w, b)
+
+  before-end : n < end c
+  before-end = omega (arith, sum-past (yearLen c) i (c .years) hi)
+
+  pub from-in : c .good ≡ true → fromDay c n ≡ answered (dateInYear c i r)
+  from-in g = found c n (record { good = g; from = omega arith; to = before-end }) ∙ ap answered in-year
+
+  pub placed-in : placed c n ≡ P.Inside (dateInYear c i r)
+  unfolding placed
+  placed-in =
+      let a : c .start ≤ n = omega arith in
+      simp (le-ltb _ _ a, lt-ltb _ _ before-end, in-year)
+
+-- the date in a year
+pub date-is : (c : Calendar) (i m d r : ℕ) → Within (c .len i) 12 r m → r ≡ sum (c .len i) m + d → dateInYear c i r ≡ dateAt c i m d
+date-is c i m d r w e =
+    let a : r - sum (c .len i) m ≡ d = omega arith in
+    rw (last-is (c .len i) 12 r m w, a)
+
+module _ (c : Calendar) (i m d : ℕ) (hi : i < c .years) (hm : m < 12) (hd : d < c .len i m) where
+  pub from-at : c .good ≡ true → fromDay c (dayAt c i m d) ≡ answered (dateAt c i m d)
+  from-at g =
+      let r = sum (c .len i) m + d in
+      let w : Within (c .len i) 12 r m = record { below = hm; from = omega arith; to = omega arith } in
+      let l : r < yearLen c i = omega (arith, sum-past (c .len i) m 12 hm) in
+      from-in c i r (dayAt c i m d) hi l (omega arith) g ∙ ap answered (date-is c i m d r w (omega arith))
+
+  pub to-at : c .good ≡ true → toDay c (c .first + i) (m + 1) (d + 1) ≡ answered (dayAt c i m d)
+  to-at g =
+      let e : c .first + i - c .first ≡ i = omega arith in
+      let f : m + 1 - 1 ≡ m = omega arith in
+      let h : d + 1 - 1 ≡ d = omega arith in
+      let k : InTable c (c .first + i) (m + 1) = record {
+        good = g;
+        year-from = omega arith;
+        year-to = omega arith;
+        month-from = omega arith;
+        month-to = omega arith;
+      } in
+      let v : Valid c (c .first + i) (m + 1) (d + 1) = record { month = k; day-from = omega arith; day-to = rw (e, f) (omega arith) } in
+      rw (e, f, h) at (converts c _ _ _ v)
+
+-- a date's day is one of the table
+pub valid-on : (c : Calendar) (y m d : ℕ) → Valid c y m d → OnTable c (dayAt c (y - c .first) (m - 1) (d - 1))
+valid-on c y m d v =
+    let i = y - c .first in
+    record {
+      good = v .month .good;
+      from = omega arith;
+      to = omega (arith, sum-past (c .len i) (m - 1) 12 (omega arith), sum-past (yearLen c) i (c .years) (omega arith));
+    }
+
+-- where a day outside lies
+pub placed-before : (c : Calendar) (n : ℕ) → n < c .start → placed c n ≡ P.Before (c .start - n)
+unfolding placed
+placed-before c n h = simp (lt-ltb _ _ h)
+
+pub placed-after : (c : Calendar) (n r : ℕ) → n ≡ end c + r → placed c n ≡ P.After (r + 1)
+unfolding placed
+placed-after c n r e =
+    let a : c .start ≤ n = omega arith in
+    let b : end c ≤ n = omega arith in
+    let f : n - end c ≡ r = omega arith in
+    simp (le-ltb _ _ a, le-ltb _ _ b, f)
+
+-- the date of a day by where it lies: outside, on either side, is 7
+abbrev pub insideOnly : Placed → Answer BsDate
+insideOnly (P.Inside t) = answered t
+insideOnly (P.Before n) = refused 7
+insideOnly (P.After n) = refused 7
+
+pub from-placed : (c : Calendar) (n : ℕ) → c .good ≡ true → fromDay c n ≡ insideOnly (placed c n)
+unfolding fromDay placed given
+from-placed c n g = given-on (c .good) 1 _ g ∙ go (leb (c .start) n) refl (ltb n (end c)) refl
+  where
+    go : (a : Bool) → leb (c .start) n ≡ a → (b : Bool) → ltb n (end c) ≡ b → given (a && b) 7 (answered (dateAfter c (n - c .start))) ≡ insideOnly (cond (ltb n (c .start)) (P.Before (c .start - n)) (cond b (P.Inside (dateAfter c (n - c .start))) (P.After (n - end c + 1))))
+    go true e true f = rw (le-ltb _ _ (leb-true _ _ e))
+    go true e false f = rw (le-ltb _ _ (leb-true _ _ e))
+    go false e b f = rw (lt-ltb _ _ (leb-false _ _ e))

@@ -1,0 +1,27 @@
+use mathlib.Core.Path.{sym, ap, _∙_}
+use borrow.Author.Needs.{needs}
+use Rattle.gregorian.specs.Answers.{dateSays}
+use Rattle.paper.proofs.Answers.{answered-same, refused-answered, given-on}
+use Rattle.conversion.proofs.date_of.Statement.{statement}
+use Rattle.conversion.proofs.date_of.Tie as tie
+
+from-day-number-requires : tie.Need-from-day-number-requires
+from-day-number-requires c κs = search needs
+
+enum-known-date : tie.Need-enum-known-date
+enum-known-date c = search needs
+
+enum-told : tie.Need-enum-told
+enum-told c = search needs
+
+returns : tie.Need-returns
+returns c =
+    answered-same (sym (ap dateSays (c .before .date .given .1)) ∙ c .before .before .before .from-day-number .ensures ∙ given-on _ _ _ (c .before .before .before .before .pre))
+
+returns-2 : tie.Need-returns-2
+returns-2 c =
+    absurd (refused-answered (ap dateSays (c .enum-told .given .1)) (c .before .before .from-day-number .ensures ∙ given-on _ _ _ (c .before .before .before .pre)))
+
+pub date-of-spec : {M : Type 1} → statement M
+date-of-spec =
+    tie.close (tie.spec from-day-number-requires enum-known-date enum-told returns returns-2)

@@ -1,0 +1,118 @@
+use Prim.Native.Nat.{_-_}
+use mathlib.Core.Path.{sym, ap, _∙_}
+use native.Mathlib.Omega.{arith}
+use borrow.Author.Needs.{needs}
+use denote.Ref.{now}
+use Rattle.conversion.specs.Calendar.{toDay}
+use Rattle.conversion.specs.Flat.{flat}
+use Rattle.conversion.specs.Answers.{checkSays}
+use Rattle.conversion.proofs.Accepted.{Facts, facts, starts, years-in, years-sum}
+use Rattle.conversion.proofs.Days.{Valid, valid-told, valid-refused, converts}
+use Rattle.conversion.proofs.day_of.Statement.{statement}
+use Rattle.conversion.proofs.day_of.Tie as tie
+
+date-check-requires : tie.Need-date-check-requires
+date-check-requires c κs = search needs
+
+enum-told : tie.Need-enum-told
+enum-told c = search needs
+
+enum-told-2 : tie.Need-enum-told-2
+enum-told-2 c = search needs
+
+enum-told-3 : tie.Need-enum-told-3
+enum-told-3 c = search needs
+
+enum-told-4 : tie.Need-enum-told-4
+enum-told-4 c = search needs
+
+-- where the date is one of the table
+known : (c : tie.After-enum-told4) → let a = c .before .before .before .before .args in Valid (flat (a .table) (now (a .rows))) (a .date .year) (a .date .month) (a .date .day)
+known c = valid-told _ _ _ _ (sym (c .before .before .date-check .ensures) ∙ ap checkSays (c .enum-told4 .given .1))
+
+table : (c : tie.After-enum-told4) → let a = c .before .before .before .before .args in Facts (a .table) (now (a .rows))
+table c = facts _ _ (c .before .before .before .before .pre)
+
+sub-i : tie.Need-sub-i
+sub-i c = known (c .before .before) .month .year-from
+
+cast-i : tie.Need-cast-i
+cast-i c = search needs
+
+first-day-requires : tie.Need-first-day-requires
+first-day-requires c κs = search needs
+
+span-requires : tie.Need-span-requires
+span-requires c κs =
+    let a = c .before .before .before .before .before .before .before .args in
+    let k = known (c .before .before .before) .month in
+    years-in _ _ (table (c .before .before .before)) (a .date .year - a .table .«first_year») (omega arith)
+
+add-first : tie.Need-add-first
+add-first c =
+    let f = table (c .before .before .before .before) in
+    let k = known (c .before .before .before .before) .month in
+    omega (arith, starts _ _ (f .frame), c .span .ensures .most)
+
+day-in-row-requires : tie.Need-day-in-row-requires
+day-in-row-requires c κs =
+    let f = table (c .before .before .before .before) in
+    let k = known (c .before .before .before .before) in
+    record {
+      row = omega arith;
+      early = omega (arith, starts _ _ (f .frame), c .span .ensures .most);
+      month-from = k .month .month-from;
+      month-to = k .month .month-to;
+      day-from = k .day-from;
+    }
+
+returns : tie.Need-returns
+unfolding toDay
+returns c =
+    let a = c .before .before .before .before .args in
+    let d = a .date in
+    sym (valid-refused (flat (a .table) (now (a .rows))) (d .year) (d .month) (d .day) _ 4 (sym (c .before .before .date-check .ensures) ∙ ap checkSays (c .enum-told .given .1)))
+
+returns-2 : tie.Need-returns-2
+unfolding toDay
+returns-2 c =
+    let a = c .before .before .before .before .args in
+    let d = a .date in
+    sym (valid-refused (flat (a .table) (now (a .rows))) (d .year) (d .month) (d .day) _ 5 (sym (c .before .before .date-check .ensures) ∙ ap checkSays (c .enum-told2 .given .1)))
+
+returns-3 : tie.Need-returns-3
+unfolding toDay
+returns-3 c =
+    let a = c .before .before .before .before .args in
+    let d = a .date in
+    sym (valid-refused (flat (a .table) (now (a .rows))) (d .year) (d .month) (d .day) _ 6 (sym (c .before .before .date-check .ensures) ∙ ap checkSays (c .enum-told3 .given .1)))
+
+returns-4 : tie.Need-returns-4
+returns-4 c =
+    let a = c .before .before .before .before .before .before .before .before .before .args in
+    let f = table (c .before .before .before .before .before) in
+    let k = known (c .before .before .before .before .before) in
+    let i = a .date .year - a .table .«first_year» in
+    let years = c .before .span .ensures .whole ∙ years-sum _ _ f i (omega arith) in
+    let start = c .before .before .first-day .ensures ∙ starts _ _ (f .frame) in
+    sym (rw (converts _ _ _ _ k, c .day-in-row .ensures, years, start))
+
+pub day-of-spec : {M : Type 1} → statement M
+day-of-spec =
+    tie.close
+    (tie.spec
+    date-check-requires
+    enum-told
+    enum-told-2
+    enum-told-3
+    enum-told-4
+    sub-i
+    cast-i
+    first-day-requires
+    span-requires
+    add-first
+    day-in-row-requires
+    returns
+    returns-2
+    returns-3
+    returns-4)

@@ -1,0 +1,5 @@
+-- Conversion between Bikram Sambat and Gregorian dates, over a lent year table.
+pub mod Calendar
+pub mod Flat
+pub mod Answers
+pub mod Inner

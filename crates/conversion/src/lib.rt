@@ -1,0 +1,339 @@
+// Conversion between Bikram Sambat and Gregorian dates, over a lent year table.
+ghost use mathlib.Core.Path.{_≡_};
+ghost use mathlib.Core.Bool.{true};
+ghost use Prim.Native.Nat.{_+_, _-_, _<_};
+ghost use Rattle.paper.specs.Sums.{sum};
+ghost use Rattle.gregorian.specs.Calendar.{dateOf};
+ghost use Rattle.gregorian.specs.Answers.{numbered};
+ghost use Rattle.conversion.specs.Calendar.{monthLen, validBs, toDay, dateInYear, placed, toAd, fromAd};
+ghost use Rattle.conversion.specs.Flat.{accepted, flat, lens, rowCount};
+ghost use Rattle.conversion.specs.Inner.{numberOrZero, firstNumber, InRow, PlacedIn};
+ghost use Rattle.conversion.specs.Answers.{daysSays, checkSays, daySays, monthLenSays, validSays, adSays, bsSays};
+
+mod check;
+mod columns;
+
+use gregorian::Date;
+use gregorian::DateAnswer;
+use gregorian::NumberAnswer;
+
+// What a table says besides its rows: the first BS year, and the Gregorian date of its first day.
+pub struct Table {
+    pub first_year: u16,
+    pub year: u16,
+    pub month: u16,
+    pub day: u16,
+}
+
+pub struct BsDate {
+    pub year: u16,
+    pub month: u16,
+    pub day: u16,
+}
+
+// The length of a month, or refusal 4 or 5.
+pub enum MonthDays {
+    Days(u16),
+    NoYear,
+    NoMonth,
+}
+
+// The length of a month, or refusal 1, 4 or 5.
+pub enum MonthLen {
+    Days(u16),
+    BadTable,
+    NoYear,
+    NoMonth,
+}
+
+// Whether there is such a date: yes, or refusal 1, 4, 5 or 6.
+pub enum Validity {
+    Valid,
+    BadTable,
+    NoYear,
+    NoMonth,
+    NoDay,
+}
+
+// A Gregorian date, or refusal 1, 4, 5 or 6.
+pub enum AdAnswer {
+    Is(Date),
+    BadTable,
+    NoYear,
+    NoMonth,
+    NoDay,
+}
+
+// A BS date, or refusal 1, 3 or 7.
+pub enum BsAnswer {
+    Is(BsDate),
+    BadTable,
+    NoSuchDate,
+    Outside,
+}
+
+// Whether there is such a date: yes, or refusal 4, 5 or 6.
+pub enum DateCheck {
+    Good,
+    NoYear,
+    NoMonth,
+    NoDay,
+}
+
+// The number of a day, or refusal 4, 5 or 6.
+pub enum DayAnswer {
+    Day(u32),
+    NoYear,
+    NoMonth,
+    NoDay,
+}
+
+// A date of the table, or how many days before its first day or after its last.
+pub enum Placed {
+    Inside(BsDate),
+    Before(u32),
+    After(u32),
+}
+
+// The number of a day; 0 where there is no such date.
+fn number_or_zero(year: u16, month: u16, day: u16) -> u32
+    ensures { λ r. ⌜ r ≡ numberOrZero year month day ⌝ }
+{
+    let date = Date { year, month, day };
+    match date.day_number() {
+        NumberAnswer::Number(n) => n,
+        NumberAnswer::NoSuchDate => 0,
+    }
+}
+
+// The number of a table's first day; 0 where it is no date.
+pub fn first_day(table: Table) -> u32
+    ensures { λ r. ⌜ r ≡ firstNumber table ⌝ }
+{
+    number_or_zero(table.year, table.month, table.day)
+}
+
+// Whether a lent year table keeps the rules of document 01.
+pub fn accepts(table: Table, rows: &[u16]) -> bool
+    ensures { λ r. ⌜ r ≡ accepted table (now (rows .entry)) ⌝ }
+{
+    let p = check::pass_table(table, rows, check::frame(table, rows.len()), 0, 0);
+    p.days != 0
+}
+
+// The length of a month of an accepted table.
+pub fn month_days(table: Table, rows: &[u16], year: u16, month: u16) -> MonthDays
+    requires { ⌜ accepted table (now rows) ≡ true ⌝ }
+    ensures { λ r. ⌜ daysSays r ≡ monthLen (flat table (now (rows .entry))) year month ⌝ }
+{
+    if year < table.first_year {
+        return MonthDays::NoYear;
+    }
+    let i = (year - table.first_year) as usize;
+    if rows.len() / 13 <= i {
+        return MonthDays::NoYear;
+    }
+    if month < 1 {
+        return MonthDays::NoMonth;
+    }
+    if 12 < month {
+        return MonthDays::NoMonth;
+    }
+    let j = (month - 1) as usize;
+    MonthDays::Days(rows[13 * i + j])
+}
+
+// Whether a date is one of an accepted table.
+pub fn date_check(table: Table, rows: &[u16], date: BsDate) -> DateCheck
+    requires { ⌜ accepted table (now rows) ≡ true ⌝ }
+    ensures { λ r. ⌜ checkSays r ≡ validBs (flat table (now (rows .entry))) (date .year) (date .month) (date .day) ⌝ }
+{
+    let days = month_days(table, rows, date.year, date.month);
+    match days {
+        MonthDays::NoYear => DateCheck::NoYear,
+        MonthDays::NoMonth => DateCheck::NoMonth,
+        MonthDays::Days(len) => {
+            if date.day < 1 {
+                return DateCheck::NoDay;
+            }
+            if len < date.day {
+                return DateCheck::NoDay;
+            }
+            DateCheck::Good
+        }
+    }
+}
+
+// The number of a day of row i, whose first day has the number first.
+fn day_in_row(rows: &[u16], i: usize, first: u32, month: u16, day: u16) -> u32
+    requires { ⌜ InRow (now rows) i first month day ⌝ }
+    ensures { λ r. ⌜ r ≡ first + sum (lens (now (rows .entry)) i) (month - 1) + (day - 1) ⌝ }
+{
+    let months = columns::span(rows, 13 * i, 1, (month - 1) as usize);
+    first + months + (day - 1) as u32
+}
+
+// The number of a day of an accepted table.
+pub fn day_of(table: Table, rows: &[u16], date: BsDate) -> DayAnswer
+    requires { ⌜ accepted table (now rows) ≡ true ⌝ }
+    ensures { λ r. ⌜ daySays r ≡ toDay (flat table (now (rows .entry))) (date .year) (date .month) (date .day) ⌝ }
+{
+    let check = date_check(table, rows, date);
+    match check {
+        DateCheck::NoYear => DayAnswer::NoYear,
+        DateCheck::NoMonth => DayAnswer::NoMonth,
+        DateCheck::NoDay => DayAnswer::NoDay,
+        DateCheck::Good => {
+            let i = (date.year - table.first_year) as usize;
+            let first = first_day(table) + columns::span(rows, 12, 13, i);
+            DayAnswer::Day(day_in_row(rows, i, first, date.month, date.day))
+        }
+    }
+}
+
+// The date that lies rest days after the first day of row i of an accepted table.
+fn date_in_row(table: Table, rows: &[u16], i: usize, rest: u32) -> BsDate
+    requires { ⌜ (accepted table (now rows) ≡ true) × (i < rowCount (now rows)) × (rest < sum (lens (now rows) i) 12) ⌝ }
+    ensures { λ r. ⌜ r ≡ dateInYear (flat table (now (rows .entry))) i rest ⌝ }
+{
+    let p = columns::find(rows, 13 * i, 1, 12, rest);
+    BsDate {
+        year: table.first_year + i as u16,
+        month: p.index as u16 + 1,
+        day: p.rest as u16 + 1,
+    }
+}
+
+// The days from start to n; 0 where n is not after it.
+fn days_from(start: u32, n: u32) -> u32
+    ensures { λ r. ⌜ r ≡ n - start ⌝ }
+{
+    if n < start {
+        return 0;
+    }
+    n - start
+}
+
+// Where day n lies in an accepted table whose first day is start, once the row is known: the days from start to n end rest days after row i begins.
+fn place_in(table: Table, rows: &[u16], start: u32, n: u32, i: usize, rest: u32) -> Placed
+    requires { ⌜ PlacedIn table (now rows) start n i rest ⌝ }
+    ensures { λ r. ⌜ r ≡ placed (flat table (now (rows .entry))) n ⌝ }
+{
+    if n < start {
+        return Placed::Before(start - n);
+    }
+    if rows.len() / 13 <= i {
+        return Placed::After(rest + 1);
+    }
+    Placed::Inside(date_in_row(table, rows, i, rest))
+}
+
+// Where a day lies in an accepted table.
+pub fn place(table: Table, rows: &[u16], n: u32) -> Placed
+    requires { ⌜ accepted table (now rows) ≡ true ⌝ }
+    ensures { λ r. ⌜ r ≡ placed (flat table (now (rows .entry))) n ⌝ }
+{
+    let start = first_day(table);
+    let p = columns::find(rows, 12, 13, rows.len() / 13, days_from(start, n));
+    place_in(table, rows, start, n, p.index, p.rest)
+}
+
+// The length of a month: refusals 1, 4, 5.
+pub fn bs_month_len(table: Table, rows: &[u16], year: u16, month: u16) -> MonthLen
+    ensures { λ r. ⌜ monthLenSays r ≡ monthLen (flat table (now (rows .entry))) year month ⌝ }
+{
+    if !accepts(table, rows) {
+        return MonthLen::BadTable;
+    }
+    let days = month_days(table, rows, year, month);
+    match days {
+        MonthDays::Days(n) => MonthLen::Days(n),
+        MonthDays::NoYear => MonthLen::NoYear,
+        MonthDays::NoMonth => MonthLen::NoMonth,
+    }
+}
+
+// Whether there is such a BS date: refusals 1, 4, 5, 6.
+pub fn validate_bs_date(table: Table, rows: &[u16], date: BsDate) -> Validity
+    ensures { λ r. ⌜ validSays r ≡ validBs (flat table (now (rows .entry))) (date .year) (date .month) (date .day) ⌝ }
+{
+    if !accepts(table, rows) {
+        return Validity::BadTable;
+    }
+    let check = date_check(table, rows, date);
+    match check {
+        DateCheck::Good => Validity::Valid,
+        DateCheck::NoYear => Validity::NoYear,
+        DateCheck::NoMonth => Validity::NoMonth,
+        DateCheck::NoDay => Validity::NoDay,
+    }
+}
+
+// The row of a year; 0 where it is before the first.
+fn row_of(table: Table, year: u16) -> usize
+    ensures { λ r. ⌜ r ≡ year - table .«first_year» ⌝ }
+{
+    if year < table.first_year {
+        return 0;
+    }
+    (year - table.first_year) as usize
+}
+
+// The date of a number that is a date's.
+fn date_of(n: u32) -> Date
+    requires { ⌜ numbered n ≡ true ⌝ }
+    ensures { λ r. ⌜ r ≡ dateOf n ⌝ }
+{
+    let date = Date::from_day_number(n);
+    match date {
+        DateAnswer::Is(d) => d,
+        DateAnswer::NoSuchDate => Date {
+            year: 0,
+            month: 0,
+            day: 0,
+        },
+    }
+}
+
+// The Gregorian date of a BS date: refusals 1, 4, 5, 6.
+pub fn bs_to_ad(table: Table, rows: &[u16], date: BsDate) -> AdAnswer
+    ensures { λ r. ⌜ adSays r ≡ toAd (flat table (now (rows .entry))) (date .year) (date .month) (date .day) ⌝ }
+{
+    let start = check::frame(table, rows.len());
+    let p = check::pass_table(table, rows, start, row_of(table, date.year), 4294967295);
+    if p.days == 0 {
+        return AdAnswer::BadTable;
+    }
+    let check = date_check(table, rows, date);
+    match check {
+        DateCheck::NoYear => AdAnswer::NoYear,
+        DateCheck::NoMonth => AdAnswer::NoMonth,
+        DateCheck::NoDay => AdAnswer::NoDay,
+        DateCheck::Good => {
+            let n = day_in_row(rows, p.row, start + p.before, date.month, date.day);
+            AdAnswer::Is(date_of(n))
+        }
+    }
+}
+
+// The BS date of a Gregorian date: refusals 1, 3, 7.
+pub fn ad_to_bs(table: Table, rows: &[u16], year: u16, month: u16, day: u16) -> BsAnswer
+    ensures { λ r. ⌜ bsSays r ≡ fromAd (flat table (now (rows .entry))) year month day ⌝ }
+{
+    let start = check::frame(table, rows.len());
+    let n = number_or_zero(year, month, day);
+    let offset = days_from(start, n);
+    let p = check::pass_table(table, rows, start, rows.len() / 13, offset);
+    if p.days == 0 {
+        return BsAnswer::BadTable;
+    }
+    if n == 0 {
+        return BsAnswer::NoSuchDate;
+    }
+    let place = place_in(table, rows, start, n, p.row, offset - p.before);
+    match place {
+        Placed::Inside(d) => BsAnswer::Is(d),
+        Placed::Before(_) => BsAnswer::Outside,
+        Placed::After(_) => BsAnswer::Outside,
+    }
+}

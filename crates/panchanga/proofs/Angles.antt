@@ -1,0 +1,83 @@
+-- Each angle whose sine or cosine the sun's events take lies within the 100,000 radians that those serve, and each arc's argument from -1 to 1:
+-- so their answers for what lies beyond are never met. Assumes nothing.
+use mathlib.Core.Bool.{_&&_}
+use Prim.Native.Nat.{ℕ, _*_, _^_, _+_, _≤_, _<_}
+use lib.Dec.{T}
+use lib.Ieee.{Float, neg, div, le, ofBits}
+use lib.Ieee.Fits.{and-l, and-r}
+use Rattle.paper.specs.Floats.{_⊕_, _⊖_, _⊗_, _⊘_, near, dec}
+use Rattle.trig.specs.Trig.{one, limit, inRange, withinOne, sine}
+use Rattle.trig.proofs.Laws.{sine-within}
+use Rattle.sky.specs.Angles.{deg}
+use Rattle.sky.specs.Sun.{meanLongitude, anomaly, sunLongitude}
+use Rattle.panchanga.specs.Noaa.{obliquity, declination}
+use Rattle.paper.proofs.Within.{Within, clamped, inside, Formula, lit, got, _⊞_, _⊟_, _⊠_, by, _⧄_, within}
+use Rattle.panchanga.proofs.Small.{tilt-sine, small-arc}
+
+-- bounds are in units of 2 ^ -20
+abbrev far : ℕ
+far = 100000 * 2 ^ 20
+
+served : {x : Float} → Within 20 far x → T (inRange x)
+unfolding ofBits
+served p = inside limit p tt
+
+sine-number : (x : Float) → Within 20 (2 ^ 20) (sine x)
+unfolding ofBits
+sine-number x = clamped 20 (2 ^ 20) one (and-l (le (neg one) (sine x)) (le (sine x) one) (sine-within x)) (and-r (le (neg one) (sine x)) (le (sine x) one) (sine-within x)) tt
+
+-- all of them at t centuries and a latitude
+pub record Served (t lat : Float) : Type 0 where
+  pub obliquity-angle : T (inRange (obliquity t ⊗ deg))
+  pub longitude-angle : T (inRange (sunLongitude t ⊗ deg))
+  pub declination-arc : T (withinOne (sine (obliquity t ⊗ deg) ⊗ sine (sunLongitude t ⊗ deg)))
+  pub half-obliquity : T (inRange (obliquity t ⊗ deg ⊘ dec 2 0))
+  pub twice-mean : T (inRange (dec 2 0 ⊗ (meanLongitude t ⊗ deg)))
+  pub four-mean : T (inRange (dec 4 0 ⊗ (meanLongitude t ⊗ deg)))
+  pub anomaly-angle : T (inRange (anomaly t ⊗ deg))
+  pub twice-anomaly : T (inRange (dec 2 0 ⊗ (anomaly t ⊗ deg)))
+  pub horizon : T (inRange (dec 90833 3 ⊗ deg))
+  pub latitude-angle : T (inRange (lat ⊗ deg))
+  pub declination-angle : T (inRange (declination t (sunLongitude t)))
+
+module _ {t : Float} (p : Within 20 1680000 t) where
+  obliquity-number : Within 20 24600000 (obliquity t)
+  unfolding obliquity near
+  obliquity-number = within 24600000 (lit (dec 23439291 6) ⊟ by (dec 130042 7) (got p)) tt
+
+  -- 0.42 radians
+  tilt : Within 20 440402 (obliquity t ⊗ deg)
+  unfolding deg div near
+  tilt = within 440402 (got obliquity-number ⊠ lit deg) tt
+
+  mean-number : Within 20 (58100 * 2 ^ 20) (meanLongitude t)
+  unfolding meanLongitude near
+  mean-number = within (58100 * 2 ^ 20) (lit (dec 28046646 5) ⊞ by (dec 3600076983 5) (got p) ⊞ by (dec 3032 7) (got p) ⊠ got p) tt
+
+  anomaly-number : Within 20 (58100 * 2 ^ 20) (anomaly t)
+  unfolding anomaly near
+  anomaly-number = within (58100 * 2 ^ 20) (lit (dec 35752911 5) ⊞ by (dec 3599905029 5) (got p) ⊟ by (dec 1537 7) (got p) ⊠ got p) tt
+
+  product-number : Within 20 459000 (sine (obliquity t ⊗ deg) ⊗ sine (sunLongitude t ⊗ deg))
+  product-number = within 459000 (got (tilt-sine tilt) ⊠ got (sine-number _)) tt
+
+  module _ {lat : Float} (q : Within 20 (360 * 2 ^ 20) (sunLongitude t)) (l : T (le (neg (dec 90 0)) lat && le lat (dec 90 0))) where
+    latitude-number : Within 20 (90 * 2 ^ 20) lat
+    unfolding near
+    latitude-number = clamped 20 (90 * 2 ^ 20) (dec 90 0) (and-l (le (neg (dec 90 0)) lat) (le lat (dec 90 0)) l) (and-r (le (neg (dec 90 0)) lat) (le lat (dec 90 0)) l) tt
+
+    pub all-served : Served t lat
+    unfolding deg div near ofBits declination
+    all-served = record {
+      obliquity-angle = served (within far (got tilt) tt);
+      longitude-angle = served (within far (got q ⊠ lit deg) tt);
+      declination-arc = inside one product-number tt;
+      half-obliquity = served (within far (got tilt ⧄ dec 2 0) tt);
+      twice-mean = served (within far (by (dec 2 0) (got mean-number ⊠ lit deg)) tt);
+      four-mean = served (within far (by (dec 4 0) (got mean-number ⊠ lit deg)) tt);
+      anomaly-angle = served (within far (got anomaly-number ⊠ lit deg) tt);
+      twice-anomaly = served (within far (by (dec 2 0) (got anomaly-number ⊠ lit deg)) tt);
+      horizon = served (within far (by (dec 90833 3) (lit deg)) tt);
+      latitude-angle = served (within far (got latitude-number ⊠ lit deg) tt);
+      declination-angle = served (within far (got (small-arc product-number)) tt);
+    }

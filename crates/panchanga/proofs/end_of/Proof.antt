@@ -1,0 +1,28 @@
+use Rattle.paper.specs.Answers.{then}
+use borrow.Author.Needs.{needs}
+use Rattle.panchanga.proofs.end_of.Statement.{statement}
+use Rattle.panchanga.proofs.end_of.Tie as tie
+
+enum-known-s : tie.Need-enum-known-s
+enum-known-s c = search needs
+
+enum-told : tie.Need-enum-told
+enum-told c = search needs
+
+enum-told-2 : tie.Need-enum-told-2
+enum-told-2 c = search needs
+
+returns : tie.Need-returns
+unfolding then
+returns c = rw (c .before .s .given .1)
+
+returns-2 : tie.Need-returns-2
+unfolding then
+returns-2 c = rw (c .enum-told .given .1)
+
+returns-3 : tie.Need-returns-3
+unfolding then
+returns-3 c = rw (c .enum-told2 .given .1)
+
+pub end-of-spec : {M : Type 1} → statement M
+end-of-spec = tie.close (tie.spec enum-known-s enum-told enum-told-2 returns returns-2 returns-3)

@@ -1,0 +1,82 @@
+-- Sunrise and sunset after NOAA's solar calculator, operation by operation, each rounded once, in the Rust's order. Assumes nothing.
+use mathlib.Core.Bool.{cond, _&&_}
+use mathlib.Core.Option.{Option, some, none}
+use Prim.Native.Nat.{ℕ}
+use lib.IntN.{pos}
+use lib.Ieee.{Float}
+use Rattle.paper.specs.Floats.{_⊕_, _⊖_, _⊗_, _⊘_, dec, whole}
+use Rattle.gregorian.specs.Instants.{instant}
+use Rattle.trig.specs.Trig.{sine, cosine, tangent, arcsine, arccosine, withinOne}
+use Rattle.sky.specs.Angles.{deg}
+use Rattle.sky.specs.Time.{square, ttOf, julianCenturies}
+use Rattle.sky.specs.Sun.{meanLongitude, anomaly, sunLongitude}
+
+-- 0h of the day whose number is n, half a day before its noon
+unfoldable pub zeroOf : ℕ → Float
+zeroOf n = whole (pos n) ⊖ dec 5 1
+
+-- noon by the sun at a longitude, without the equation of time, and its centuries since J2000.0
+unfoldable pub noonAt : Float → Float → Float
+noonAt lon zero = zero ⊕ dec 5 1 ⊖ lon ⊘ dec 360 0
+
+unfoldable pub centuriesAt : Float → Float → Float
+centuriesAt lon zero = julianCenturies (ttOf (noonAt lon zero))
+
+-- ---- at t centuries
+-- the obliquity of the ecliptic in degrees
+unfoldable pub obliquity : Float → Float
+obliquity t = dec 23439291 6 ⊖ dec 130042 7 ⊗ t
+
+-- the eccentricity of the Earth's orbit
+unfoldable pub eccentricity : Float → Float
+eccentricity t = dec 16708634 9 ⊖ dec 42037 9 ⊗ t ⊖ dec 1267 10 ⊗ t ⊗ t
+
+-- the sun's declination in radians, by its longitude
+unfoldable pub declination : Float → Float → Float
+declination t lambda = arcsine (sine (obliquity t ⊗ deg) ⊗ sine (lambda ⊗ deg))
+
+-- the equation of time in minutes, by y, the eccentricity, and the mean longitude and anomaly in radians
+unfoldable pub timeEquation : Float → Float → Float → Float → Float
+timeEquation y e l0r mr =
+    dec 4 0 ⊘ deg
+    ⊗ (y ⊗ sine (dec 2 0 ⊗ l0r) ⊖ dec 2 0 ⊗ e ⊗ sine mr ⊕ dec 4 0 ⊗ e ⊗ y ⊗ sine mr ⊗ cosine (dec 2 0 ⊗ l0r)
+    ⊖ dec 5 1 ⊗ y ⊗ y ⊗ sine (dec 4 0 ⊗ l0r) ⊖ dec 125 2 ⊗ e ⊗ e ⊗ sine (dec 2 0 ⊗ mr))
+
+-- by the mean longitude and anomaly in degrees; y is the square of the tangent of half the obliquity
+unfoldable pub equationOfTime : Float → Float → Float → Float
+equationOfTime t l0 m = timeEquation (square (tangent (obliquity t ⊗ deg ⊘ dec 2 0))) (eccentricity t) (l0 ⊗ deg) (m ⊗ deg)
+
+-- ---- at a place
+-- the cosine of the hour angle at which the sun's upper edge stands at the horizon: 90.833 degrees have refraction and semidiameter in them
+unfoldable pub cosHourAngle : Float → Float → Float
+cosHourAngle lat decl =
+    cosine (dec 90833 3 ⊗ deg) ⊘ (cosine (lat ⊗ deg) ⊗ cosine decl) ⊖ tangent (lat ⊗ deg) ⊗ tangent decl
+
+-- true noon as a fraction of the day
+unfoldable pub solarNoon : Float → Float → Float
+solarNoon lon eot = (dec 720 0 ⊖ dec 4 0 ⊗ lon ⊖ eot) ⊘ dec 1440 0
+
+-- the time from sunrise to noon as a fraction of the day, by the hour angle's cosine: four minutes a degree
+unfoldable pub halfDay : Float → Float
+halfDay c = arccosine c ⊘ deg ⊗ dec 4 0 ⊘ dec 1440 0
+
+-- both of them, if they are instants
+unfoldable pub eventsAround : Float → Float → Option (Float × Float)
+eventsAround noon half = cond (instant (noon ⊖ half) && instant (noon ⊕ half)) (some (noon ⊖ half, noon ⊕ half)) none
+
+-- sunrise and sunset at a latitude and a longitude, in degrees, on the day whose 0h is given; none where the sun does not rise or set
+unfoldable pub sunEvents : Float → Float → Float → Option (Float × Float)
+sunEvents lat lon zero =
+    let t = centuriesAt lon zero in
+    let c = cosHourAngle lat (declination t (sunLongitude t)) in
+    cond (withinOne c) (eventsAround (zero ⊕ dec 0 0 ⊕ solarNoon lon (equationOfTime t (meanLongitude t) (anomaly t))) (halfDay c)) none
+
+-- over Kathmandu
+abbrev pub latitude : Float
+latitude = dec 277172 4
+
+abbrev pub longitude : Float
+longitude = dec 853240 4
+
+unfoldable pub eventsOn : ℕ → Option (Float × Float)
+eventsOn n = sunEvents latitude longitude (zeroOf n)

@@ -1,0 +1,165 @@
+// The sky: time, the longitudes of sun and moon, the elongation, tithis and where they begin.
+// Here are the public calls, which refuse. The modules hold what they work out, on every f64.
+pub mod angles;
+pub mod moon;
+pub mod search;
+pub mod sun;
+mod terms;
+pub mod time;
+pub mod tithi;
+
+ghost use mathlib.Core.Path.{_≡_};
+ghost use lib.ListN.{length};
+ghost use Rattle.sky.specs.Answers.{ttSays, ttAnswer, degreesSays, sunAnswer, moonAnswer, elongationAnswer, tithiSays, tithiAnswer, query, startsSays, startsAnswer, startsBuffer, endSays, endAnswer};
+use gregorian::UtDay;
+use search::FirstStart;
+pub use time::delta_t;
+pub use tithi::tithi_of;
+
+// A Julian day of terrestrial time.
+pub struct TtDay(pub f64);
+
+// A day of terrestrial time, or refusal 8.
+pub enum TtAnswer {
+    At(TtDay),
+    OutOfRange,
+}
+
+// An angle in degrees, or refusal 8.
+pub enum DegreesAnswer {
+    Is(f64),
+    OutOfRange,
+}
+
+// The number of a tithi, or refusal 8.
+pub enum TithiAnswer {
+    Is(u16),
+    OutOfRange,
+}
+
+// The number of starts and the number of steps walked, or refusal 8, 11 or 9.
+pub enum StartsAnswer {
+    Found { count: usize, steps: usize },
+    OutOfRange,
+    NotEnded,
+    NoRoom,
+}
+
+// An instant, or none, or refusal 8.
+pub enum EndAnswer {
+    At(UtDay),
+    Nothing,
+    OutOfRange,
+}
+
+// The day of terrestrial time at an instant.
+pub fn tt_from_ut(ut: UtDay) -> TtAnswer
+    ensures { λ r. ⌜ ttSays r ≡ ttAnswer (ut .0) ⌝ }
+{
+    if time::is_instant(ut.0) {
+        TtAnswer::At(time::tt_of(ut))
+    } else {
+        TtAnswer::OutOfRange
+    }
+}
+
+// The longitude of the sun.
+pub fn sun_longitude(tt: TtDay) -> DegreesAnswer
+    ensures { λ r. ⌜ degreesSays r ≡ sunAnswer (tt .0) ⌝ }
+{
+    if time::is_tt_day(tt.0) {
+        let place = sun::sun_at(time::julian_centuries(tt));
+        DegreesAnswer::Is(place.lambda)
+    } else {
+        DegreesAnswer::OutOfRange
+    }
+}
+
+// The longitude of the moon.
+pub fn moon_longitude(tt: TtDay) -> DegreesAnswer
+    ensures { λ r. ⌜ degreesSays r ≡ moonAnswer (tt .0) ⌝ }
+{
+    if time::is_tt_day(tt.0) {
+        DegreesAnswer::Is(moon::moon_at(time::julian_centuries(tt)))
+    } else {
+        DegreesAnswer::OutOfRange
+    }
+}
+
+// The moon's elongation from the sun at an instant.
+pub fn elongation(ut: UtDay) -> DegreesAnswer
+    ensures { λ r. ⌜ degreesSays r ≡ elongationAnswer (ut .0) ⌝ }
+{
+    if time::is_instant(ut.0) {
+        DegreesAnswer::Is(tithi::elongation_of(ut))
+    } else {
+        DegreesAnswer::OutOfRange
+    }
+}
+
+// The tithi running at an instant.
+pub fn tithi_at(ut: UtDay) -> TithiAnswer
+    ensures { λ r. ⌜ tithiSays r ≡ tithiAnswer (ut .0) ⌝ }
+{
+    if time::is_instant(ut.0) {
+        TithiAnswer::Is(tithi::tithi_of(tithi::elongation_of(ut)))
+    } else {
+        TithiAnswer::OutOfRange
+    }
+}
+
+// Whether a search can be asked: a tithi from 1 to 30, and two instants.
+fn is_query(tithi: u16, from: f64, to: f64) -> bool
+    ensures { λ r. ⌜ r ≡ query tithi from to ⌝ }
+{
+    if tithi < 1 {
+        return false;
+    }
+    if tithi > 30 {
+        return false;
+    }
+    if time::is_instant(from) {
+        return time::is_instant(to);
+    }
+    false
+}
+
+// Every instant from one to another at which a tithi begins, written to the front of a lent buffer.
+pub fn tithi_starts_between(tithi: u16, from: UtDay, to: UtDay, out: &mut [f64]) -> StartsAnswer
+    ensures answer { λ r. ⌜ startsSays r ≡ startsAnswer tithi (from .0) (to .0) (length (now (out .entry))) ⌝ }
+    ensures buffer { λ r. ⌜ now (out .exit) ≡ startsBuffer tithi (from .0) (to .0) (now (out .entry)) ⌝ }
+{
+    if is_query(tithi, from.0, to.0) {
+        let mut found = [0.0; 1024];
+        let walked = search::walk(tithi, from, to, &mut found);
+        if walked.ended {
+            let n = walked.count;
+            if n <= out.len() {
+                search::copy_front(&found, n, out);
+                return StartsAnswer::Found {
+                    count: n,
+                    steps: walked.steps,
+                };
+            }
+            return StartsAnswer::NoRoom;
+        }
+        return StartsAnswer::NotEnded;
+    }
+    StartsAnswer::OutOfRange
+}
+
+// The instant at which the tithi that runs at an instant gives way to the next, in two and a half days.
+pub fn tithi_end(ut: UtDay) -> EndAnswer
+    ensures { λ r. ⌜ endSays r ≡ endAnswer (ut .0) ⌝ }
+{
+    if time::is_instant(ut.0) {
+        if time::is_instant(ut.0 + 2.5) {
+            let end = search::end_of(ut);
+            match end {
+                FirstStart::At(x) => return EndAnswer::At(x),
+                FirstStart::Nothing => return EndAnswer::Nothing,
+            }
+        }
+    }
+    EndAnswer::OutOfRange
+}

@@ -1,0 +1,136 @@
+// The moon's longitude, Meeus ch. 47. Each function serves every f64.
+ghost use mathlib.Core.Path.{_≡_};
+ghost use Prim.Native.Nat.{_<_};
+ghost use Rattle.paper.specs.Floats.{whole};
+ghost use Rattle.sky.specs.Moon.{moonArgs, eccPower, addTerm, termAt, series, moonSum, additive, moonLongitude};
+use super::angles::DEG;
+use super::angles::norm360;
+use super::terms::MOON_TERMS;
+
+// The moon's mean longitude L', the mean elongation D, the anomalies M of the sun and M' of the moon and the
+// argument of latitude F, in degrees, and the factor E of terms in M.
+pub struct MoonArgs {
+    pub lp: f64,
+    pub d: f64,
+    pub m: f64,
+    pub mp: f64,
+    pub f: f64,
+    pub e: f64,
+}
+
+// The multiples of D, M, M' and F in the angle of a periodic term, and its coefficient in millionths of a degree.
+pub struct Term {
+    pub d: i32,
+    pub m: i32,
+    pub mp: i32,
+    pub f: i32,
+    pub coeff: i32,
+}
+
+fn as_float(n: i32) -> f64
+    ensures { λ r. ⌜ r ≡ whole n ⌝ }
+{
+    n as f64
+}
+
+// The moon's arguments at t centuries after the beginning of 2000.
+fn moon_args(t: f64) -> MoonArgs
+    ensures { λ r. ⌜ r ≡ moonArgs t ⌝ }
+{
+    let t3 = t * t * t;
+    let t4 = (t * t) * (t * t);
+    MoonArgs {
+        lp: 218.3164477 + 481267.88123421 * t - 0.0015786 * t * t + t3 / 538841.0 - t4 / 65194000.0,
+        d: 297.8501921 + 445267.1114034 * t - 0.0018819 * t * t + t3 / 545868.0 - t4 / 113065000.0,
+        m: 357.5291092 + 35999.0502909 * t - 0.0001536 * t * t + t3 / 24490000.0,
+        mp: 134.9633964 + 477198.8675055 * t + 0.0087414 * t * t + t3 / 69699.0 - t4 / 14712000.0,
+        f: 93.2720950 + 483202.0175233 * t - 0.0036539 * t * t - t3 / 3526000.0 + t4 / 863310000.0,
+        e: 1.0 - 0.002516 * t - 0.0000074 * t * t,
+    }
+}
+
+// e to the power of the magnitude of c, which is at most 2 in the table.
+fn ecc_power(e: f64, c: i32) -> f64
+    ensures { λ r. ⌜ r ≡ eccPower e c ⌝ }
+{
+    if c == 0 {
+        return 1.0;
+    }
+    if c == 1 {
+        return e;
+    }
+    if c == -1 {
+        return e;
+    }
+    e * e
+}
+
+// One term added to a sum, none where the coefficient is 0.
+fn add_term(a: MoonArgs, x: Term, sum: f64) -> f64
+    ensures { λ r. ⌜ r ≡ addTerm a x sum ⌝ }
+{
+    if x.coeff == 0 {
+        return sum;
+    }
+    let angle = (as_float(x.d) * a.d
+        + as_float(x.m) * a.m
+        + as_float(x.mp) * a.mp
+        + as_float(x.f) * a.f)
+        * DEG;
+    sum + as_float(x.coeff) * ecc_power(a.e, x.m) * trig::sine(angle)
+}
+
+// Row i of a table.
+fn term_at(terms: &[i32; 300], i: usize) -> Term
+    requires { ⌜ i < 60 ⌝ }
+    ensures { λ r. ⌜ r ≡ termAt (now (terms .entry)) i ⌝ }
+{
+    let row = 5 * i;
+    Term {
+        d: terms[row],
+        m: terms[row + 1],
+        mp: terms[row + 2],
+        f: terms[row + 3],
+        coeff: terms[row + 4],
+    }
+}
+
+// The sum over the rows of a table.
+fn series(terms: &[i32; 300], a: MoonArgs) -> f64
+    ensures { λ r. ⌜ r ≡ series (now (terms .entry)) a 60 ⌝ }
+{
+    let mut sum = 0.0;
+    let mut i: usize = 0;
+    while i < 60 {
+        sum = add_term(a, term_at(terms, i), sum);
+        i += 1;
+    }
+    sum
+}
+
+// The sum over the moon's terms, which are laid out once.
+fn moon_sum(a: MoonArgs) -> f64
+    ensures { λ r. ⌜ r ≡ moonSum a ⌝ }
+{
+    let terms = MOON_TERMS;
+    series(&terms, a)
+}
+
+// The additive terms: Venus, the flattening of the earth, Jupiter.
+fn additive(t: f64, a: MoonArgs) -> f64
+    ensures { λ r. ⌜ r ≡ additive t a ⌝ }
+{
+    let a1 = 119.75 + 131.849 * t;
+    let a2 = 53.09 + 479264.290 * t;
+    3958.0 * trig::sine(a1 * DEG)
+        + 1962.0 * trig::sine((a.lp - a.f) * DEG)
+        + 318.0 * trig::sine(a2 * DEG)
+}
+
+// The moon's longitude at t centuries after the beginning of 2000.
+pub fn moon_at(t: f64) -> f64
+    ensures { λ r. ⌜ r ≡ moonLongitude t ⌝ }
+{
+    let a = moon_args(t);
+    norm360(a.lp + (moon_sum(a) + additive(t, a)) / 1000000.0)
+}
