@@ -1,8 +1,11 @@
 -- How an answer crosses the C boundary: as its number, and as what is written where it was asked for. Assumes nothing.
 use Prim.Native.Nat.{ℕ}
+use mathlib.Core.List.{List}
 use mathlib.Core.Option.{Option, some, none}
 use Rattle.paper.specs.Answers.{Answer, answered, refused}
 use Rattle.gregorian.specs.declared.Date.{Date}
+use Rattle.conversion.specs.Calendar.{Calendar}
+use Rattle.conversion.specs.Flat.{flat}
 
 -- 0 for an answer, or the number of the refusal
 unfoldable pub code : {A : Type 0} → Answer A → ℕ
@@ -27,3 +30,7 @@ leftSome (refused k) part old = old
 
 abbrev pub date : ℕ → ℕ → ℕ → Date
 date y m d = record { year = y; month = m; day = d }
+
+-- the calendar of a lent table: its first year, the Gregorian date of its first day, and its rows
+abbrev pub lent : ℕ → ℕ → ℕ → ℕ → List ℕ → Calendar
+lent first y m d rows = flat (record { «first_year» = first; year = y; month = m; day = d }) rows

@@ -1,6 +1,6 @@
 use borrow.Author.Needs.{needs}
-use Rattle.panel.proofs.dates.panel_next_date.Statement.{statement}
-use Rattle.panel.proofs.dates.panel_next_date.Tie as tie
+use Rattle.panel.proofs.dates.panel_date_next.Statement.{statement}
+use Rattle.panel.proofs.dates.panel_date_next.Tie as tie
 
 next-requires : tie.Need-next-requires
 next-requires c κs = search needs
@@ -11,5 +11,5 @@ give-date-requires c κs = search needs
 returns : tie.Need-returns
 returns c = rw (← c .before .before .before .before .next .ensures) (c .give-date .ensures)
 
-pub panel-next-date-spec : {M : Type 1} → statement M
-panel-next-date-spec = tie.close (tie.spec next-requires give-date-requires returns)
+pub panel-date-next-spec : {M : Type 1} → statement M
+panel-date-next-spec = tie.close (tie.spec next-requires give-date-requires returns)
