@@ -185,7 +185,7 @@ fn seconds(xs: &[f64], f: Function) -> f64 {
     for &x in xs {
         sum += f(x);
     }
-    std::hint::black_box(sum);
+    assert!(!sum.is_nan());
     began.elapsed().as_secs_f64()
 }
 

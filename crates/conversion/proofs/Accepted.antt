@@ -43,27 +43,27 @@ facts t rows e =
     let n = rowCount rows in
     let y = t .«first_year» in
     let r = isDate (t .year) (t .month) (t .day) in
-    let e1 = and-right (leb 1 y) _ e in
-    let e2 = and-right (leb y 3000) _ e1 in
-    let e3 = and-right (eqb (length rows) (13 * n)) _ e2 in
-    let e4 = and-right (leb 1 n) _ e3 in
-    let e5 = and-right (leb n 128) _ e4 in
-    let e6 = and-right (all (rowOk rows) n) _ e5 in
-    let e7 = and-right r _ e6 in
+    let a = and-right (leb 1 y) _ e in
+    let b = and-right (leb y 3000) _ a in
+    let c = and-right (eqb (length rows) (13 * n)) _ b in
+    let d = and-right (leb 1 n) _ c in
+    let f = and-right (leb n 128) _ d in
+    let g = and-right (all (rowOk rows) n) _ f in
+    let h = and-right r _ g in
     let s = dayNumber (firstDay t) in
-    let low : dayNumber (date 1901 1 1) ≤ s = leb-true _ _ (and-left (leb (dayNumber (date 1901 1 1)) s) _ e7) in
-    let high : s + rowDays rows n - 1 ≤ dayNumber (date 2099 12 31) = leb-true _ _ (and-right (leb (dayNumber (date 1901 1 1)) s) _ e7) in
+    let low : dayNumber (date 1901 1 1) ≤ s = leb-true _ _ (and-left (leb (dayNumber (date 1901 1 1)) s) _ h) in
+    let high : s + rowDays rows n - 1 ≤ dayNumber (date 2099 12 31) = leb-true _ _ (and-right (leb (dayNumber (date 1901 1 1)) s) _ h) in
     record {
       frame = record {
         year-from = leb-true _ _ (and-left (leb 1 y) _ e);
-        year-to = leb-true _ _ (and-left (leb y 3000) _ e1);
-        whole = eqb-true _ _ (and-left (eqb (length rows) (13 * n)) _ e2);
-        some = leb-true _ _ (and-left (leb 1 n) _ e3);
-        few = leb-true _ _ (and-left (leb n 128) _ e4);
-        real = and-left r _ e6;
+        year-to = leb-true _ _ (and-left (leb y 3000) _ a);
+        whole = eqb-true _ _ (and-left (eqb (length rows) (13 * n)) _ b);
+        some = leb-true _ _ (and-left (leb 1 n) _ c);
+        few = leb-true _ _ (and-left (leb n 128) _ d);
+        real = and-left r _ g;
         day-from = omega (arith, from-1901);
       };
-      row = all-at (rowOk rows) n (and-left (all (rowOk rows) n) _ e5);
+      row = all-at (rowOk rows) n (and-left (all (rowOk rows) n) _ f);
       day-to = omega (arith, to-2099);
     }
 

@@ -1,7 +1,8 @@
 -- BS dates and day numbers, for every calendar: what converts, both ways, and where a day lies. Assumes nothing.
 use Prim.Native.Nat.{ℕ, _+_, _-_, _≤_, _<_}
-use mathlib.Core.Path.{_≡_, refl, ap, _∙_}
+use mathlib.Core.Path.{_≡_, refl, sym, ap, _∙_}
 use mathlib.Core.Bool.{Bool, true, false, _&&_, cond}
+use mathlib.Core.Logic.{inl, inr}
 use native.Mathlib.Omega.{arith}
 use borrow.Author.Tests.{leb-true, leb-false, le-leb, ltb-true, lt-ltb, le-ltb}
 use lib.Dec.{leb, ltb}
@@ -10,11 +11,13 @@ use Rattle.paper.specs.Sums.{sum}
 use Rattle.paper.proofs.Answers.{answered-same, given-answered, given-then, given-on, given-off, then-answered, then-refused}
 use Rattle.paper.proofs.Sums.{sum-past}
 use Rattle.paper.proofs.Tests.{and-left, and-right, and-both, and-never}
+use Rattle.gregorian.specs.declared.Date.{Date}
+use Rattle.gregorian.proofs.Laws.{three}
 use Rattle.conversion.specs.declared.BsDate.{BsDate}
 use Rattle.conversion.specs.declared.Placed.{Placed}
 use Rattle.conversion.specs.declared.Placed.the-variants as P
-use Rattle.conversion.specs.Calendar.{Calendar, yearLen, end, yearOk, monthOk, dayOk, ofMonth, ofDate, dayAt, dateAt, dateInYear, dateAfter, monthLen, validBs, toDay, fromDay, placed}
-use Rattle.conversion.proofs.Places.{Within, last-is}
+use Rattle.conversion.specs.Calendar.{Calendar, last, bs, numbers, EarlierBs, yearLen, end, yearOk, monthOk, dayOk, ofMonth, ofDate, dayAt, dateAt, dateInYear, dateAfter, monthLen, validBs, toDay, fromDay, placed}
+use Rattle.conversion.proofs.Places.{Within, last-within, last-is}
 
 -- ---- a month of the calendar
 pub record InTable (c : Calendar) (y m : ℕ) : Type 0 where
@@ -61,9 +64,9 @@ module _ {A : Type 0} (c : Calendar) (y m : ℕ) (a : Answer A) where
       )
 
 -- the length of a month tells that there is one
-pub len-told : (c : Calendar) (y m n : ℕ) → monthLen c y m ≡ answered n → InTable c y m × (c .len (y - c .first) (m - 1) ≡ n)
+pub len-told : (c : Calendar) (y m n : ℕ) → answered n ≡ monthLen c y m → InTable c y m × (c .len (y - c .first) (m - 1) ≡ n)
 unfolding monthLen
-len-told c y m n e = let k = in-month c y m _ e in (k .0, answered-same (k .1))
+len-told c y m n e = let k = in-month c y m _ (sym e) in (k .0, answered-same (k .1))
 
 -- ---- a date of the calendar
 pub record Valid (c : Calendar) (y m d : ℕ) : Type 0 where
@@ -102,15 +105,15 @@ module _ {A : Type 0} (c : Calendar) (y m d : ℕ) (x : A) where
   unfolding validBs
   by-valid = simp (given-then, then-answered)
 
-  pub len-refused : (k : ℕ) → monthLen c y m ≡ refused k → ofDate c y m d x ≡ refused k
-  len-refused k e = rw (by-len, e) (then-refused k _)
+  pub len-refused : (k : ℕ) → refused k ≡ monthLen c y m → refused k ≡ ofDate c y m d x
+  len-refused k e = rw (by-len, ← e) (sym (then-refused k _))
 
-  pub valid-refused : (k : ℕ) → validBs c y m d ≡ refused k → ofDate c y m d x ≡ refused k
-  valid-refused k e = rw (by-valid, e) (then-refused k _)
+  pub valid-refused : (k : ℕ) → refused k ≡ validBs c y m d → refused k ≡ ofDate c y m d x
+  valid-refused k e = rw (by-valid, ← e) (sym (then-refused k _))
 
-pub valid-told : (c : Calendar) (y m d : ℕ) → validBs c y m d ≡ answered tt → Valid c y m d
+pub valid-told : (c : Calendar) (y m d : ℕ) → answered tt ≡ validBs c y m d → Valid c y m d
 unfolding validBs
-valid-told c y m d e = in-date c y m d tt e .0
+valid-told c y m d e = in-date c y m d tt (sym e) .0
 
 -- exactly the dates have a number
 pub converts : (c : Calendar) (y m d : ℕ) → Valid c y m d → toDay c y m d ≡ answered (dayAt c (y - c .first) (m - 1) (d - 1))
@@ -142,6 +145,13 @@ on-table c n t e =
       from = leb-true _ _ (and-left (leb (c .start) n) _ (b .0));
       to = ltb-true _ _ (and-right (leb (c .start) n) _ (b .0));
     }
+
+-- and no others
+pub from-outside : (c : Calendar) (n : ℕ) → c .good ≡ true → (OnTable c n → ⊥) → fromDay c n ≡ refused 7
+unfolding fromDay
+from-outside c n g h =
+    given-on (c .good) 1 _ g
+    ∙ given-off _ 7 _ (and-never _ _ (λ p q. h (record { good = g; from = leb-true _ _ p; to = ltb-true _ _ q })))
 
 -- a day by its year, and by what is left in that year
 module _ (c : Calendar) (i r n : ℕ) (hi : i < c .years) (hr : r < yearLen c i) (e : c .start + sum (yearLen c) i + r ≡ n) where
@@ -202,6 +212,64 @@ valid-on c y m d v =
       from = omega arith;
       to = omega (arith, sum-past (c .len i) (m - 1) 12 (omega arith), sum-past (yearLen c) i (c .years) (omega arith));
     }
+
+-- ---- there and back
+pub number-of : (c : Calendar) (y m d n : ℕ) → toDay c y m d ≡ answered n → n ≡ dayAt c (y - c .first) (m - 1) (d - 1)
+number-of c y m d n e = answered-same (sym e ∙ converts c y m d (converted c y m d n e))
+
+pub from-to : (c : Calendar) (y m d n : ℕ) → toDay c y m d ≡ answered n → fromDay c n ≡ answered (bs y m d)
+from-to c y m d n e =
+    let v = converted c y m d n e in
+    let a : c .first + (y - c .first) ≡ y = omega (arith, v .month) in
+    let b : m - 1 + 1 ≡ m = omega (arith, v .month) in
+    let f : d - 1 + 1 ≡ d = omega arith in
+    rw (a, b, f) at (rw (← number-of c y m d n e) at (from-at c (y - c .first) (m - 1) (d - 1) (omega (arith, v .month)) (omega (arith, v .month)) (omega arith) (v .month .good)))
+
+pub to-from : (c : Calendar) (n : ℕ) (t : BsDate) → fromDay c n ≡ answered t → toDay c (t .year) (t .month) (t .day) ≡ answered n
+to-from c n t e =
+    let o = on-table c n t e in
+    let q : dateAfter c (n - c .start) ≡ t = answered-same (sym (found c n o) ∙ e) in
+    let r = n - c .start in
+    let i = last (yearLen c) (c .years) r in
+    let s = r - sum (yearLen c) i in
+    let m = last (c .len i) 12 s in
+    let v : Within (yearLen c) (c .years) r i = last-within (yearLen c) (c .years) r (omega arith) in
+    let w : Within (c .len i) 12 s m = last-within (c .len i) 12 s (omega arith) in
+    let d = s - sum (c .len i) m in
+    let g : dayAt c i m d ≡ n = omega arith in
+    rw (← q) (to-at c i m d (v .below) (w .below) (omega arith) (o .good) ∙ ap answered g)
+
+-- the same numbers are the same date
+same-date : (c : Calendar) (s t : BsDate) → numbers s ≡ numbers t → toDay c (s .year) (s .month) (s .day) ≡ toDay c (t .year) (t .month) (t .day)
+same-date c s t q = ap (λ (x : Date). toDay c (x .year) (x .month) (x .day)) q
+
+-- ---- in order
+pub to-order : (c : Calendar) (s t : BsDate) (n k : ℕ) → toDay c (s .year) (s .month) (s .day) ≡ answered n → toDay c (t .year) (t .month) (t .day) ≡ answered k → EarlierBs s t → n < k
+to-order c s t n k e f h =
+    let v = converted c _ _ _ n e in
+    let w = converted c _ _ _ k f in
+    let a = number-of c _ _ _ n e in
+    let b = number-of c _ _ _ k f in
+    let i = s .year - c .first in
+    elim h [
+      | inl l ↦ omega (arith, v .month, w .month, sum-past (c .len i) (s .month - 1) 12 (omega (arith, v .month)), sum-past (yearLen c) i (t .year - c .first) (omega (arith, v .month, l)))
+      | inr (y, inl l) ↦
+          let b′ = rw (← y) at b in
+          omega (arith, v .month, sum-past (c .len i) (s .month - 1) (t .month - 1) (omega (arith, v .month, l)))
+      | inr (y, inr (m, l)) ↦
+          let b′ = rw (← y, ← m) at b in
+          omega arith
+    ]
+
+pub from-order : (c : Calendar) (s t : BsDate) (n k : ℕ) → fromDay c n ≡ answered s → fromDay c k ≡ answered t → n < k → EarlierBs s t
+from-order c s t n k e f h =
+    let a = to-from c n s e in
+    let b = to-from c k t f in
+    elim (three (numbers s) (numbers t)) [
+      | inl l ↦ l
+      | inr (inl q) ↦ absurd (let z : n ≡ k = answered-same (sym a ∙ same-date c s t q ∙ b) in omega arith)
+      | inr (inr l) ↦ absurd (let z : k < n = to-order c t s k n b a l in omega arith)
+    ]
 
 -- where a day outside lies
 pub placed-before : (c : Calendar) (n : ℕ) → n < c .start → placed c n ≡ P.Before (c .start - n)

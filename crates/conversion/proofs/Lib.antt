@@ -4,3 +4,6 @@ pub mod Passes
 pub mod Accepted
 pub mod Days
 pub mod Ad
+pub mod Longer
+pub mod Theorems
+pub mod Unique

@@ -7,11 +7,12 @@ use lib.Dec.{leb, ltb}
 use Rattle.paper.specs.Answers.{Answer, answered, given}
 use Rattle.paper.specs.Sums.{sum}
 use Rattle.gregorian.specs.declared.Date.{Date}
-use Rattle.gregorian.specs.Calendar.{isDate, dayNumber, dateOf}
+use Rattle.gregorian.specs.Calendar.{isDate, dayNumber, dateOf, Earlier}
 use Rattle.conversion.specs.declared.BsDate.{BsDate}
 use Rattle.conversion.specs.declared.Placed.{Placed}
 use Rattle.conversion.specs.declared.Placed.the-variants as P
 
+-- whether the table behind it is accepted, the first BS year, the first day, how many years, and the lengths of the months
 pub record Calendar : Type 0 where
   pub good : Bool
   pub first : ℕ
@@ -45,17 +46,19 @@ ofMonth c y m a = given (c .good) 1 (given (yearOk c y) 4 (given (monthOk m) 5 a
 abbrev pub ofDate : {A : Type 0} → Calendar → ℕ → ℕ → ℕ → A → Answer A
 ofDate c y m d x = ofMonth c y m (given (dayOk c y m d) 6 (answered x))
 
--- whether there is such a date: nothing but the refusals
+-- whether there is such a date: refusals 1, 4, 5, 6, else yes
 unfoldable pub validBs : Calendar → ℕ → ℕ → ℕ → Answer Unit
 validBs c y m d = ofDate c y m d tt
 
--- the number of a day
+-- the number of day d of month m of year i
 abbrev pub dayAt : Calendar → ℕ → ℕ → ℕ → ℕ
 dayAt c i m d = c .start + sum (yearLen c) i + sum (c .len i) m + d
 
+-- the length of a month: refusals 1, 4, 5
 unfoldable pub monthLen : Calendar → ℕ → ℕ → Answer ℕ
 monthLen c y m = ofMonth c y m (answered (c .len (y - c .first) (m - 1)))
 
+-- the number of a BS date's day: refusals 1, 4, 5, 6
 unfoldable pub toDay : Calendar → ℕ → ℕ → ℕ → Answer ℕ
 toDay c y m d = ofDate c y m d (dayAt c (y - c .first) (m - 1) (d - 1))
 
@@ -66,6 +69,7 @@ unfoldable pub last : (ℕ → ℕ) → ℕ → ℕ → ℕ
 last f zero r = 0
 last f (suc n) r = cond (leb (sum f n) r) n (last f n r)
 
+-- that day as a BS date
 abbrev pub dateAt : Calendar → ℕ → ℕ → ℕ → BsDate
 dateAt c i m d = record { year = c .first + i; month = m + 1; day = d + 1 }
 
@@ -96,3 +100,14 @@ toAd c y m d = ofDate c y m d (dateOf (dayAt c (y - c .first) (m - 1) (d - 1)))
 -- the BS date of a Gregorian date: refusals 1, 3, 7
 unfoldable pub fromAd : Calendar → ℕ → ℕ → ℕ → Answer BsDate
 fromAd c y m d = given (c .good) 1 (given (isDate y m d) 3 (fromDay c (dayNumber (record { year = y; month = m; day = d }))))
+
+-- ---- the order of BS dates: by the year, then the month, then the day, as that of Gregorian dates
+
+abbrev pub bs : ℕ → ℕ → ℕ → BsDate
+bs y m d = record { year = y; month = m; day = d }
+
+abbrev pub numbers : BsDate → Date
+numbers t = record { year = t .year; month = t .month; day = t .day }
+
+abbrev pub EarlierBs : BsDate → BsDate → Type 0
+EarlierBs s t = Earlier (numbers s) (numbers t)

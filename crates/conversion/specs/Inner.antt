@@ -22,6 +22,7 @@ firstNumber t = numberOrZero (t .year) (t .month) (t .day)
 abbrev pub column : List ℕ → ℕ → ℕ → ℕ → ℕ
 column rows at step k = getD rows (at + step * k) 0
 
+-- the count numbers of a column are in the table
 pub record Inside (rows : List ℕ) (at step count : ℕ) : Type 0 where
   pub few : count ≤ 128
   pub small : step ≤ 13
@@ -35,6 +36,7 @@ pub record InRow (rows : List ℕ) (i first month day : ℕ) : Type 0 where
   pub month-to : month ≤ 12
   pub day-from : 1 ≤ day
 
+-- r is the sum of n numbers
 pub record Summed (f : ℕ → ℕ) (n r : ℕ) : Type 0 where
   pub whole : r ≡ sum f n
   pub most : r ≤ 65535 * n
@@ -63,6 +65,7 @@ abbrev pub advance : Bool → Passed → ℕ → ℕ → Passed
 advance true p i days = record { days = days; row = i; before = days }
 advance false p i days = record { days = days; row = p .row; before = p .before }
 
+-- before what is asked for: at most until rows, and at most day days
 abbrev pub furtherOf : Passed → ℕ → ℕ → ℕ → ℕ → Passed
 furtherOf p i days until day = advance (leb i until && leb days day) p i days
 
@@ -92,6 +95,7 @@ pub record Frame (t : Table) (n : ℕ) : Type 0 where
   pub real : isDate (t .year) (t .month) (t .day) ≡ true
   pub day-from : 2415386 ≤ dayNumber (firstDay t)
 
+-- r is the number of the first day, or 0 where one of these fails
 pub record FrameSays (t : Table) (n r : ℕ) : Type 0 where
   pub bad : r ≡ 0 → Frame t n → ⊥
   pub good : (r ≡ 0 → ⊥) → Frame t n

@@ -3,3 +3,4 @@ pub mod Calendar
 pub mod Flat
 pub mod Answers
 pub mod Inner
+pub mod Claims

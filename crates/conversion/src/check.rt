@@ -14,53 +14,40 @@ pub struct Passed {
     pub before: u32,
 }
 
-// The days of row i, or 0 where the row breaks a rule.
+// The days of row i, or 0 where the row breaks a rule. No month that passes has 64 days, so the sum is of the lengths and stays small; there is
+// one branch a row.
 pub fn row_days(rows: &[u16], i: usize) -> u32
     requires { ⌜ 13 * i + 13 ≤ length (now rows) ⌝ }
     ensures { λ r. ⌜ RowSays (now (rows .entry)) i r ⌝ }
 {
-    let mut days: u32 = 0;
+    let mut days: u16 = 0;
+    let mut good = true;
     let mut m = 0;
     while m < 12 {
         let len = rows[13 * i + m];
-        if len < 29 {
-            return 0;
-        }
-        if 32 < len {
-            return 0;
-        }
-        days += len as u32;
+        good = good & ((29 <= len) & (len <= 32));
+        days += len % 64;
         m += 1;
     }
-    if rows[13 * i + 12] as u32 == days {
-        days
-    } else {
-        0
-    }
+    good = good & (rows[13 * i + 12] == days);
+    if good { days as u32 } else { 0 }
 }
 
-// A pass with one row more: i rows with their days.
+// A pass with one row more, so that i rows have these days: how far it reached.
 pub fn further(p: Passed, i: usize, days: u32, until: usize, day: u32) -> Passed
     ensures { λ r. ⌜ r ≡ furtherOf p i days until day ⌝ }
 {
-    if until < i {
+    if (i <= until) & (days <= day) {
         return Passed {
             days,
-            row: p.row,
-            before: p.before,
-        };
-    }
-    if day < days {
-        return Passed {
-            days,
-            row: p.row,
-            before: p.before,
+            row: i,
+            before: days,
         };
     }
     Passed {
         days,
-        row: i,
-        before: days,
+        row: p.row,
+        before: p.before,
     }
 }
 

@@ -25,6 +25,7 @@ pub struct Table {
     pub day: u16,
 }
 
+// A BS date as three numbers; the calls say whether it is one of a table.
 pub struct BsDate {
     pub year: u16,
     pub month: u16,
@@ -222,7 +223,8 @@ fn place_in(table: Table, rows: &[u16], start: u32, n: u32, i: usize, rest: u32)
     if n < start {
         return Placed::Before(start - n);
     }
-    if rows.len() / 13 <= i {
+    let count = rows.len() / 13;
+    if count <= i {
         return Placed::After(rest + 1);
     }
     Placed::Inside(date_in_row(table, rows, i, rest))

@@ -264,7 +264,7 @@ impl Date {
 }
 
 // Whether a number is an instant that the engine serves.
-fn is_instant(x: f64) -> bool
+pub fn is_instant(x: f64) -> bool
     ensures { λ r. ⌜ r ≡ instant x ⌝ }
 {
     if 2400000.0 <= x {

@@ -1,18 +1,21 @@
 -- Each angle whose sine or cosine the sun's events take lies within the 100,000 radians that those serve, and each arc's argument from -1 to 1:
 -- so their answers for what lies beyond are never met. Assumes nothing.
-use mathlib.Core.Bool.{_&&_}
-use Prim.Native.Nat.{ℕ, _*_, _^_, _+_, _≤_, _<_}
+use mathlib.Core.Bool.{Bool, _&&_}
+use Prim.Native.Nat.{ℕ, _*_, _^_}
 use lib.Dec.{T}
 use lib.Ieee.{Float, neg, div, le, ofBits}
 use lib.Ieee.Fits.{and-l, and-r}
-use Rattle.paper.specs.Floats.{_⊕_, _⊖_, _⊗_, _⊘_, near, dec}
+use Rattle.paper.specs.Floats.{_⊗_, _⊘_, near, dec}
 use Rattle.trig.specs.Trig.{one, limit, inRange, withinOne, sine}
-use Rattle.trig.proofs.Laws.{sine-within}
 use Rattle.sky.specs.Angles.{deg}
 use Rattle.sky.specs.Sun.{meanLongitude, anomaly, sunLongitude}
-use Rattle.panchanga.specs.Noaa.{obliquity, declination}
-use Rattle.paper.proofs.Within.{Within, clamped, inside, Formula, lit, got, _⊞_, _⊟_, _⊠_, by, _⧄_, within}
+use Rattle.sky.proofs.Norms.{upto-within}
+use Rattle.sky.proofs.Numbers.{sine-number, tt-between, centuries-number, sun-upto}
+use Rattle.sky.proofs.Served as Sky
+use Rattle.panchanga.specs.Noaa.{zeroOf, centuriesAt, obliquity, declination, latitude, longitude}
+use Rattle.paper.proofs.Within.{Within, refined, clamped, inside, lit, got, _⊞_, _⊟_, _⊠_, by, _⧄_, within}
 use Rattle.panchanga.proofs.Small.{tilt-sine, small-arc}
+use Rattle.panchanga.proofs.Noon.{Dated, noon-instant}
 
 -- bounds are in units of 2 ^ -20
 abbrev far : ℕ
@@ -21,10 +24,6 @@ far = 100000 * 2 ^ 20
 served : {x : Float} → Within 20 far x → T (inRange x)
 unfolding ofBits
 served p = inside limit p tt
-
-sine-number : (x : Float) → Within 20 (2 ^ 20) (sine x)
-unfolding ofBits
-sine-number x = clamped 20 (2 ^ 20) one (and-l (le (neg one) (sine x)) (le (sine x) one) (sine-within x)) (and-r (le (neg one) (sine x)) (le (sine x) one) (sine-within x)) tt
 
 -- all of them at t centuries and a latitude
 pub record Served (t lat : Float) : Type 0 where
@@ -61,16 +60,19 @@ module _ {t : Float} (p : Within 20 1680000 t) where
   product-number : Within 20 459000 (sine (obliquity t ⊗ deg) ⊗ sine (sunLongitude t ⊗ deg))
   product-number = within 459000 (got (tilt-sine tilt) ⊠ got (sine-number _)) tt
 
-  module _ {lat : Float} (q : Within 20 (360 * 2 ^ 20) (sunLongitude t)) (l : T (le (neg (dec 90 0)) lat && le lat (dec 90 0))) where
+  longitude-number : Within 20 (360 * 2 ^ 20) (sunLongitude t)
+  longitude-number = refined 20 tt (upto-within (sun-upto p))
+
+  module _ {lat : Float} (l : T (le (neg (dec 90 0)) lat && le lat (dec 90 0))) where
     latitude-number : Within 20 (90 * 2 ^ 20) lat
     unfolding near
     latitude-number = clamped 20 (90 * 2 ^ 20) (dec 90 0) (and-l (le (neg (dec 90 0)) lat) (le lat (dec 90 0)) l) (and-r (le (neg (dec 90 0)) lat) (le lat (dec 90 0)) l) tt
 
-    pub all-served : Served t lat
+    all-served : Served t lat
     unfolding deg div near ofBits declination
     all-served = record {
       obliquity-angle = served (within far (got tilt) tt);
-      longitude-angle = served (within far (got q ⊠ lit deg) tt);
+      longitude-angle = served (within far (got longitude-number ⊠ lit deg) tt);
       declination-arc = inside one product-number tt;
       half-obliquity = served (within far (got tilt ⧄ dec 2 0) tt);
       twice-mean = served (within far (by (dec 2 0) (got mean-number ⊠ lit deg)) tt);
@@ -81,3 +83,21 @@ module _ {t : Float} (p : Within 20 1680000 t) where
       latitude-angle = served (within far (got latitude-number ⊠ lit deg) tt);
       declination-angle = served (within far (got (small-arc product-number)) tt);
     }
+
+-- on every date, at every latitude and longitude
+abbrev pub upTo : ℕ → Float → Bool
+upTo k x = le (neg (dec k 0)) x && le x (dec k 0)
+
+pub events-served : (lat lon : Float) (n : ℕ) → T (upTo 90 lat) → T (upTo 180 lon) → Dated n → Served (centuriesAt lon (zeroOf n)) lat
+unfolding centuriesAt
+events-served lat lon n l t h = all-served (centuries-number (tt-between _ (noon-instant lon n t h))) l
+
+-- those of the sun's longitude are sky's
+pub sun-served : (lon : Float) (n : ℕ) → T (upTo 180 lon) → Dated n → Sky.Served (centuriesAt lon (zeroOf n))
+unfolding centuriesAt
+sun-served lon n t h = Sky.instant-angles _ (noon-instant lon n t h)
+
+-- over Kathmandu
+pub kathmandu-served : (n : ℕ) → Dated n → Served (centuriesAt longitude (zeroOf n)) latitude
+unfolding near le neg
+kathmandu-served n h = events-served latitude longitude n tt tt h

@@ -2,7 +2,7 @@
 use mathlib.Core.Path.{_≡_, refl, sym, ap, _∙_}
 use mathlib.Core.Bool.{Bool, true, false}
 use Prim.Native.Nat.{ℕ}
-use Rattle.paper.specs.Answers.{Answer, answered, refused, given}
+use Rattle.paper.specs.Answers.{answered, refused, given}
 use Rattle.paper.proofs.Answers.{answered-same, refused-answered, given-answered}
 use Rattle.gregorian.specs.declared.Date.{Date}
 use Rattle.gregorian.specs.declared.DateAnswer.{DateAnswer}

@@ -4,5 +4,6 @@ pub mod Days
 pub mod Unique
 pub mod Examples
 pub mod Small
-pub mod Angles
 pub mod Noon
+pub mod Angles
+pub mod Shown

@@ -1,20 +1,20 @@
 -- 0h by a day's number is 0h by Meeus' rule. And on every date the noon of every longitude is an instant, and so is the morning that stands for a sunrise. Assumes nothing.
-use mathlib.Core.Path.{_≡_, refl, sym, ap, _∙_, subst}
-use mathlib.Core.Bool.{Bool, true, false, _&&_, true≢false}
+use mathlib.Core.Path.{_≡_, sym, ap, _∙_, subst}
+use mathlib.Core.Bool.{true, false, _&&_, true≢false}
 use Prim.Native.Nat.{ℕ, _+_, _-_, _*_, _^_, _≤_, _<_, zero-le}
-use native.Mathlib.Nat.{le-trans, le-of-eq, mul-one, mul-assoc, mul-le-mul-right, add-mul}
+use native.Mathlib.Nat.{mul-one, mul-assoc, mul-le-mul-right, add-mul}
 use native.Mathlib.Omega.{arith}
 use borrow.Author.Tests.{le-ltb}
 use lib.Dec.{T, leb, ltb, lit<, lit≤}
-use lib.IntN.{ℤ, pos}
-use lib.Ieee.{Float, nan, inf, fin, binary64, up, down, round, neg, sum, add, sub, div, le, ofInt}
+use lib.IntN.{pos}
+use lib.Ieee.{Float, nan, inf, fin, binary64, up, down, neg, sum, add, sub, div, le, ofInt}
 use lib.Ieee.Fits.{down-pos, and-l, and-r, and-i}
 use lib.Ieee.Exact.{HasValue}
 use lib.Ieee.Positive.{num, den, positive}
 use lib.Ieee.Scale.{round-same}
-use Rattle.paper.specs.Floats.{_⊕_, _⊖_, _⊘_, near, dec, whole}
+use Rattle.paper.specs.Floats.{_⊕_, _⊖_, near, dec, whole}
 use Rattle.gregorian.specs.declared.Date.{Date}
-use Rattle.gregorian.specs.Calendar.{firstNumber, allDays, dayNumber, meeusDay}
+use Rattle.gregorian.specs.Calendar.{firstNumber, allDays, dayNumber}
 use Rattle.gregorian.specs.Instants.{instant, zeroHour, nptOffset}
 use Rattle.gregorian.proofs.Laws.{IsReal, number-above, number-below, all-number}
 use Rattle.gregorian.proofs.Julian.{meeus-number}

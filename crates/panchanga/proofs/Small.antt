@@ -17,7 +17,7 @@ use lib.Ieee.Positive as Positive
 use lib.Ieee.Positive.{num, den, positive, le→cross}
 use Rattle.paper.specs.Floats.{_⊕_, _⊖_, _⊗_, bits}
 use Rattle.paper.proofs.Tests.{T-true}
-use Rattle.trig.specs.Trig.{zero, half, one, wholes, perHalfTurn, piHigh, piLow, inRange, withinOne, least, most, clamp, magnitude, turned, signed, nearestWhole, turnSign, sineSeries, swing, sineAbove, sine, arcSeries, arcNear, arcsineWithin, arcsine}
+use Rattle.trig.specs.Trig.{zero, half, one, wholes, perHalfTurn, inRange, withinOne, least, most, clamp, magnitude, turned, signed, nearestWhole, turnSign, sineSeries, swing, sineAbove, sine, arcSeries, arcNear, arcsineWithin, arcsine}
 use Rattle.trig.proofs.Signs.{zero-lt-neg}
 use Rattle.paper.proofs.Within.{Within, Size, negated, widen, either, inside, Formula, lit, got, _⊞_, _⊟_, _⊠_, by, bound, good, within}
 

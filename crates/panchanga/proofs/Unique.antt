@@ -13,7 +13,10 @@ use Rattle.panchanga.specs.declared.InstantAnswer.{InstantAnswer}
 use Rattle.panchanga.specs.declared.InstantAnswer.the-variants as IA
 use Rattle.panchanga.specs.declared.MinutesAnswer.{MinutesAnswer}
 use Rattle.panchanga.specs.declared.MinutesAnswer.the-variants as MA
-use Rattle.panchanga.specs.Answers.{spanIs, spanSays, instantSays, minutesSays}
+use Rattle.panchanga.specs.declared.ReadingAnswer.{ReadingAnswer}
+use Rattle.panchanga.specs.declared.ReadingAnswer.the-variants as RA
+use Rattle.panchanga.specs.declared.lunar.Reading.{Reading}
+use Rattle.panchanga.specs.Answers.{spanIs, spanSays, instantSays, minutesSays, readingSays}
 
 abbrev spanFrom : Option (Float × Float) → Span
 spanFrom (some s) = span.Is (record { 0 = s .0 }) (record { 0 = s .1 })
@@ -62,3 +65,14 @@ minutes-back MA.OutOfRange = refl
 
 pub minutes-only : (r s : MinutesAnswer) → minutesSays r ≡ minutesSays s → r ≡ s
 minutes-only = told-by minutesSays minutesBack minutes-back
+
+abbrev readingBack : Answer Reading → ReadingAnswer
+readingBack (answered r) = RA.Is r
+readingBack (refused k) = RA.NoSuchDate
+
+reading-back : (r : ReadingAnswer) → readingBack (readingSays r) ≡ r
+reading-back (RA.Is r) = refl
+reading-back RA.NoSuchDate = refl
+
+pub reading-only : (r s : ReadingAnswer) → readingSays r ≡ readingSays s → r ≡ s
+reading-only = told-by readingSays readingBack reading-back

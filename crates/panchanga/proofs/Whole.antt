@@ -1,10 +1,10 @@
 -- A number from 0.0 to below 4,294,967,295 is cut to its whole part, and that lies below 4,294,967,295. Assumes nothing.
-use mathlib.Core.Path.{_≡_, refl, ap, _∙_}
-use mathlib.Core.Bool.{Bool, true, false, cond, _&&_}
+use mathlib.Core.Path.{_≡_, ap, _∙_}
+use mathlib.Core.Bool.{true, false}
 use Prim.Native.Nat.{ℕ, _+_, _*_, _/_, _^_, _-_, _<_, min}
-use native.Mathlib.Nat.{lt-of-le-of-lt, zero-div, div-lt-iff-lt-mul}
+use native.Mathlib.Nat.{zero-div, div-lt-iff-lt-mul}
 use native.Mathlib.Omega.{arith}
-use lib.Dec.{T, ltb, eqb, eqb→eq, ltb→lt, lt→ltb, lit<}
+use lib.Dec.{T, ltb, eqb, eqb→eq, ltb→lt, lt→ltb}
 use lib.IntN.{ℤ, pos}
 use lib.Ieee.{Float, nan, inf, fin, up, down, lt, le, toUnsigned}
 use lib.Ieee.Fits.{and-l, down-pos}

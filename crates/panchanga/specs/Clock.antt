@@ -3,7 +3,7 @@ use Prim.Native.Nat.{ℕ, _+_, _%_}
 use mathlib.Core.Bool.{cond}
 use lib.IntN.{pos}
 use lib.Ieee.{Float, binary64, rem, lt, le}
-use Rattle.paper.specs.Floats.{_⊕_, _⊖_, _⊗_, near, dec, whole, floorOf}
+use Rattle.paper.specs.Floats.{_⊕_, _⊖_, _⊗_, dec, whole, floorOf}
 use Rattle.gregorian.specs.Instants.{localDay}
 
 -- a number of at least 0.0, rounded half upward: its whole part, and one more where the rest is a half or more
@@ -14,8 +14,8 @@ halfUp x = let n = floorOf x in cond (le (dec 5 1) (x ⊖ whole (pos n))) (n + 1
 unfoldable pub rounded : Float → ℕ
 rounded x = cond (le (dec 0 0) x) (cond (lt x (dec 4294967295 0)) (halfUp x) 4294967295) 0
 
--- The minutes of a local fraction of the day, modulo 1,440. A number from 0.0 to below 1.0 is such a fraction.
--- What any other f64 gives is what the Rust's expression gives: its whole days are left out as far as `rounded` counts; less than nothing and no number read 0.
+-- The minutes of a local fraction of the day, from 0.0 to below 1.0, modulo 1,440. The Rust's expression decides for every other f64 too:
+-- whole days are left out as far as `rounded` counts, and what is below 0.0 or no number reads 0.
 unfoldable pub minutesOf : Float → ℕ
 minutesOf x = rounded (x ⊗ dec 24 0 ⊗ dec 60 0) % 1440
 

@@ -15,7 +15,7 @@ use Rattle.sky.specs.Sun.{meanLongitude, anomaly, sunLongitude}
 unfoldable pub zeroOf : ℕ → Float
 zeroOf n = whole (pos n) ⊖ dec 5 1
 
--- noon by the sun at a longitude, without the equation of time, and its centuries since J2000.0
+-- noon at a longitude, `julian_day` at 0.5 less the longitude's part of a turn, and its centuries since J2000.0
 unfoldable pub noonAt : Float → Float → Float
 noonAt lon zero = zero ⊕ dec 5 1 ⊖ lon ⊘ dec 360 0
 
@@ -64,7 +64,8 @@ halfDay c = arccosine c ⊘ deg ⊗ dec 4 0 ⊘ dec 1440 0
 unfoldable pub eventsAround : Float → Float → Option (Float × Float)
 eventsAround noon half = cond (instant (noon ⊖ half) && instant (noon ⊕ half)) (some (noon ⊖ half, noon ⊕ half)) none
 
--- sunrise and sunset at a latitude and a longitude, in degrees, on the day whose 0h is given; none where the sun does not rise or set
+-- sunrise and sunset at a latitude and a longitude, in degrees, on the day whose 0h is given; none where the sun does not rise or set.
+-- Midnight is `julian_day` at 0.0
 unfoldable pub sunEvents : Float → Float → Float → Option (Float × Float)
 sunEvents lat lon zero =
     let t = centuriesAt lon zero in

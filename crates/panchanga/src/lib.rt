@@ -15,7 +15,6 @@ use gregorian::DateAnswer;
 use gregorian::NumberAnswer;
 use gregorian::UtDay;
 use lunar::Reading;
-use sky::time;
 
 // When in a day a festival rule is evaluated; the numbers 0 to 5 of a rule's kala, in their order.
 pub enum Kala {
@@ -161,7 +160,7 @@ pub fn kala_instant(date: Date, kala: Kala) -> InstantAnswer
 pub fn npt_clock(instant: UtDay) -> MinutesAnswer
     ensures { λ r. ⌜ minutesSays r ≡ clockAnswer (instant .0) ⌝ }
 {
-    if time::is_instant(instant.0) {
+    if gregorian::is_instant(instant.0) {
         MinutesAnswer::Is(clock::clock_of(instant.0))
     } else {
         MinutesAnswer::OutOfRange

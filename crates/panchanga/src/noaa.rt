@@ -90,8 +90,8 @@ fn events_around(noon: f64, half: f64) -> Span
 {
     let rise = noon - half;
     let set = noon + half;
-    if time::is_instant(rise) {
-        if time::is_instant(set) {
+    if gregorian::is_instant(rise) {
+        if gregorian::is_instant(set) {
             return Span::Is {
                 from: UtDay(rise),
                 to: UtDay(set),

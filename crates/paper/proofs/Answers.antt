@@ -47,3 +47,7 @@ given-on b k a e = rw e
 pub given-off : {A : Type 0} (b : Bool) (k : ℕ) (a : Answer A) → b ≡ false → given b k a ≡ refused k
 unfolding given
 given-off b k a e = rw e
+
+-- what an answer says, once it is known which it is
+pub said : {R A : Type 0} (says : R → A) {r v : R} {a : A} → r ≡ v → says r ≡ a → says v ≡ a
+said says e h = sym (ap says e) ∙ h

@@ -22,10 +22,7 @@ flip true a true b h = le-ltb a b (down-to a b h)
 pub le-not-above : (x y : Float) → T (le x y) → lt y x ≡ false
 unfolding le
 le-not-above nan y h = absurd h
-le-not-above (inf s) nan h = absurd (none s h)
-  where
-    none : (s : Bool) → T (false || false) → ⊥
-    none s t = t
+le-not-above (inf s) nan h = absurd h
 le-not-above (inf true) (inf true) h = refl
 le-not-above (inf true) (inf false) h = refl
 le-not-above (inf false) (inf true) h = absurd h

@@ -9,7 +9,9 @@ pub mod time;
 pub mod tithi;
 
 ghost use mathlib.Core.Path.{_≡_};
-ghost use lib.ListN.{length};
+ghost use mathlib.Core.List.{_++_};
+ghost use Prim.Native.Nat.{_≤_};
+ghost use lib.ListN.{length, take, drop};
 ghost use Rattle.sky.specs.Answers.{ttSays, ttAnswer, degreesSays, sunAnswer, moonAnswer, elongationAnswer, tithiSays, tithiAnswer, query, startsSays, startsAnswer, startsBuffer, endSays, endAnswer};
 use gregorian::UtDay;
 use search::FirstStart;
@@ -56,7 +58,7 @@ pub enum EndAnswer {
 pub fn tt_from_ut(ut: UtDay) -> TtAnswer
     ensures { λ r. ⌜ ttSays r ≡ ttAnswer (ut .0) ⌝ }
 {
-    if time::is_instant(ut.0) {
+    if gregorian::is_instant(ut.0) {
         TtAnswer::At(time::tt_of(ut))
     } else {
         TtAnswer::OutOfRange
@@ -90,7 +92,7 @@ pub fn moon_longitude(tt: TtDay) -> DegreesAnswer
 pub fn elongation(ut: UtDay) -> DegreesAnswer
     ensures { λ r. ⌜ degreesSays r ≡ elongationAnswer (ut .0) ⌝ }
 {
-    if time::is_instant(ut.0) {
+    if gregorian::is_instant(ut.0) {
         DegreesAnswer::Is(tithi::elongation_of(ut))
     } else {
         DegreesAnswer::OutOfRange
@@ -101,7 +103,7 @@ pub fn elongation(ut: UtDay) -> DegreesAnswer
 pub fn tithi_at(ut: UtDay) -> TithiAnswer
     ensures { λ r. ⌜ tithiSays r ≡ tithiAnswer (ut .0) ⌝ }
 {
-    if time::is_instant(ut.0) {
+    if gregorian::is_instant(ut.0) {
         TithiAnswer::Is(tithi::tithi_of(tithi::elongation_of(ut)))
     } else {
         TithiAnswer::OutOfRange
@@ -118,10 +120,22 @@ fn is_query(tithi: u16, from: f64, to: f64) -> bool
     if tithi > 30 {
         return false;
     }
-    if time::is_instant(from) {
-        return time::is_instant(to);
+    if gregorian::is_instant(from) {
+        return gregorian::is_instant(to);
     }
     false
+}
+
+// Copies the first n of some instants over the front of a buffer.
+fn copy_front(src: &[f64; 1024], n: usize, out: &mut [f64])
+    requires { ⌜ (n ≤ 1024) × ((length (now src) ≡ 1024) × (n ≤ length (now out))) ⌝ }
+    ensures { λ _. ⌜ now (out .exit) ≡ take n (now (src .entry)) ++ drop n (now (out .entry)) ⌝ }
+{
+    let mut i: usize = 0;
+    while i < n {
+        out[i] = src[i];
+        i += 1;
+    }
 }
 
 // Every instant from one to another at which a tithi begins, written to the front of a lent buffer.
@@ -135,7 +149,7 @@ pub fn tithi_starts_between(tithi: u16, from: UtDay, to: UtDay, out: &mut [f64])
         if walked.ended {
             let n = walked.count;
             if n <= out.len() {
-                search::copy_front(&found, n, out);
+                copy_front(&found, n, out);
                 return StartsAnswer::Found {
                     count: n,
                     steps: walked.steps,
@@ -152,8 +166,8 @@ pub fn tithi_starts_between(tithi: u16, from: UtDay, to: UtDay, out: &mut [f64])
 pub fn tithi_end(ut: UtDay) -> EndAnswer
     ensures { λ r. ⌜ endSays r ≡ endAnswer (ut .0) ⌝ }
 {
-    if time::is_instant(ut.0) {
-        if time::is_instant(ut.0 + 2.5) {
+    if gregorian::is_instant(ut.0) {
+        if gregorian::is_instant(ut.0 + 2.5) {
             let end = search::end_of(ut);
             match end {
                 FirstStart::At(x) => return EndAnswer::At(x),

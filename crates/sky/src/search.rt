@@ -1,7 +1,7 @@
 // The search for the instants at which a tithi begins. Each function serves every f64.
 ghost use mathlib.Core.Path.{_≡_};
 ghost use mathlib.Core.List.{_++_};
-ghost use lib.ListN.{length, take, drop};
+ghost use lib.ListN.{length, drop};
 ghost use Prim.Native.Nat.{_≤_};
 ghost use Rattle.sky.specs.Tithi.{elongationOf};
 ghost use Rattle.sky.specs.Search.{turned, offset, targetOf, halved, stepEnd, crosses, first, startsOf, nextTithi, endOf};
@@ -175,16 +175,4 @@ pub fn end_of(ut: UtDay) -> FirstStart
 {
     let next = next_tithi(tithi_of(elongation_of(ut)));
     first_start(next, ut, UtDay(ut.0 + 2.5))
-}
-
-// Copies the first n of some instants over the front of a buffer.
-pub fn copy_front(src: &[f64; 1024], n: usize, out: &mut [f64])
-    requires { ⌜ (n ≤ 1024) × ((length (now src) ≡ 1024) × (n ≤ length (now out))) ⌝ }
-    ensures { λ _. ⌜ now (out .exit) ≡ take n (now (src .entry)) ++ drop n (now (out .entry)) ⌝ }
-{
-    let mut i: usize = 0;
-    while i < n {
-        out[i] = src[i];
-        i += 1;
-    }
 }

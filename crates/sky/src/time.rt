@@ -1,19 +1,8 @@
 // Universal and terrestrial time. Each function serves every f64.
 ghost use mathlib.Core.Path.{_≡_};
-ghost use Rattle.gregorian.specs.Instants.{instant};
 ghost use Rattle.sky.specs.Time.{deltaT, ttOf, julianCenturies, ttDay};
 use super::TtDay;
 use gregorian::UtDay;
-
-// Whether a number is an instant that the engine serves.
-pub fn is_instant(x: f64) -> bool
-    ensures { λ r. ⌜ r ≡ instant x ⌝ }
-{
-    if 2400000.0 <= x {
-        return x <= 2510000.0;
-    }
-    false
-}
 
 // Whether a number is a day of terrestrial time that the engine serves.
 pub fn is_tt_day(x: f64) -> bool

@@ -62,6 +62,11 @@ pub data Got (A : Type 0) : Type 0 where
   got : A → List ℕ → Got A
   no : Got A
 
+-- what follows from what was found, or another where nothing was
+abbrev pub found : {A B : Type 0} → Got A → (A → List ℕ → B) → B → B
+found (got x t) f other = f x t
+found no f other = other
+
 -- exactly this text
 abbrev pub past : List ℕ → List ℕ → Got (Unit {0})
 past [] s = got tt s

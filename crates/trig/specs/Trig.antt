@@ -98,7 +98,7 @@ sineSeries z =
     let q = a ⊕ zz ⊗ b ⊕ zz ⊗ zz ⊗ (c ⊕ zz ⊗ bits 0x3ce8_9a48_66f5_27eb) in
     z ⊗ q ⊖ bits 0x3fc5_5555_5555_5555
 
--- the sine of a less h half turns, negated at an odd k
+-- the sine of a less h half turns, negated where k is odd
 unfoldable pub swing : Float → Float → Float → Float
 swing a k h =
     let y = a ⊖ h ⊗ piHigh ⊖ h ⊗ piLow in

@@ -86,7 +86,7 @@ fn sine_series(z: f64) -> f64
     z * q - 0.16666666666666666
 }
 
-// The sine of a less h half turns, with the sign of an even or odd k.
+// The sine of a less h half turns, negated where k is odd.
 fn swing(a: f64, k: f64, h: f64) -> f64
     ensures { λ r. ⌜ r ≡ Trig.swing a k h ⌝ }
 {

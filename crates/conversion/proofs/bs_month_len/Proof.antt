@@ -1,7 +1,8 @@
-use mathlib.Core.Path.{sym, ap, _∙_}
+use mathlib.Core.Path.{sym, _∙_}
 use borrow.Author.Needs.{needs}
 use denote.Ref.{now}
 use borrow.Author.Tests.{not-true, not-false}
+use Rattle.paper.proofs.Answers.{said}
 use Rattle.conversion.specs.Calendar.{monthLen}
 use Rattle.conversion.specs.Flat.{flat}
 use Rattle.conversion.specs.Answers.{daysSays}
@@ -31,13 +32,13 @@ enum-told-2 : tie.Need-enum-told-2
 enum-told-2 c = search needs
 
 returns-2 : tie.Need-returns-2
-returns-2 c = sym (ap daysSays (c .before .days .given .1)) ∙ c .before .before .before .month-days .ensures
+returns-2 c = said daysSays (c .before .days .given .1) (c .before .before .before .month-days .ensures)
 
 returns-3 : tie.Need-returns-3
-returns-3 c = sym (ap daysSays (c .enum-told .given .1)) ∙ c .before .before .month-days .ensures
+returns-3 c = said daysSays (c .enum-told .given .1) (c .before .before .month-days .ensures)
 
 returns-4 : tie.Need-returns-4
-returns-4 c = sym (ap daysSays (c .enum-told2 .given .1)) ∙ c .before .before .month-days .ensures
+returns-4 c = said daysSays (c .enum-told2 .given .1) (c .before .before .month-days .ensures)
 
 pub bs-month-len-spec : {M : Type 1} → statement M
 bs-month-len-spec =

@@ -5,6 +5,7 @@ use borrow.Author.Needs.{needs}
 use denote.Ref.{now}
 use Rattle.paper.specs.Answers.{answered}
 use Rattle.gregorian.specs.Calendar.{dayNumber, dateOf}
+use Rattle.paper.proofs.Answers.{said}
 use Rattle.conversion.specs.Calendar.{toAd, dayAt}
 use Rattle.conversion.specs.Flat.{flat, rowDays, firstDay}
 use Rattle.conversion.specs.Answers.{checkSays}
@@ -46,7 +47,7 @@ enum-told-4 c = search needs
 
 -- where the date is one of the table: its facts, its row and the days before it, and the number of the first day
 known : (c : tie.After-enum-told4) → let a = c .before .before .before .before .before .before .before .before .before .args in Valid (flat (a .table) (now (a .rows))) (a .date .year) (a .date .month) (a .date .day)
-known c = valid-told _ _ _ _ (sym (c .before .before .date-check .ensures) ∙ ap checkSays (c .enum-told4 .given .1))
+known c = valid-told _ _ _ _ (said checkSays (c .enum-told4 .given .1) (c .before .before .date-check .ensures))
 
 table : (c : tie.After-enum-told4) → let a = c .before .before .before .before .before .before .before .before .before .args in Facts (a .table) (now (a .rows))
 table c = facts _ _ (known c .month .good)
@@ -95,21 +96,15 @@ date-of-requires c κs =
 
 returns-2 : tie.Need-returns-2
 unfolding toAd
-returns-2 c =
-    let a = c .before .before .before .before .before .before .before .before .before .args in
-    sym (valid-refused (flat (a .table) (now (a .rows))) (a .date .year) (a .date .month) (a .date .day) _ 4 (sym (c .before .before .date-check .ensures) ∙ ap checkSays (c .enum-told .given .1)))
+returns-2 c = valid-refused _ _ _ _ _ 4 (said checkSays (c .enum-told .given .1) (c .before .before .date-check .ensures))
 
 returns-3 : tie.Need-returns-3
 unfolding toAd
-returns-3 c =
-    let a = c .before .before .before .before .before .before .before .before .before .args in
-    sym (valid-refused (flat (a .table) (now (a .rows))) (a .date .year) (a .date .month) (a .date .day) _ 5 (sym (c .before .before .date-check .ensures) ∙ ap checkSays (c .enum-told2 .given .1)))
+returns-3 c = valid-refused _ _ _ _ _ 5 (said checkSays (c .enum-told2 .given .1) (c .before .before .date-check .ensures))
 
 returns-4 : tie.Need-returns-4
 unfolding toAd
-returns-4 c =
-    let a = c .before .before .before .before .before .before .before .before .before .args in
-    sym (valid-refused (flat (a .table) (now (a .rows))) (a .date .year) (a .date .month) (a .date .day) _ 6 (sym (c .before .before .date-check .ensures) ∙ ap checkSays (c .enum-told3 .given .1)))
+returns-4 c = valid-refused _ _ _ _ _ 6 (said checkSays (c .enum-told3 .given .1) (c .before .before .date-check .ensures))
 
 returns-5 : tie.Need-returns-5
 unfolding toAd

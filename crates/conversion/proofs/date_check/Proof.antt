@@ -1,8 +1,9 @@
 use Prim.Native.Nat.{_-_}
-use mathlib.Core.Path.{_≡_, sym, ap, _∙_}
+use mathlib.Core.Path.{_≡_, sym}
 use native.Mathlib.Omega.{arith}
 use borrow.Author.Needs.{needs}
 use denote.Ref.{now}
+use Rattle.paper.proofs.Answers.{said}
 use Rattle.conversion.specs.Calendar.{Calendar, validBs}
 use Rattle.conversion.specs.Flat.{flat}
 use Rattle.conversion.specs.Answers.{daysSays}
@@ -27,7 +28,7 @@ cal c = flat (c .args .table) (now (c .args .rows))
 
 -- where the month's length was found
 known : (c : tie.After-known-told) → let s = c .before .before .before .before .before in InTable (cal s) (s .args .date .year) (s .args .date .month) × (cal s .len (s .args .date .year - s .args .table .«first_year») (s .args .date .month - 1) ≡ c .before .days .given .0 .0)
-known c = len-told _ _ _ _ (sym (c .before .before .before .month-days .ensures) ∙ ap daysSays (c .before .days .given .1))
+known c = len-told _ _ _ _ (said daysSays (c .before .days .given .1) (c .before .before .before .month-days .ensures))
 
 returns : tie.Need-returns
 unfolding validBs
@@ -46,17 +47,11 @@ returns-2 c =
 
 returns-3 : tie.Need-returns-3
 unfolding validBs
-returns-3 c =
-    let s = c .before .before .before .before in
-    let d = s .args .date in
-    sym (len-refused (cal s) (d .year) (d .month) (d .day) tt 4 (sym (c .before .before .month-days .ensures) ∙ ap daysSays (c .enum-told .given .1)))
+returns-3 c = len-refused _ _ _ (c .before .before .before .before .args .date .day) tt 4 (said daysSays (c .enum-told .given .1) (c .before .before .month-days .ensures))
 
 returns-4 : tie.Need-returns-4
 unfolding validBs
-returns-4 c =
-    let s = c .before .before .before .before in
-    let d = s .args .date in
-    sym (len-refused (cal s) (d .year) (d .month) (d .day) tt 5 (sym (c .before .before .month-days .ensures) ∙ ap daysSays (c .enum-told2 .given .1)))
+returns-4 c = len-refused _ _ _ (c .before .before .before .before .args .date .day) tt 5 (said daysSays (c .enum-told2 .given .1) (c .before .before .month-days .ensures))
 
 returns-5 : tie.Need-returns-5
 unfolding validBs

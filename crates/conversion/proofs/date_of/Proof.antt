@@ -1,7 +1,8 @@
-use mathlib.Core.Path.{sym, ap, _∙_}
+use mathlib.Core.Path.{ap, _∙_}
 use borrow.Author.Needs.{needs}
 use Rattle.gregorian.specs.Answers.{dateSays}
 use Rattle.paper.proofs.Answers.{answered-same, refused-answered, given-on}
+use Rattle.paper.proofs.Answers.{said}
 use Rattle.conversion.proofs.date_of.Statement.{statement}
 use Rattle.conversion.proofs.date_of.Tie as tie
 
@@ -16,7 +17,7 @@ enum-told c = search needs
 
 returns : tie.Need-returns
 returns c =
-    answered-same (sym (ap dateSays (c .before .date .given .1)) ∙ c .before .before .before .from-day-number .ensures ∙ given-on _ _ _ (c .before .before .before .before .pre))
+    answered-same (said dateSays (c .before .date .given .1) (c .before .before .before .from-day-number .ensures) ∙ given-on _ _ _ (c .before .before .before .before .pre))
 
 returns-2 : tie.Need-returns-2
 returns-2 c =

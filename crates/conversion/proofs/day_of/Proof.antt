@@ -1,8 +1,9 @@
 use Prim.Native.Nat.{_-_}
-use mathlib.Core.Path.{sym, ap, _∙_}
+use mathlib.Core.Path.{sym, _∙_}
 use native.Mathlib.Omega.{arith}
 use borrow.Author.Needs.{needs}
 use denote.Ref.{now}
+use Rattle.paper.proofs.Answers.{said}
 use Rattle.conversion.specs.Calendar.{toDay}
 use Rattle.conversion.specs.Flat.{flat}
 use Rattle.conversion.specs.Answers.{checkSays}
@@ -28,7 +29,7 @@ enum-told-4 c = search needs
 
 -- where the date is one of the table
 known : (c : tie.After-enum-told4) → let a = c .before .before .before .before .args in Valid (flat (a .table) (now (a .rows))) (a .date .year) (a .date .month) (a .date .day)
-known c = valid-told _ _ _ _ (sym (c .before .before .date-check .ensures) ∙ ap checkSays (c .enum-told4 .given .1))
+known c = valid-told _ _ _ _ (said checkSays (c .enum-told4 .given .1) (c .before .before .date-check .ensures))
 
 table : (c : tie.After-enum-told4) → let a = c .before .before .before .before .args in Facts (a .table) (now (a .rows))
 table c = facts _ _ (c .before .before .before .before .pre)
@@ -68,24 +69,15 @@ day-in-row-requires c κs =
 
 returns : tie.Need-returns
 unfolding toDay
-returns c =
-    let a = c .before .before .before .before .args in
-    let d = a .date in
-    sym (valid-refused (flat (a .table) (now (a .rows))) (d .year) (d .month) (d .day) _ 4 (sym (c .before .before .date-check .ensures) ∙ ap checkSays (c .enum-told .given .1)))
+returns c = valid-refused _ _ _ _ _ 4 (said checkSays (c .enum-told .given .1) (c .before .before .date-check .ensures))
 
 returns-2 : tie.Need-returns-2
 unfolding toDay
-returns-2 c =
-    let a = c .before .before .before .before .args in
-    let d = a .date in
-    sym (valid-refused (flat (a .table) (now (a .rows))) (d .year) (d .month) (d .day) _ 5 (sym (c .before .before .date-check .ensures) ∙ ap checkSays (c .enum-told2 .given .1)))
+returns-2 c = valid-refused _ _ _ _ _ 5 (said checkSays (c .enum-told2 .given .1) (c .before .before .date-check .ensures))
 
 returns-3 : tie.Need-returns-3
 unfolding toDay
-returns-3 c =
-    let a = c .before .before .before .before .args in
-    let d = a .date in
-    sym (valid-refused (flat (a .table) (now (a .rows))) (d .year) (d .month) (d .day) _ 6 (sym (c .before .before .date-check .ensures) ∙ ap checkSays (c .enum-told3 .given .1)))
+returns-3 c = valid-refused _ _ _ _ _ 6 (said checkSays (c .enum-told3 .given .1) (c .before .before .date-check .ensures))
 
 returns-4 : tie.Need-returns-4
 returns-4 c =

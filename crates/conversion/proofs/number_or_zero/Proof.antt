@@ -1,6 +1,6 @@
-use mathlib.Core.Path.{sym, ap, _∙_}
 use borrow.Author.Needs.{needs}
 use Rattle.gregorian.specs.Answers.{numberSays}
+use Rattle.paper.proofs.Answers.{said}
 use Rattle.conversion.proofs.Accepted.{number-told, number-none}
 use Rattle.conversion.proofs.number_or_zero.Statement.{statement}
 use Rattle.conversion.proofs.number_or_zero.Tie as tie
@@ -15,10 +15,10 @@ enum-told : tie.Need-enum-told
 enum-told c = search needs
 
 returns : tie.Need-returns
-returns c = number-told _ _ _ (sym (ap numberSays (c .before .n .given .1)) ∙ c .before .before .before .day-number .ensures)
+returns c = number-told _ _ _ (said numberSays (c .before .n .given .1) (c .before .before .before .day-number .ensures))
 
 returns-2 : tie.Need-returns-2
-returns-2 c = number-none _ _ (sym (ap numberSays (c .enum-told .given .1)) ∙ c .before .before .day-number .ensures)
+returns-2 c = number-none _ _ (said numberSays (c .enum-told .given .1) (c .before .before .day-number .ensures))
 
 pub number-or-zero-spec : {M : Type 1} → statement M
 number-or-zero-spec = tie.close (tie.spec day-number-requires enum-known-n enum-told returns returns-2)

@@ -10,8 +10,8 @@ use Rattle.conversion.proofs.Days.{placed-in, placed-before, placed-aft
 use Rattle.conversion.proofs.place_in.Statement.{statement}
 use Rattle.conversion.proofs.place_in.Tie as tie
 
-sub-t8 : tie.Need-sub-t8
-sub-t8 c = search needs
+sub-t9 : tie.Need-sub-t9
+sub-t9 c = search needs
 
 returns : tie.Need-returns
 returns c =
@@ -49,4 +49,4 @@ returns-3 c =
 
 pub place-in-spec : {M : Type 1} → statement M
 place-in-spec =
-    tie.close (tie.spec sub-t8 returns add-t11 returns-2 date-in-row-requires returns-3)
+    tie.close (tie.spec sub-t9 returns add-t11 returns-2 date-in-row-requires returns-3)

@@ -1,7 +1,8 @@
-use mathlib.Core.Path.{sym, ap, _∙_}
+use mathlib.Core.Path.{sym, _∙_}
 use borrow.Author.Needs.{needs}
 use denote.Ref.{now}
 use borrow.Author.Tests.{not-true, not-false}
+use Rattle.paper.proofs.Answers.{said}
 use Rattle.conversion.specs.Calendar.{validBs}
 use Rattle.conversion.specs.Flat.{flat}
 use Rattle.conversion.specs.Answers.{checkSays}
@@ -34,16 +35,16 @@ enum-told-4 : tie.Need-enum-told-4
 enum-told-4 c = search needs
 
 returns-2 : tie.Need-returns-2
-returns-2 c = sym (ap checkSays (c .enum-told .given .1)) ∙ c .before .before .date-check .ensures
+returns-2 c = said checkSays (c .enum-told .given .1) (c .before .before .date-check .ensures)
 
 returns-3 : tie.Need-returns-3
-returns-3 c = sym (ap checkSays (c .enum-told2 .given .1)) ∙ c .before .before .date-check .ensures
+returns-3 c = said checkSays (c .enum-told2 .given .1) (c .before .before .date-check .ensures)
 
 returns-4 : tie.Need-returns-4
-returns-4 c = sym (ap checkSays (c .enum-told3 .given .1)) ∙ c .before .before .date-check .ensures
+returns-4 c = said checkSays (c .enum-told3 .given .1) (c .before .before .date-check .ensures)
 
 returns-5 : tie.Need-returns-5
-returns-5 c = sym (ap checkSays (c .enum-told4 .given .1)) ∙ c .before .before .date-check .ensures
+returns-5 c = said checkSays (c .enum-told4 .given .1) (c .before .before .date-check .ensures)
 
 pub validate-bs-date-spec : {M : Type 1} → statement M
 validate-bs-date-spec =

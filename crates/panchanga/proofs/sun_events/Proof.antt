@@ -1,5 +1,4 @@
 use Rattle.paper.specs.Answers.{given}
-use mathlib.Core.Path.{_≡_}
 use Rattle.panchanga.proofs.Days.{number-of, no-number}
 use borrow.Author.Needs.{needs}
 use Rattle.panchanga.proofs.sun_events.Statement.{statement}

@@ -1,5 +1,3 @@
-use mathlib.Core.Path.{ap}
-use Rattle.gregorian.specs.Instants.{nptSays}
 use borrow.Author.Needs.{needs}
 use Rattle.panchanga.proofs.lunar.falls_on.Statement.{statement}
 use Rattle.panchanga.proofs.lunar.falls_on.Tie as tie

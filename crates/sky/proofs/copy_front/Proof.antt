@@ -5,8 +5,8 @@ use mathlib.Core.List.{List, _++_}
 use Prim.Native.Nat.{_≤_, _-_}
 use mathlib.Core.Path.{_≡_, refl, ap, _∙_}
 use native.Mathlib.Omega.{arith}
-use Rattle.sky.proofs.search.copy_front.Statement.{statement}
-use Rattle.sky.proofs.search.copy_front.Tie as tie
+use Rattle.sky.proofs.copy_front.Statement.{statement}
+use Rattle.sky.proofs.copy_front.Tie as tie
 
 abbrev Inv-loop : tie.InvT-loop
 Inv-loop src n out₀ i₀ out i = (i ≤ n) × (out ≡ take i src ++ drop i out₀)

@@ -1,0 +1,55 @@
+-- Floats by their bits: which patterns are no number's. Assumes nothing.
+use Prim.Native.Nat.{ℕ, _%_, _≤_, _<_}
+use mathlib.Core.Path.{_≡_, refl, sym, ap, _∙_}
+use mathlib.Core.Bool.{true, false, not, true≢false}
+use mathlib.Core.List.{[], _∷_, _++_}
+use borrow.Author.Tests.{lt-ltb, le-ltb}
+use lib.Dec.{T}
+use lib.Ieee.{Float, nan, inf, fin, binary64, eq, ne, div, isNan, ofBits, nanBits, toBits}
+use lib.Ieee.Compare.{differs-from-itself}
+use lib.Ieee.Bits.{nanBits-is, nanBits-above}
+use Rattle.text.specs.Digits.{run}
+use Rattle.replay.specs.Line.{floatText}
+
+pub pattern-number : (n : ℕ) → n % 9223372036854775808 ≤ 9218868437227405312 → T (not (nanBits binary64 n))
+pattern-number n h =
+    let e : nanBits binary64 n ≡ false = nanBits-above binary64 n ∙ le-ltb 9218868437227405312 (n % 9223372036854775808) h in
+    rw e tt
+
+is-nan : (x : Float) → isNan x ≡ true → nan ≡ x
+unfolding isNan
+is-nan nan e = refl
+is-nan (inf s) e = absurd (true≢false (sym e))
+is-nan (fin s m z) e = absurd (true≢false (sym e))
+
+pub pattern-none : (n : ℕ) → 9218868437227405312 < n % 9223372036854775808 → nan ≡ ofBits binary64 n
+pattern-none n h =
+    let e : nanBits binary64 n ≡ true = nanBits-above binary64 n ∙ lt-ltb 9218868437227405312 (n % 9223372036854775808) h in
+    is-nan (ofBits binary64 n) (sym (nanBits-is binary64 n) ∙ e)
+
+-- what equals itself is a number
+pub a-number : (x : Float) → eq x x ≡ true → isNan x ≡ false
+unfolding eq isNan
+a-number nan e = sym e
+a-number (inf s) e = refl
+a-number (fin s m z) e = refl
+
+pub no-number : (x : Float) → eq x x ≡ false → isNan x ≡ true
+unfolding ne isNan
+no-number x e = ap isNan (differs-from-itself x (rw e tt))
+
+pub defined : (x : Float) → isNan x ≡ false → T (not (isNan x))
+defined x e = rw e tt
+
+-- what 0.0 / 0.0 gives
+pub no-quotient : div binary64 (ofBits binary64 0) (ofBits binary64 0) ≡ nan
+unfolding div ofBits
+no-quotient = refl
+
+pub number-text : (x : Float) → isNan x ≡ false → (48 ∷ 120 ∷ []) ++ run 16 16 (toBits binary64 x) ≡ floatText x
+unfolding floatText
+number-text x e = rw e
+
+pub nan-text : (x : Float) → isNan x ≡ true → 110 ∷ 97 ∷ 110 ∷ [] ≡ floatText x
+unfolding floatText
+nan-text x e = rw e

@@ -1,0 +1,2 @@
+-- What the contracts of `replay` are written in.
+pub mod Line
