@@ -1,0 +1,118 @@
+-- The fronts of the page and of the lists are what the month's buffers hold. Assumes nothing.
+use borrow.Author.Needs.{needs}
+use Prim.Native.Nat.{ℕ, _*_, _≤_}
+use mathlib.Core.Path.{sym, ap, _∙_}
+use native.Mathlib.Omega.{arith}
+use lib.ListN.{length, take}
+use Rattle.paper.specs.Answers.{answered}
+use Rattle.grid.specs.Month.{cellNumbers, festivalNumbers}
+use Rattle.grid.specs.Inner.{gridBy}
+use Rattle.grid.proofs.Grids.{no-cells, no-festivals, fits, count-refused, write-refused, write-front, cell-numbers-length, festival-numbers-length, festivals-are, page-front, lists-front, answered-as}
+use Rattle.grid.proofs.page.copy_month.Statement.{statement}
+use Rattle.grid.proofs.page.copy_month.Tie as tie
+
+cell-count-requires : tie.Need-cell-count-requires
+cell-count-requires c κs = search needs
+
+mul-if1 : tie.Need-mul-if1
+mul-if1 c = search needs
+
+returns : tie.Need-returns
+returns c =
+    let a = c .before .before .before .before .before .before .before .args in
+    let g = gridBy (a .rules .now) (a .plan) in
+    let h = no-cells g (length (a .cells .now)) (length (a .festivals .now)) (omega (arith, c .if1 .taken, c .before .cell-count .ensures, cell-numbers-length (a .rules .now) (a .plan))) in
+    (count-refused _ 9 h, (write-refused cellNumbers _ 9 _ h, write-refused festivalNumbers _ 9 _ h))
+
+fill-requires : tie.Need-fill-requires
+fill-requires c κs = search needs
+
+mul-if2 : tie.Need-mul-if2
+mul-if2 c = search needs
+
+same-length : tie.Need-same-length
+same-length c = search needs
+
+same-length-2 : tie.Need-same-length-2
+same-length-2 c = search needs
+
+returns-2 : tie.Need-returns-2
+returns-2 c =
+    let a = c .before .before .before .before .before .before .before .before .before .before .before .before .before .before .before .args in
+    let g = gridBy (a .rules .now) (a .plan) in
+    let n = c .before .before .before .before .before .fill .ensures .1 .1 .0 ∙ ap length (sym (festivals-are (a .rules .now) (a .plan))) in
+    let h = no-festivals g (length (a .cells .now)) (length (a .festivals .now)) (omega (arith, c .if2 .taken, n, festival-numbers-length (a .rules .now) (a .plan))) in
+    (count-refused _ 9 h, (write-refused cellNumbers _ 9 _ h, write-refused festivalNumbers _ 9 _ h))
+
+mul-put-front : tie.Need-mul-put-front
+mul-put-front c = search needs
+
+put-front-requires : tie.Need-put-front-requires
+put-front-requires c κs = search needs
+
+mul-put-front-2 : tie.Need-mul-put-front-2
+mul-put-front-2 c = search needs
+
+put-front-requires-2 : tie.Need-put-front-requires-2
+put-front-requires-2 c κs = search needs
+
+month-of-requires : tie.Need-month-of-requires
+month-of-requires c κs = search needs
+
+same-length-3 : tie.Need-same-length-3
+same-length-3 c = search needs
+
+same-length-4 : tie.Need-same-length-4
+same-length-4 c = search needs
+
+same-length-5 : tie.Need-same-length-5
+same-length-5 c = search needs
+
+same-length-6 : tie.Need-same-length-6
+same-length-6 c = search needs
+
+returns-3 : tie.Need-returns-3
+returns-3 c =
+    let s = c .before .before .before .before .before .before .before .before .before .before .before .before .before .before .before .before .before .before .before .before .before .before .before .before .before .before in
+    let a = s .args in
+    let rules = a .rules .now in
+    let p = a .plan in
+    let g = gridBy rules p in
+    let e = c .before .before .before .before .before .before .before .before .before .before .before .before .before .before .before .before .before .before .before .before .cell-count .ensures in
+    let f = c .before .before .before .before .before .before .before .before .before .before .before .before .before .before .before .before .fill .ensures in
+    let n = f .1 .1 .0 ∙ ap length (sym (festivals-are rules p)) in
+    let room : length (cellNumbers g) ≤ length (a .cells .now) = omega (arith, c .before .before .before .before .before .before .before .before .before .before .before .before .before .before .before .before .before .before .before .if1 .left, e, cell-numbers-length rules p) in
+    let space : length (festivalNumbers g) ≤ length (a .festivals .now) = omega (arith, c .before .before .before .before .before .before .before .before .before .before .before .if2 .left, n, festival-numbers-length rules p) in
+    let h = fits g (length (a .cells .now)) (length (a .festivals .now)) room space in
+    let page = c .before .before .before .before .before .before .before .before .before .before .before .before .before .before .before .before .fill .last .1 .1 .0 in
+    let cells-front = ap (λ (k : ℕ). take (k * 12) page) e ∙ page-front rules p (a .page .now) page (s .pre .1 .1) (f .0) (omega (arith, s .pre .1 .0)) in
+    let festivals-front = lists-front rules p (a .lists .now) (c .before .before .before .before .before .before .before .before .before .before .before .before .before .before .before .before .fill .last .1 .1 .1 .0) (c .before .before .before .before .before .before .before .before .before .before .before .before .before .before .before .before .fill .result) (f .1 .0) (f .1 .1 .0) (omega (arith, f .1 .1 .1, s .pre .1 .0 .1 .festivals)) in (
+      ap answered (c .month-of .ensures) ∙ answered-as rules p _ _ _ h e n,
+      (
+        c .before .before .before .before .before .before .before .before .put-front .ensures ∙ write-front cellNumbers _ g (a .cells .now) _ h cells-front room,
+        c .before .before .before .put-front2 .ensures ∙ write-front festivalNumbers _ g (a .festivals .now) _ h festivals-front space,
+      ),
+    )
+
+pub copy-month-spec : {M : Type 1} → statement M
+copy-month-spec =
+    tie.close
+    (tie.spec
+    cell-count-requires
+    mul-if1
+    returns
+    fill-requires
+    mul-if2
+    same-length
+    same-length-2
+    returns-2
+    mul-put-front
+    put-front-requires
+    mul-put-front-2
+    put-front-requires-2
+    month-of-requires
+    same-length-3
+    same-length-4
+    same-length-5
+    same-length-6
+    returns-3)

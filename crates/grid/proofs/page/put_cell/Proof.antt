@@ -1,0 +1,101 @@
+-- The list that was stored shows how many festivals there are and whether one is a holiday. Assumes nothing.
+use borrow.Author.Needs.{needs}
+use Prim.Native.Nat.{ℕ, _+_, _*_}
+use mathlib.Core.Path.{ap, _∙_}
+use native.Mathlib.Omega.{arith}
+use lib.ListN.{length}
+use lib.Seq.{sets}
+use Rattle.rules.specs.declared.lists.Day.{Day}
+use Rattle.rules.specs.Festivals.{numbers}
+use Rattle.grid.specs.Cells.{dayCell}
+use Rattle.grid.specs.Inner.{readingOn, listFor}
+use Rattle.grid.proofs.Marks.{shown, cell-of, cell-length, sets-same}
+use Rattle.grid.proofs.page.put_cell.Statement.{statement}
+use Rattle.grid.proofs.page.put_cell.Tie as tie
+
+day-on-requires : tie.Need-day-on-requires
+day-on-requires c κs = search needs
+
+put-day-requires : tie.Need-put-day-requires
+put-day-requires c κs = search needs
+
+any-holiday-requires : tie.Need-any-holiday-requires
+any-holiday-requires c κs = search needs
+
+reading-of-requires : tie.Need-reading-of-requires
+reading-of-requires c κs = search needs
+
+sub-day-cell : tie.Need-sub-day-cell
+sub-day-cell c = search needs
+
+cast-day-cell : tie.Need-cast-day-cell
+cast-day-cell c = search needs
+
+day-cell-requires : tie.Need-day-cell-requires
+day-cell-requires c κs =
+    let s = c .before .before .before .before .before .before .before .before .before .before .before in
+    let p = s .pre .1 .0 in
+    let e = ap (λ (q : Day). q .number) (c .before .before .before .before .before .before .before .day-on .ensures) in
+    record { from = omega (arith, e, p .0 .from); to = omega (arith, e, p) }
+
+lead-of-requires : tie.Need-lead-of-requires
+lead-of-requires c κs = let p = c .before .before .before .before .before .before .before .before .before .before .before .before .before .pre .1 .0 .0 in omega (arith, p .to)
+
+add-put : tie.Need-add-put
+add-put c = search needs
+
+mul-put : tie.Need-mul-put
+mul-put c = search needs
+
+slice-aggregate-put : tie.Need-slice-aggregate-put
+slice-aggregate-put c = search needs
+
+put-requires : tie.Need-put-requires
+put-requires c κs =
+    let s = c .before .before .before .before .before .before .before .before .before .before .before .before .before .before .before in
+    omega (arith, ap length (c .before .before .before .day-cell .ensures) ∙ cell-length _ _ _ _ _, c .before .lead-of .ensures, s .pre .1)
+
+same-length : tie.Need-same-length
+same-length c = search needs
+
+same-length-2 : tie.Need-same-length-2
+same-length-2 c = search needs
+
+returns : tie.Need-returns
+returns c =
+    let s = c .before .before .before .before .before .before .before .before .before .before .before .before .before .before .before .before .before .before in
+    let a = s .args in
+    let list = listFor (a .rules .now) (a .plan) in
+    let q = c .before .before .before .before .before .before .before .before .before .before .before .before .before .before .day-on .result in
+    let e = c .before .before .before .before .before .before .before .before .before .before .before .before .before .before .day-on .ensures in
+    let p = c .before .before .before .before .before .before .before .before .before .before .before .before .put-day in
+    let t = shown (list q) (a .lists .now) (p .last .1 .1 .1 .1 .0) (a .at) (p .result) (p .ensures .0) (p .ensures .1 .0) (omega (arith, p .ensures .1 .1, s .pre .1)) in
+    let k = cell-of (a .plan .today) q (list q) (readingOn q) (c .before .before .before .before .before .before .before .reading-of .result) _ _ (t .0) (c .before .before .before .before .before .before .before .before .any-holiday .ensures ∙ t .1) (c .before .before .before .before .before .before .before .reading-of .ensures) in (
+      c .before .before .put .ensures
+          ∙ sets-same (a .page .now) _ _ _ _ (ap (λ (z : ℕ). (z + a .d) * 12) (c .before .before .before .before .lead-of .ensures))
+          (c .before .before .before .before .before .before .day-cell .ensures ∙ k ∙ ap (λ (x : Day). dayCell (a .plan .today) x (list x) (readingOn x)) e),
+      (
+        p .ensures .0 ∙ ap (λ (x : Day). sets (a .lists .now) (a .at * 2) (numbers (list x))) e,
+        (p .ensures .1 .0 ∙ ap (λ (x : Day). a .at + length (list x)) e, p .ensures .1 .1),
+      ),
+    )
+
+pub put-cell-spec : {M : Type 1} → statement M
+put-cell-spec =
+    tie.close
+    (tie.spec
+    day-on-requires
+    put-day-requires
+    any-holiday-requires
+    reading-of-requires
+    sub-day-cell
+    cast-day-cell
+    day-cell-requires
+    lead-of-requires
+    add-put
+    mul-put
+    slice-aggregate-put
+    put-requires
+    same-length
+    same-length-2
+    returns)

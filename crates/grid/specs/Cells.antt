@@ -1,0 +1,71 @@
+-- A day's cell of twelve numbers, and cells laid out in weeks from Sunday. Assumes nothing.
+use Prim.Native.Nat.{ℕ, zero, suc, _+_, _-_, _%_}
+use mathlib.Core.Bool.{Bool, true, false, _&&_, _||_}
+use mathlib.Core.List.{List, [], _∷_, _++_}
+use lib.Dec.{eqb}
+use lib.ListN.{length, replicate}
+use Rattle.gregorian.specs.declared.Date.{Date}
+use Rattle.gregorian.specs.Calendar.{weekdayOf}
+use Rattle.rules.specs.declared.lists.Day.{Day}
+use Rattle.rules.specs.Festivals.{Pair}
+use Rattle.panchanga.specs.declared.lunar.Reading.{Reading}
+
+-- ---- a day
+
+abbrev pub one : Bool → ℕ
+one true = 1
+one false = 0
+
+abbrev pub same : Date → Date → Bool
+same a b = eqb (a .year) (b .year) && eqb (a .month) (b .month) && eqb (a .day) (b .day)
+
+-- a holiday is in the list
+unfoldable pub anyHoliday : List Pair → Bool
+anyHoliday [] = false
+anyHoliday (e ∷ es) = eqb (e .1) 1 || anyHoliday es
+
+-- the cell of a day: how many festivals it has, whether one is a holiday, and its reading
+-- (BS day; Gregorian year, month, day; weekday; today; holiday; tithi; tithi end; sunrise; sunset; festival count)
+unfoldable pub cellWith : Date → Day → ℕ → Bool → Reading → List ℕ
+cellWith today q count holiday r =
+    q .bs .day
+    ∷ q .ad .year
+    ∷ q .ad .month
+    ∷ q .ad .day
+    ∷ weekdayOf (q .number)
+    ∷ one (same (q .ad) today)
+    ∷ one (eqb (weekdayOf (q .number)) 6 || holiday)
+    ∷ r .tithi
+    ∷ r .end
+    ∷ r .sunrise
+    ∷ r .sunset
+    ∷ count
+    ∷ []
+
+-- the cell of a day with its list as shown: a holiday is a Saturday, or has a holiday in that list
+abbrev pub dayCell : Date → Day → List Pair → Reading → List ℕ
+dayCell today q list r = cellWith today q (length list) (anyHoliday list) r
+
+-- ---- the layout
+
+-- padding: twelve times 0
+abbrev pub blank : List ℕ
+blank = replicate 12 0
+
+-- how many cells fill the last week, after k cells
+abbrev pub toFill : ℕ → ℕ
+toFill k = (7 - k % 7) % 7
+
+-- whole weeks: blanks up to the first day's weekday, the days, blanks to the week's end
+unfoldable pub weeks : ℕ → List (List ℕ) → List (List ℕ)
+weeks lead days = replicate lead blank ++ days ++ replicate (toFill (lead + length days)) blank
+
+-- f k, f (k + 1), .., f (k + n - 1)
+unfoldable pub each : {A : Type 0} → (ℕ → A) → ℕ → ℕ → List A
+each f k zero = []
+each f k (suc n) = f k ∷ each f (k + 1) n
+
+-- one after the other
+unfoldable pub joined : {A : Type 0} → List (List A) → List A
+joined [] = []
+joined (l ∷ ls) = l ++ joined ls

@@ -1,0 +1,65 @@
+-- What the inner functions ask and promise. Assumes nothing.
+use Prim.Native.Nat.{ℕ, zero, suc, _+_, _-_, _*_, _≤_, _<_}
+use mathlib.Core.Bool.{Bool, false, _||_}
+use mathlib.Core.List.{List}
+use lib.Dec.{eqb}
+use lib.ListN.{length, getD}
+use Rattle.gregorian.specs.Calendar.{dateOf, weekdayOf}
+use Rattle.rules.specs.declared.lists.Day.{Day}
+use Rattle.rules.specs.Festivals.{Pair}
+use Rattle.rules.specs.Rules.{rulesOf}
+use Rattle.rules.specs.Resolved.{listBy}
+use Rattle.panchanga.specs.declared.lunar.Reading.{Reading}
+use Rattle.panchanga.specs.Reading.{readingOf}
+use Rattle.grid.specs.declared.page.Plan.{Plan}
+use Rattle.grid.specs.declared.Month.{Month}
+use Rattle.grid.specs.Cells.{toFill}
+use Rattle.grid.specs.Month.{Grid, listOn, cellOn, gridOf}
+
+-- a day number from that of 1 January 1900 to that of 31 December 2149
+pub record Dated (n : ℕ) : Type 0 where
+  pub from : 2415021 ≤ n
+  pub to : n < 2506332
+
+-- a month of a table
+pub record Planned (p : Plan) : Type 0 where
+  pub some : 1 ≤ p .days
+  pub few : p .days ≤ 32
+  pub from : 2415021 ≤ p .first
+  pub to : p .first + p .days < 2506332
+
+-- room for six weeks of cells, and for all lists of a month
+pub record Roomy (page lists : List ℕ) : Type 0 where
+  pub cells : 504 ≤ length page
+  pub festivals : 24576 ≤ length lists
+
+-- one of the k pairs from pair i on has the mark of a holiday
+unfoldable pub anyMark : List ℕ → ℕ → ℕ → Bool
+anyMark xs i zero = false
+anyMark xs i (suc k) = eqb (getD xs (i * 2 + 1) 0) 1 || anyMark xs (i + 1) k
+
+-- the reading of a day
+abbrev pub readingOn : Day → Reading
+readingOn q = readingOf (q .ad) (q .number)
+
+-- ---- a month from two resolved years
+
+module _ (rules : List ℕ) (p : Plan) where
+  abbrev pub listFor : Day → List Pair
+  listFor q = listBy (rulesOf rules) q (p .before .days) (p .this .days)
+
+  abbrev pub listAt : ℕ → List Pair
+  listAt = listOn listFor readingOn (p .today) (p .year) (p .month) (p .first)
+
+  abbrev pub cellAt : ℕ → List ℕ
+  cellAt = cellOn listFor readingOn (p .today) (p .year) (p .month) (p .first)
+
+  abbrev pub gridBy : Grid
+  gridBy = gridOf listFor readingOn (p .today) (p .year) (p .month) (p .first) (p .days)
+
+abbrev pub cellsOf : Plan → ℕ
+cellsOf p = weekdayOf (p .first) + p .days + toFill (weekdayOf (p .first) + p .days)
+
+abbrev pub monthOf : Plan → ℕ → ℕ → Month
+monthOf p cells festivals =
+    record { days = p .days; first = dateOf (p .first); last = dateOf (p .first + (p .days - 1)); cells = cells; festivals = festivals }

@@ -1,0 +1,5 @@
+-- What stepping a month and the cells of a month mean.
+pub mod Step
+pub mod Cells
+pub mod Month
+pub mod Inner

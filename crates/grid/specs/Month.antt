@@ -1,0 +1,92 @@
+-- A month's cells and festivals, over any calendar, any day lists and any reading. Assumes nothing.
+use Prim.Native.Nat.{ℕ, _+_, _-_}
+use mathlib.Core.Bool.{Bool, _&&_}
+use mathlib.Core.List.{List, _++_}
+use lib.Dec.{leb}
+use lib.ListN.{length, drop}
+use Rattle.paper.specs.Answers.{Answer, answered, refused, given}
+use Rattle.gregorian.specs.declared.Date.{Date}
+use Rattle.gregorian.specs.Calendar.{dateOf, weekdayOf}
+use Rattle.gregorian.specs.Answers.{real}
+use Rattle.conversion.specs.Calendar.{Calendar, yearOk, monthOk, dayAt}
+use Rattle.rules.specs.declared.lists.Day.{Day}
+use Rattle.rules.specs.Festivals.{Pair, numbers}
+use Rattle.panchanga.specs.declared.lunar.Reading.{Reading}
+use Rattle.grid.specs.declared.Month.{Month}
+use Rattle.grid.specs.declared.GridAnswer.{GridAnswer}
+use Rattle.grid.specs.declared.GridAnswer.the-variants as GA
+use Rattle.grid.specs.Cells.{dayCell, weeks, each, joined}
+
+-- a month whose first day has the number `first`: its day d, counted from 0
+abbrev pub dayOn : ℕ → ℕ → ℕ → ℕ → Day
+dayOn y m first d =
+    record { bs = record { year = y; month = m; day = d + 1 }; ad = dateOf (first + d); number = first + d }
+
+-- the month as cells in whole weeks, and the lists of its days one after the other
+pub record Grid : Type 0 where
+  pub days : ℕ
+  pub first : Date
+  pub last : Date
+  pub cells : List (List ℕ)
+  pub festivals : List Pair
+
+module _ (list : Day → List Pair) (reading : Day → Reading) (today : Date) (y m first : ℕ) where
+  abbrev pub listOn : ℕ → List Pair
+  listOn d = list (dayOn y m first d)
+
+  abbrev pub cellOn : ℕ → List ℕ
+  cellOn d = dayCell today (dayOn y m first d) (listOn d) (reading (dayOn y m first d))
+
+  -- a month of so many days
+  unfoldable pub gridOf : ℕ → Grid
+  gridOf days =
+      record {
+        days = days;
+        first = dateOf first;
+        last = dateOf (first + (days - 1));
+        cells = weeks (weekdayOf first) (each cellOn 0 days);
+        festivals = joined (each listOn 0 days);
+      }
+
+-- what is written of it into the two buffers
+abbrev pub cellNumbers : Grid → List ℕ
+cellNumbers g = joined (g .cells)
+
+abbrev pub festivalNumbers : Grid → List ℕ
+festivalNumbers g = numbers (g .festivals)
+
+-- the month, where each buffer of these lengths is long enough: refusal 9
+unfoldable pub fitted : Grid → ℕ → ℕ → Answer Grid
+fitted g cellRoom festivalRoom =
+    given (leb (length (cellNumbers g)) cellRoom && leb (length (festivalNumbers g)) festivalRoom) 9 (answered g)
+
+-- month m of year y: refusals 1, 2, 3 (today), 4, 5, 9
+unfoldable pub monthGrid : Calendar → Bool → (Day → List Pair) → (Day → Reading) → Date → ℕ → ℕ → ℕ → ℕ → Answer Grid
+monthGrid c ok list reading today y m cellRoom festivalRoom =
+    let first = dayAt c (y - c .first) (m - 1) 0 in
+    let days = c .len (y - c .first) (m - 1) in
+    given (c .good) 1
+    (given ok 2
+    (given (real today) 3
+    (given (yearOk c y) 4
+    (given (monthOk m) 5 (fitted (gridOf list reading today y m first days) cellRoom festivalRoom)))))
+
+-- the answer's numbers: days, first and last Gregorian date, cells and festivals
+unfoldable pub counts : Answer Grid → Answer Month
+counts (answered g) =
+    answered (record { days = g .days; first = g .first; last = g .last; cells = length (g .cells); festivals = length (g .festivals) })
+counts (refused k) = refused k
+
+-- a lent buffer as it then stands: what is written from the front, and what lies past it; a refusal changes nothing
+unfoldable pub written : (Grid → List ℕ) → Answer Grid → List ℕ → List ℕ
+written f (answered g) out = f g ++ drop (length (f g)) out
+written f (refused k) out = out
+
+abbrev pub gridSays : GridAnswer → Answer Month
+gridSays (GA.Is m) = answered m
+gridSays GA.BadTable = refused 1
+gridSays GA.BadRules = refused 2
+gridSays GA.NoSuchDate = refused 3
+gridSays GA.NoYear = refused 4
+gridSays GA.NoMonth = refused 5
+gridSays GA.NoRoom = refused 9

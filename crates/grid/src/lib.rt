@@ -1,0 +1,56 @@
+// Months: stepping from one to another, and the cells of one laid out in weeks.
+mod cells;
+mod page;
+mod step;
+
+ghost use mathlib.Core.Path.{_≡_};
+ghost use Rattle.conversion.specs.Flat.{flat};
+ghost use Rattle.grid.specs.Step.{stepMonth, stepSays};
+use crate::step::absolute_month;
+use crate::step::month_at;
+use conversion::Table;
+use conversion::accepts;
+use gregorian::Date;
+
+pub struct BsMonth {
+    pub year: u16,
+    pub month: u8,
+}
+
+// A month, or refusal 1 or 10.
+pub enum StepAnswer {
+    Month(BsMonth),
+    BadTable,
+    OffTable,
+}
+
+// A month's days, its first and last Gregorian date, and how many cells and festivals were written.
+pub struct Month {
+    pub days: u16,
+    pub first: Date,
+    pub last: Date,
+    pub cells: usize,
+    pub festivals: usize,
+}
+
+// A month, or refusal 1, 2, 3, 4, 5 or 9.
+pub enum GridAnswer {
+    Is(Month),
+    BadTable,
+    BadRules,
+    NoSuchDate,
+    NoYear,
+    NoMonth,
+    NoRoom,
+}
+
+// A month stepped by a number of months, worked exactly: month 0 and months past 12 are stepped too.
+pub fn step_month(table: Table, rows: &[u16], year: u16, month: u8, step: i32) -> StepAnswer
+    ensures { λ r. ⌜ stepSays r ≡ stepMonth (flat table (now (rows .entry))) year month step ⌝ }
+{
+    if !accepts(table, rows) {
+        return StepAnswer::BadTable;
+    }
+    let years = (rows.len() / 13) as u16;
+    month_at(table.first_year, years, absolute_month(year, month, step))
+}

@@ -1,0 +1,6 @@
+pub mod Rules
+pub mod Sky
+pub mod Days
+pub mod Festivals
+pub mod Resolved
+pub mod Store
