@@ -10,27 +10,22 @@ mod recipe {
 
 mod port {
     extern "C" {
-        fn trig_sine(x: f64) -> f64;
-        fn trig_cosine(x: f64) -> f64;
-        fn trig_arcsine(x: f64) -> f64;
-        fn trig_arccosine(x: f64) -> f64;
-        fn trig_tangent(x: f64) -> f64;
+        fn panel_sine(x: f64, value: &mut f64) -> u16;
+        fn panel_cosine(x: f64, value: &mut f64) -> u16;
+        fn panel_arcsine(x: f64, value: &mut f64) -> u16;
+        fn panel_arccosine(x: f64, value: &mut f64) -> u16;
+        fn panel_tangent(x: f64, value: &mut f64) -> u16;
     }
-    pub fn sin(x: f64) -> f64 {
-        unsafe { trig_sine(x) }
+    macro_rules! over {
+        ($($name:ident $export:ident)*) => {
+            $(pub fn $name(x: f64) -> f64 {
+                let mut value = 0.0;
+                unsafe { $export(x, &mut value) };
+                value
+            })*
+        };
     }
-    pub fn cos(x: f64) -> f64 {
-        unsafe { trig_cosine(x) }
-    }
-    pub fn asin(x: f64) -> f64 {
-        unsafe { trig_arcsine(x) }
-    }
-    pub fn acos(x: f64) -> f64 {
-        unsafe { trig_arccosine(x) }
-    }
-    pub fn tan(x: f64) -> f64 {
-        unsafe { trig_tangent(x) }
-    }
+    over!(sin panel_sine cos panel_cosine asin panel_arcsine acos panel_arccosine tan panel_tangent);
 }
 
 const MILLION: usize = 1_000_000;

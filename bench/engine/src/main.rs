@@ -1,0 +1,211 @@
+//! See `../run`. Prints a table: the time of a question to the port, to the parameterised Rust and to the Rust untouched, and the ratios.
+mod port;
+mod timing;
+
+use chrono::{Datelike, NaiveDate};
+use parameterised::conversion::{self, BsDate, Table};
+use parameterised::gregorian::Date;
+use parameterised::panchanga::{self, Ut};
+use parameterised::trig;
+use std::cell::RefCell;
+use timing::{Ask, Timed};
+use untouched_nepal as untouched;
+
+const ROUNDS: usize = 41;
+
+/// Marsaglia's xorshift, from a fixed seed: each run has the same inputs.
+struct Dice(u64);
+
+impl Dice {
+    fn bits(&mut self) -> u64 {
+        self.0 ^= self.0 << 13;
+        self.0 ^= self.0 >> 7;
+        self.0 ^= self.0 << 17;
+        self.0
+    }
+    fn below(&mut self, end: usize) -> usize {
+        (self.bits() >> 11) as usize % end
+    }
+    fn real(&mut self, from: f64, to: f64) -> f64 {
+        from + (to - from) * ((self.bits() >> 11) as f64 / (1u64 << 53) as f64)
+    }
+}
+
+/// The table of the Rust untouched, which its owner made.
+fn owner_table() -> Table {
+    let first = untouched::BsDate { year: untouched::BS_START_YEAR, month: 1, day: 1 };
+    let first = untouched::bs_to_ad(first).expect("its first day");
+    Table {
+        first_year: untouched::BS_START_YEAR,
+        first_day: date_of(first),
+        rows: untouched::BS_REFERENCE.iter().flatten().copied().collect(),
+    }
+}
+
+fn date_of(date: NaiveDate) -> Date {
+    Date { year: date.year() as u16, month: date.month() as u16, day: date.day() as u16 }
+}
+
+fn naive(date: Date) -> NaiveDate {
+    NaiveDate::from_ymd_opt(date.year.into(), date.month.into(), date.day.into()).expect("a date")
+}
+
+fn of_date(date: Date) -> u64 {
+    (date.year as u64) << 32 | (date.month as u64) << 16 | date.day as u64
+}
+
+fn of_bs(bs: BsDate) -> u64 {
+    of_date(Date { year: bs.year, month: bs.month, day: bs.day })
+}
+
+fn narrow(bs: BsDate) -> untouched::BsDate {
+    untouched::BsDate { year: bs.year, month: bs.month as u8, day: bs.day as u8 }
+}
+
+/// Numbers folded into one.
+fn fold(numbers: &[u64]) -> u64 {
+    numbers.iter().fold(0, |all, number| all.rotate_left(13) ^ number)
+}
+
+/// A time in a unit that suits it.
+fn shown(seconds: f64) -> String {
+    match seconds {
+        s if s < 1e-6 => format!("{:.1} ns", s * 1e9),
+        s if s < 1e-3 => format!("{:.2} µs", s * 1e6),
+        s => format!("{:.2} ms", s * 1e3),
+    }
+}
+
+struct Report {
+    good: bool,
+}
+
+impl Report {
+    fn row(&mut self, name: &str, rust: Timed, untouched: Option<Timed>) {
+        let ratio = |timed: Timed| format!("{} | {:.2}", shown(timed.rust), timed.ratio);
+        let untouched = untouched.map_or("| ".to_string(), ratio);
+        println!("| {name} | {} | {} | {untouched} |", shown(rust.port), ratio(rust));
+    }
+
+    /// Times a question over inputs, after it has seen that port and parameterised Rust answer alike.
+    fn compared(&mut self, name: &str, inputs: usize, mut port: Ask, mut rust: Ask, untouched: Option<Ask>) {
+        let differing = (0..inputs).filter(|&i| port(i) != rust(i)).count();
+        if differing > 0 {
+            println!("| {name}: {differing} of {inputs} answers differ | | | | | |");
+            self.good = false;
+        }
+        let timed = timing::rounds(ROUNDS, inputs, &mut port, &mut rust);
+        let untouched = untouched.map(|mut ask| timing::rounds(ROUNDS, inputs, &mut port, &mut ask));
+        self.row(name, timed, untouched);
+    }
+}
+
+fn sines(report: &mut Report, dice: &mut Dice) {
+    let xs: Vec<f64> = (0..100_000).map(|_| dice.real(-60_000.0, 60_000.0)).collect();
+    report.compared(
+        "sine",
+        xs.len(),
+        Box::new(|i| port::sine(xs[i]).to_bits()),
+        Box::new(|i| trig::sin(xs[i]).to_bits()),
+        Some(Box::new(|i| xs[i].sin().to_bits())),
+    );
+}
+
+fn conversions(report: &mut Report, dice: &mut Dice, table: &Table) {
+    let years = table.rows.len() / 13;
+    let dates: Vec<BsDate> = (0..4_000)
+        .map(|_| BsDate {
+            year: table.first_year + dice.below(years) as u16,
+            month: dice.below(12) as u16 + 1,
+            day: dice.below(29) as u16 + 1,
+        })
+        .collect();
+    report.compared(
+        "BS to Gregorian",
+        dates.len(),
+        Box::new(|i| of_date(port::bs_to_ad(table, dates[i]).expect("a date"))),
+        Box::new(|i| of_date(conversion::bs_to_ad(table, dates[i]).expect("a date"))),
+        Some(Box::new(|i| of_date(date_of(untouched::bs_to_ad(narrow(dates[i])).expect("a date"))))),
+    );
+    let ads: Vec<Date> = dates.iter().map(|&bs| conversion::bs_to_ad(table, bs).expect("a date")).collect();
+    let naives: Vec<NaiveDate> = ads.iter().map(|&ad| naive(ad)).collect();
+    report.compared(
+        "Gregorian to BS",
+        ads.len(),
+        Box::new(|i| of_bs(port::ad_to_bs(table, ads[i]).expect("a date"))),
+        Box::new(|i| of_bs(conversion::ad_to_bs(table, ads[i]).expect("a date"))),
+        Some(Box::new(|i| untouched::ad_to_bs(naives[i]).expect("a date").day as u64)),
+    );
+}
+
+fn elongations(report: &mut Report, dice: &mut Dice) {
+    let instants: Vec<f64> = (0..4_000).map(|_| dice.real(2430000.0, 2470000.0)).collect();
+    report.compared(
+        "elongation",
+        instants.len(),
+        Box::new(|i| port::elongation(instants[i]).expect("an instant").to_bits()),
+        Box::new(|i| panchanga::elongation(Ut(instants[i])).expect("an instant").to_bits()),
+        Some(Box::new(|i| untouched::panchanga::elongation(instants[i]).to_bits())),
+    );
+}
+
+fn readings(report: &mut Report, dice: &mut Dice) {
+    let dates: Vec<Date> =
+        (0..100).map(|_| Date::from_day_number(2430000 + dice.below(40000) as i64).expect("a date")).collect();
+    let numbers = |reading: [u16; 4]| fold(&reading.map(u64::from));
+    report.compared(
+        "reading",
+        dates.len(),
+        Box::new(|i| numbers(port::reading(dates[i]).expect("a date"))),
+        Box::new(|i| {
+            let reading = panchanga::reading(dates[i]).expect("a date");
+            numbers([reading.tithi, reading.end, reading.sunrise, reading.sunset])
+        }),
+        Some(Box::new(|i| untouched::panchanga::Reading::for_date(naive(dates[i])).tithi.into())),
+    );
+}
+
+fn searches(report: &mut Report, dice: &mut Dice) {
+    let years: Vec<(u16, f64)> =
+        (0..12).map(|_| (dice.below(30) as u16 + 1, dice.real(2430000.0, 2470000.0))).collect();
+    let out = RefCell::new([0.0; 40]);
+    let starts = |count: usize, steps: usize| {
+        let bits: Vec<u64> = out.borrow()[..count].iter().map(|start: &f64| start.to_bits()).collect();
+        fold(&bits) ^ steps as u64
+    };
+    report.compared(
+        "a year's search",
+        years.len(),
+        Box::new(|i| {
+            let (tithi, from) = years[i];
+            let found = port::tithi_starts_between(tithi, from, from + 365.25, &mut *out.borrow_mut());
+            let (count, steps) = found.expect("a search");
+            starts(count, steps)
+        }),
+        Box::new(|i| {
+            let (tithi, from) = years[i];
+            let (from, to) = (Ut(from), Ut(from + 365.25));
+            let found = panchanga::tithi_starts_between(tithi, from, to, &mut *out.borrow_mut());
+            let (count, steps) = found.expect("a search");
+            starts(count, steps.into())
+        }),
+        Some(Box::new(|i| {
+            let (tithi, from) = years[i];
+            untouched::panchanga::tithi_starts_between(tithi as u8, from, from + 365.25).len() as u64
+        })),
+    );
+}
+
+fn main() {
+    let mut dice = Dice(88172645463325252);
+    let mut report = Report { good: true };
+    let table = owner_table();
+    println!("| question | port | parameterised Rust | ratio | Rust untouched | ratio |");
+    println!("|---|---|---|---|---|---|");
+    sines(&mut report, &mut dice);
+    conversions(&mut report, &mut dice, &table);
+    elongations(&mut report, &mut dice);
+    readings(&mut report, &mut dice);
+    searches(&mut report, &mut dice);
+    std::process::exit(!report.good as i32);
+}

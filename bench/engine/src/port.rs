@@ -1,0 +1,131 @@
+//! What is timed of include/panel.h, for Rust. A refusal is an error.
+use parameterised::Answer;
+use parameterised::conversion::{BsDate, Table};
+use parameterised::gregorian::Date;
+
+unsafe extern "C" {
+    fn panel_sine(x: f64, value: &mut f64) -> u16;
+    fn panel_elongation(ut: f64, degrees: &mut f64) -> u16;
+    fn panel_tithi_starts_between(
+        tithi: u16,
+        from: f64,
+        to: f64,
+        starts: *mut f64,
+        starts_len: usize,
+        count: &mut usize,
+        steps: &mut usize,
+    ) -> u16;
+    fn panel_reading(
+        year: u16,
+        month: u16,
+        day: u16,
+        tithi: &mut u16,
+        end: &mut u16,
+        sunrise: &mut u16,
+        sunset: &mut u16,
+    ) -> u16;
+    fn panel_bs_to_ad(
+        first_year: u16,
+        first_ad_year: u16,
+        first_ad_month: u16,
+        first_ad_day: u16,
+        rows: *const u16,
+        rows_len: usize,
+        year: u16,
+        month: u16,
+        day: u16,
+        ad_year: &mut u16,
+        ad_month: &mut u16,
+        ad_day: &mut u16,
+    ) -> u16;
+    fn panel_ad_to_bs(
+        first_year: u16,
+        first_ad_year: u16,
+        first_ad_month: u16,
+        first_ad_day: u16,
+        rows: *const u16,
+        rows_len: usize,
+        year: u16,
+        month: u16,
+        day: u16,
+        bs_year: &mut u16,
+        bs_month: &mut u16,
+        bs_day: &mut u16,
+    ) -> u16;
+}
+
+fn answered<T>(code: u16, value: T) -> Answer<T> {
+    if code == 0 { Ok(value) } else { Err(code) }
+}
+
+pub fn sine(x: f64) -> f64 {
+    let mut value = 0.0;
+    unsafe { panel_sine(x, &mut value) };
+    value
+}
+
+pub fn elongation(ut: f64) -> Answer<f64> {
+    let mut degrees = 0.0;
+    let code = unsafe { panel_elongation(ut, &mut degrees) };
+    answered(code, degrees)
+}
+
+pub fn tithi_starts_between(tithi: u16, from: f64, to: f64, out: &mut [f64]) -> Answer<(usize, usize)> {
+    let (mut count, mut steps) = (0, 0);
+    let code = unsafe {
+        panel_tithi_starts_between(tithi, from, to, out.as_mut_ptr(), out.len(), &mut count, &mut steps)
+    };
+    answered(code, (count, steps))
+}
+
+pub fn reading(date: Date) -> Answer<[u16; 4]> {
+    let [mut tithi, mut end, mut rise, mut set] = [0; 4];
+    let code = unsafe {
+        panel_reading(date.year, date.month, date.day, &mut tithi, &mut end, &mut rise, &mut set)
+    };
+    answered(code, [tithi, end, rise, set])
+}
+
+pub fn bs_to_ad(table: &Table, bs: BsDate) -> Answer<Date> {
+    let mut ad = Date { year: 0, month: 0, day: 0 };
+    let first = table.first_day;
+    let code = unsafe {
+        panel_bs_to_ad(
+            table.first_year,
+            first.year,
+            first.month,
+            first.day,
+            table.rows.as_ptr(),
+            table.rows.len(),
+            bs.year,
+            bs.month,
+            bs.day,
+            &mut ad.year,
+            &mut ad.month,
+            &mut ad.day,
+        )
+    };
+    answered(code, ad)
+}
+
+pub fn ad_to_bs(table: &Table, ad: Date) -> Answer<BsDate> {
+    let mut bs = BsDate { year: 0, month: 0, day: 0 };
+    let first = table.first_day;
+    let code = unsafe {
+        panel_ad_to_bs(
+            table.first_year,
+            first.year,
+            first.month,
+            first.day,
+            table.rows.as_ptr(),
+            table.rows.len(),
+            ad.year,
+            ad.month,
+            ad.day,
+            &mut bs.year,
+            &mut bs.month,
+            &mut bs.day,
+        )
+    };
+    answered(code, bs)
+}

@@ -1,0 +1,212 @@
+// Sunrise and sunset over Kathmandu, kalas, the clock and a date's reading.
+ghost use mathlib.Core.Path.{_≡_};
+ghost use Rattle.panchanga.specs.Answers.{spanSays, instantSays, minutesSays, readingSays, eventsAnswer, riseAnswer, setAnswer, nishitaAnswer, clockAnswer, readingAnswer};
+ghost use Rattle.panchanga.specs.Clock.{minutesOf};
+ghost use Rattle.panel.specs.Boundary.{code, left, some?, leftSome, date};
+use gregorian::Date;
+use gregorian::UtDay;
+use panchanga::InstantAnswer;
+use panchanga::MinutesAnswer;
+use panchanga::ReadingAnswer;
+use panchanga::SpanAnswer;
+
+// Two instants where they are asked for, if there are some, and whether there are.
+fn give_span(answer: SpanAnswer, found: &mut u16, from: &mut f64, to: &mut f64) -> u16
+    ensures code { λ r. ⌜ r ≡ code (spanSays answer) ⌝ }
+    ensures found { λ r. ⌜ now (found .exit) ≡ left (spanSays answer) some? (now (found .entry)) ⌝ }
+    ensures from { λ r. ⌜ now (from .exit) ≡ leftSome (spanSays answer) (λ x. x .0) (now (from .entry)) ⌝ }
+    ensures to { λ r. ⌜ now (to .exit) ≡ leftSome (spanSays answer) (λ x. x .1) (now (to .entry)) ⌝ }
+{
+    match answer {
+        SpanAnswer::Is { from: a, to: b } => {
+            *found = 1;
+            *from = a.0;
+            *to = b.0;
+            0
+        }
+        SpanAnswer::Nothing => {
+            *found = 0;
+            0
+        }
+        SpanAnswer::NoSuchDate => 3,
+    }
+}
+
+// An instant where it is asked for, if there is one, and whether there is.
+fn give_instant(answer: InstantAnswer, found: &mut u16, ut: &mut f64) -> u16
+    ensures code { λ r. ⌜ r ≡ code (instantSays answer) ⌝ }
+    ensures found { λ r. ⌜ now (found .exit) ≡ left (instantSays answer) some? (now (found .entry)) ⌝ }
+    ensures ut { λ r. ⌜ now (ut .exit) ≡ leftSome (instantSays answer) (λ x. x) (now (ut .entry)) ⌝ }
+{
+    match answer {
+        InstantAnswer::At(at) => {
+            *found = 1;
+            *ut = at.0;
+            0
+        }
+        InstantAnswer::Nothing => {
+            *found = 0;
+            0
+        }
+        InstantAnswer::NoSuchDate => 3,
+    }
+}
+
+// Minutes where they are asked for.
+fn give_minutes(answer: MinutesAnswer, minutes: &mut u16) -> u16
+    ensures code { λ r. ⌜ r ≡ code (minutesSays answer) ⌝ }
+    ensures minutes { λ r. ⌜ now (minutes .exit) ≡ left (minutesSays answer) (λ n. n) (now (minutes .entry)) ⌝ }
+{
+    let MinutesAnswer::Is(n) = answer else {
+        return 8;
+    };
+    *minutes = n;
+    0
+}
+
+// A reading's four numbers where they are asked for.
+fn give_reading(
+    answer: ReadingAnswer,
+    tithi: &mut u16,
+    end: &mut u16,
+    sunrise: &mut u16,
+    sunset: &mut u16,
+) -> u16
+    ensures code { λ r. ⌜ r ≡ code (readingSays answer) ⌝ }
+    ensures tithi { λ r. ⌜ now (tithi .exit) ≡ left (readingSays answer) (λ x. x .tithi) (now (tithi .entry)) ⌝ }
+    ensures end { λ r. ⌜ now (end .exit) ≡ left (readingSays answer) (λ x. x .end) (now (end .entry)) ⌝ }
+    ensures sunrise { λ r. ⌜ now (sunrise .exit) ≡ left (readingSays answer) (λ x. x .sunrise) (now (sunrise .entry)) ⌝ }
+    ensures sunset { λ r. ⌜ now (sunset .exit) ≡ left (readingSays answer) (λ x. x .sunset) (now (sunset .entry)) ⌝ }
+{
+    let ReadingAnswer::Is(reading) = answer else {
+        return 3;
+    };
+    *tithi = reading.tithi;
+    *end = reading.end;
+    *sunrise = reading.sunrise;
+    *sunset = reading.sunset;
+    0
+}
+
+// Sunrise and sunset on a date, if there are some: 3.
+#[no_mangle]
+pub extern "C" fn panel_sun_events(
+    year: u16,
+    month: u16,
+    day: u16,
+    found: &mut u16,
+    rise: &mut f64,
+    set: &mut f64,
+) -> u16
+    ensures code { λ r. ⌜ r ≡ code (eventsAnswer (date year month day)) ⌝ }
+    ensures found { λ r. ⌜ now (found .exit) ≡ left (eventsAnswer (date year month day)) some? (now (found .entry)) ⌝ }
+    ensures rise { λ r. ⌜ now (rise .exit) ≡ leftSome (eventsAnswer (date year month day)) (λ x. x .0) (now (rise .entry)) ⌝ }
+    ensures set { λ r. ⌜ now (set .exit) ≡ leftSome (eventsAnswer (date year month day)) (λ x. x .1) (now (set .entry)) ⌝ }
+{
+    give_span(
+        panchanga::sun_events(Date { year, month, day }),
+        found,
+        rise,
+        set,
+    )
+}
+
+// Sunrise on a date, if there is one: 3.
+#[no_mangle]
+pub extern "C" fn panel_sunrise(
+    year: u16,
+    month: u16,
+    day: u16,
+    found: &mut u16,
+    ut: &mut f64,
+) -> u16
+    ensures code { λ r. ⌜ r ≡ code (riseAnswer (date year month day)) ⌝ }
+    ensures found { λ r. ⌜ now (found .exit) ≡ left (riseAnswer (date year month day)) some? (now (found .entry)) ⌝ }
+    ensures ut { λ r. ⌜ now (ut .exit) ≡ leftSome (riseAnswer (date year month day)) (λ x. x) (now (ut .entry)) ⌝ }
+{
+    give_instant(panchanga::sunrise(Date { year, month, day }), found, ut)
+}
+
+// Sunset on a date, if there is one: 3.
+#[no_mangle]
+pub extern "C" fn panel_sunset(
+    year: u16,
+    month: u16,
+    day: u16,
+    found: &mut u16,
+    ut: &mut f64,
+) -> u16
+    ensures code { λ r. ⌜ r ≡ code (setAnswer (date year month day)) ⌝ }
+    ensures found { λ r. ⌜ now (found .exit) ≡ left (setAnswer (date year month day)) some? (now (found .entry)) ⌝ }
+    ensures ut { λ r. ⌜ now (ut .exit) ≡ leftSome (setAnswer (date year month day)) (λ x. x) (now (ut .entry)) ⌝ }
+{
+    give_instant(panchanga::sunset(Date { year, month, day }), found, ut)
+}
+
+// The nishita of the night that follows a date, if there is one: 3, also on 31 December 2149.
+#[no_mangle]
+pub extern "C" fn panel_nishita_window(
+    year: u16,
+    month: u16,
+    day: u16,
+    found: &mut u16,
+    from: &mut f64,
+    to: &mut f64,
+) -> u16
+    ensures code { λ r. ⌜ r ≡ code (nishitaAnswer (date year month day)) ⌝ }
+    ensures found { λ r. ⌜ now (found .exit) ≡ left (nishitaAnswer (date year month day)) some? (now (found .entry)) ⌝ }
+    ensures from { λ r. ⌜ now (from .exit) ≡ leftSome (nishitaAnswer (date year month day)) (λ x. x .0) (now (from .entry)) ⌝ }
+    ensures to { λ r. ⌜ now (to .exit) ≡ leftSome (nishitaAnswer (date year month day)) (λ x. x .1) (now (to .entry)) ⌝ }
+{
+    give_span(
+        panchanga::nishita_window(Date { year, month, day }),
+        found,
+        from,
+        to,
+    )
+}
+
+// The minute of the clock in Nepal at an instant: 8.
+#[no_mangle]
+pub extern "C" fn panel_npt_clock(ut: f64, minutes: &mut u16) -> u16
+    ensures code { λ r. ⌜ r ≡ code (clockAnswer ut) ⌝ }
+    ensures minutes { λ r. ⌜ now (minutes .exit) ≡ left (clockAnswer ut) (λ n. n) (now (minutes .entry)) ⌝ }
+{
+    give_minutes(panchanga::npt_clock(UtDay(ut)), minutes)
+}
+
+// The minutes of a fraction of the day. It refuses nothing.
+#[no_mangle]
+pub extern "C" fn panel_minutes_of(fraction: f64, minutes: &mut u16) -> u16
+    ensures code { λ r. ⌜ r ≡ 0 ⌝ }
+    ensures minutes { λ r. ⌜ now (minutes .exit) ≡ minutesOf fraction ⌝ }
+{
+    *minutes = panchanga::minutes_of(fraction);
+    0
+}
+
+// What a calendar prints under a date: the tithi that names it, and the minutes at which that ends, the sun rises and sets, 1,440 for none: 3.
+#[no_mangle]
+pub extern "C" fn panel_reading(
+    year: u16,
+    month: u16,
+    day: u16,
+    tithi: &mut u16,
+    end: &mut u16,
+    sunrise: &mut u16,
+    sunset: &mut u16,
+) -> u16
+    ensures code { λ r. ⌜ r ≡ code (readingAnswer (date year month day)) ⌝ }
+    ensures tithi { λ r. ⌜ now (tithi .exit) ≡ left (readingAnswer (date year month day)) (λ x. x .tithi) (now (tithi .entry)) ⌝ }
+    ensures end { λ r. ⌜ now (end .exit) ≡ left (readingAnswer (date year month day)) (λ x. x .end) (now (end .entry)) ⌝ }
+    ensures sunrise { λ r. ⌜ now (sunrise .exit) ≡ left (readingAnswer (date year month day)) (λ x. x .sunrise) (now (sunrise .entry)) ⌝ }
+    ensures sunset { λ r. ⌜ now (sunset .exit) ≡ left (readingAnswer (date year month day)) (λ x. x .sunset) (now (sunset .entry)) ⌝ }
+{
+    give_reading(
+        panchanga::reading(Date { year, month, day }),
+        tithi,
+        end,
+        sunrise,
+        sunset,
+    )
+}

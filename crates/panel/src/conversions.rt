@@ -1,0 +1,196 @@
+// Bikram Sambat dates over a lent year table: its first year, the Gregorian date of its first day, and rows of thirteen numbers.
+ghost use mathlib.Core.Path.{_≡_};
+ghost use Rattle.conversion.specs.Calendar.{monthLen, validBs, toAd, fromAd};
+ghost use Rattle.conversion.specs.Answers.{monthLenSays, validSays, adSays, bsSays};
+ghost use Rattle.panel.specs.Boundary.{code, left, lent};
+use conversion::AdAnswer;
+use conversion::BsAnswer;
+use conversion::BsDate;
+use conversion::MonthLen;
+use conversion::Table;
+use conversion::Validity;
+
+// A month's length where it is asked for.
+fn give_month_len(answer: MonthLen, days: &mut u16) -> u16
+    ensures code { λ r. ⌜ r ≡ code (monthLenSays answer) ⌝ }
+    ensures days { λ r. ⌜ now (days .exit) ≡ left (monthLenSays answer) (λ n. n) (now (days .entry)) ⌝ }
+{
+    match answer {
+        MonthLen::Days(n) => {
+            *days = n;
+            0
+        }
+        MonthLen::BadTable => 1,
+        MonthLen::NoYear => 4,
+        MonthLen::NoMonth => 5,
+    }
+}
+
+// The number of a check of a date.
+fn give_validity(answer: Validity) -> u16
+    ensures { λ r. ⌜ r ≡ code (validSays answer) ⌝ }
+{
+    match answer {
+        Validity::Valid => 0,
+        Validity::BadTable => 1,
+        Validity::NoYear => 4,
+        Validity::NoMonth => 5,
+        Validity::NoDay => 6,
+    }
+}
+
+// A Gregorian date's three numbers where they are asked for.
+fn give_ad(answer: AdAnswer, year: &mut u16, month: &mut u16, day: &mut u16) -> u16
+    ensures code { λ r. ⌜ r ≡ code (adSays answer) ⌝ }
+    ensures year { λ r. ⌜ now (year .exit) ≡ left (adSays answer) (λ x. x .year) (now (year .entry)) ⌝ }
+    ensures month { λ r. ⌜ now (month .exit) ≡ left (adSays answer) (λ x. x .month) (now (month .entry)) ⌝ }
+    ensures day { λ r. ⌜ now (day .exit) ≡ left (adSays answer) (λ x. x .day) (now (day .entry)) ⌝ }
+{
+    match answer {
+        AdAnswer::Is(date) => {
+            *year = date.year;
+            *month = date.month;
+            *day = date.day;
+            0
+        }
+        AdAnswer::BadTable => 1,
+        AdAnswer::NoYear => 4,
+        AdAnswer::NoMonth => 5,
+        AdAnswer::NoDay => 6,
+    }
+}
+
+// A BS date's three numbers where they are asked for.
+fn give_bs(answer: BsAnswer, year: &mut u16, month: &mut u16, day: &mut u16) -> u16
+    ensures code { λ r. ⌜ r ≡ code (bsSays answer) ⌝ }
+    ensures year { λ r. ⌜ now (year .exit) ≡ left (bsSays answer) (λ x. x .year) (now (year .entry)) ⌝ }
+    ensures month { λ r. ⌜ now (month .exit) ≡ left (bsSays answer) (λ x. x .month) (now (month .entry)) ⌝ }
+    ensures day { λ r. ⌜ now (day .exit) ≡ left (bsSays answer) (λ x. x .day) (now (day .entry)) ⌝ }
+{
+    match answer {
+        BsAnswer::Is(date) => {
+            *year = date.year;
+            *month = date.month;
+            *day = date.day;
+            0
+        }
+        BsAnswer::BadTable => 1,
+        BsAnswer::NoSuchDate => 3,
+        BsAnswer::Outside => 7,
+    }
+}
+
+// The length of a month: 1, 4, 5.
+#[no_mangle]
+pub extern "C" fn panel_bs_month_len(
+    first_year: u16,
+    first_ad_year: u16,
+    first_ad_month: u16,
+    first_ad_day: u16,
+    rows: &[u16],
+    year: u16,
+    month: u16,
+    days: &mut u16,
+) -> u16
+    ensures code { λ r. ⌜ r ≡ code (monthLen (lent «first_year» «first_ad_year» «first_ad_month» «first_ad_day» (now (rows .entry))) year month) ⌝ }
+    ensures days { λ r. ⌜ now (days .exit) ≡ left (monthLen (lent «first_year» «first_ad_year» «first_ad_month» «first_ad_day» (now (rows .entry))) year month) (λ n. n) (now (days .entry)) ⌝ }
+{
+    let table = Table {
+        first_year,
+        year: first_ad_year,
+        month: first_ad_month,
+        day: first_ad_day,
+    };
+    give_month_len(conversion::bs_month_len(table, rows, year, month), days)
+}
+
+// Whether there is such a BS date: 1, 4, 5, 6.
+#[no_mangle]
+pub extern "C" fn panel_validate_bs_date(
+    first_year: u16,
+    first_ad_year: u16,
+    first_ad_month: u16,
+    first_ad_day: u16,
+    rows: &[u16],
+    year: u16,
+    month: u16,
+    day: u16,
+) -> u16
+    ensures { λ r. ⌜ r ≡ code (validBs (lent «first_year» «first_ad_year» «first_ad_month» «first_ad_day» (now (rows .entry))) year month day) ⌝ }
+{
+    let table = Table {
+        first_year,
+        year: first_ad_year,
+        month: first_ad_month,
+        day: first_ad_day,
+    };
+    give_validity(conversion::validate_bs_date(table, rows, BsDate { year, month, day }))
+}
+
+// The Gregorian date of a BS date: 1, 4, 5, 6.
+#[no_mangle]
+pub extern "C" fn panel_bs_to_ad(
+    first_year: u16,
+    first_ad_year: u16,
+    first_ad_month: u16,
+    first_ad_day: u16,
+    rows: &[u16],
+    year: u16,
+    month: u16,
+    day: u16,
+    ad_year: &mut u16,
+    ad_month: &mut u16,
+    ad_day: &mut u16,
+) -> u16
+    ensures code { λ r. ⌜ r ≡ code (toAd (lent «first_year» «first_ad_year» «first_ad_month» «first_ad_day» (now (rows .entry))) year month day) ⌝ }
+    ensures year { λ r. ⌜ now («ad_year» .exit) ≡ left (toAd (lent «first_year» «first_ad_year» «first_ad_month» «first_ad_day» (now (rows .entry))) year month day) (λ x. x .year) (now («ad_year» .entry)) ⌝ }
+    ensures month { λ r. ⌜ now («ad_month» .exit) ≡ left (toAd (lent «first_year» «first_ad_year» «first_ad_month» «first_ad_day» (now (rows .entry))) year month day) (λ x. x .month) (now («ad_month» .entry)) ⌝ }
+    ensures day { λ r. ⌜ now («ad_day» .exit) ≡ left (toAd (lent «first_year» «first_ad_year» «first_ad_month» «first_ad_day» (now (rows .entry))) year month day) (λ x. x .day) (now («ad_day» .entry)) ⌝ }
+{
+    let table = Table {
+        first_year,
+        year: first_ad_year,
+        month: first_ad_month,
+        day: first_ad_day,
+    };
+    give_ad(
+        conversion::bs_to_ad(table, rows, BsDate { year, month, day }),
+        ad_year,
+        ad_month,
+        ad_day,
+    )
+}
+
+// The BS date of a Gregorian date: 1, 3, 7.
+#[no_mangle]
+pub extern "C" fn panel_ad_to_bs(
+    first_year: u16,
+    first_ad_year: u16,
+    first_ad_month: u16,
+    first_ad_day: u16,
+    rows: &[u16],
+    year: u16,
+    month: u16,
+    day: u16,
+    bs_year: &mut u16,
+    bs_month: &mut u16,
+    bs_day: &mut u16,
+) -> u16
+    ensures code { λ r. ⌜ r ≡ code (fromAd (lent «first_year» «first_ad_year» «first_ad_month» «first_ad_day» (now (rows .entry))) year month day) ⌝ }
+    ensures year { λ r. ⌜ now («bs_year» .exit) ≡ left (fromAd (lent «first_year» «first_ad_year» «first_ad_month» «first_ad_day» (now (rows .entry))) year month day) (λ x. x .year) (now («bs_year» .entry)) ⌝ }
+    ensures month { λ r. ⌜ now («bs_month» .exit) ≡ left (fromAd (lent «first_year» «first_ad_year» «first_ad_month» «first_ad_day» (now (rows .entry))) year month day) (λ x. x .month) (now («bs_month» .entry)) ⌝ }
+    ensures day { λ r. ⌜ now («bs_day» .exit) ≡ left (fromAd (lent «first_year» «first_ad_year» «first_ad_month» «first_ad_day» (now (rows .entry))) year month day) (λ x. x .day) (now («bs_day» .entry)) ⌝ }
+{
+    let table = Table {
+        first_year,
+        year: first_ad_year,
+        month: first_ad_month,
+        day: first_ad_day,
+    };
+    give_bs(
+        conversion::ad_to_bs(table, rows, year, month, day),
+        bs_year,
+        bs_month,
+        bs_day,
+    )
+}

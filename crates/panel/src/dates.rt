@@ -1,0 +1,177 @@
+// Gregorian dates from 1900 to 2149, and instants, which are Julian days of universal time.
+ghost use mathlib.Core.Path.{_≡_};
+ghost use Rattle.gregorian.specs.Answers.{dateSays, numberSays, newDate, numberAnswer, weekdayAnswer, nextAnswer, dateAnswer};
+ghost use Rattle.gregorian.specs.Instants.{julianSays, nptSays, julianAnswer, nptAnswer};
+ghost use Rattle.panel.specs.Boundary.{code, left, date};
+use gregorian::Date;
+use gregorian::DateAnswer;
+use gregorian::JulianAnswer;
+use gregorian::NptAnswer;
+use gregorian::NumberAnswer;
+use gregorian::UtDay;
+
+// A date's three numbers where they are asked for.
+fn give_date(answer: DateAnswer, year: &mut u16, month: &mut u16, day: &mut u16) -> u16
+    ensures code { λ r. ⌜ r ≡ code (dateSays answer) ⌝ }
+    ensures year { λ r. ⌜ now (year .exit) ≡ left (dateSays answer) (λ x. x .year) (now (year .entry)) ⌝ }
+    ensures month { λ r. ⌜ now (month .exit) ≡ left (dateSays answer) (λ x. x .month) (now (month .entry)) ⌝ }
+    ensures day { λ r. ⌜ now (day .exit) ≡ left (dateSays answer) (λ x. x .day) (now (day .entry)) ⌝ }
+{
+    let DateAnswer::Is(date) = answer else {
+        return 3;
+    };
+    *year = date.year;
+    *month = date.month;
+    *day = date.day;
+    0
+}
+
+// A number where it is asked for.
+fn give_number(answer: NumberAnswer, number: &mut u32) -> u16
+    ensures code { λ r. ⌜ r ≡ code (numberSays answer) ⌝ }
+    ensures number { λ r. ⌜ now (number .exit) ≡ left (numberSays answer) (λ n. n) (now (number .entry)) ⌝ }
+{
+    let NumberAnswer::Number(n) = answer else {
+        return 3;
+    };
+    *number = n;
+    0
+}
+
+// An instant where it is asked for.
+fn give_julian(answer: JulianAnswer, ut: &mut f64) -> u16
+    ensures code { λ r. ⌜ r ≡ code (julianSays answer) ⌝ }
+    ensures ut { λ r. ⌜ now (ut .exit) ≡ left (julianSays answer) (λ x. x) (now (ut .entry)) ⌝ }
+{
+    match answer {
+        JulianAnswer::At(at) => {
+            *ut = at.0;
+            0
+        }
+        JulianAnswer::NoSuchDate => 3,
+        JulianAnswer::OutOfRange => 8,
+    }
+}
+
+// A date in Nepal where it is asked for.
+fn give_npt(answer: NptAnswer, year: &mut u16, month: &mut u16, day: &mut u16) -> u16
+    ensures code { λ r. ⌜ r ≡ code (nptSays answer) ⌝ }
+    ensures year { λ r. ⌜ now (year .exit) ≡ left (nptSays answer) (λ x. x .year) (now (year .entry)) ⌝ }
+    ensures month { λ r. ⌜ now (month .exit) ≡ left (nptSays answer) (λ x. x .month) (now (month .entry)) ⌝ }
+    ensures day { λ r. ⌜ now (day .exit) ≡ left (nptSays answer) (λ x. x .day) (now (day .entry)) ⌝ }
+{
+    match answer {
+        NptAnswer::Is(date) => {
+            *year = date.year;
+            *month = date.month;
+            *day = date.day;
+            0
+        }
+        NptAnswer::NoSuchDate => 3,
+        NptAnswer::OutOfRange => 8,
+    }
+}
+
+// Whether three numbers are a date, and its numbers: 3.
+#[no_mangle]
+pub extern "C" fn panel_date_new(
+    year: u16,
+    month: u16,
+    day: u16,
+    date_year: &mut u16,
+    date_month: &mut u16,
+    date_day: &mut u16,
+) -> u16
+    ensures code { λ r. ⌜ r ≡ code (newDate year month day) ⌝ }
+    ensures year { λ r. ⌜ now («date_year» .exit) ≡ left (newDate year month day) (λ x. x .year) (now («date_year» .entry)) ⌝ }
+    ensures month { λ r. ⌜ now («date_month» .exit) ≡ left (newDate year month day) (λ x. x .month) (now («date_month» .entry)) ⌝ }
+    ensures day { λ r. ⌜ now («date_day» .exit) ≡ left (newDate year month day) (λ x. x .day) (now («date_day» .entry)) ⌝ }
+{
+    give_date(Date::new(year, month, day), date_year, date_month, date_day)
+}
+
+// The Julian day number of a date's noon: 3.
+#[no_mangle]
+pub extern "C" fn panel_date_day_number(year: u16, month: u16, day: u16, number: &mut u32) -> u16
+    ensures code { λ r. ⌜ r ≡ code (numberAnswer (date year month day)) ⌝ }
+    ensures number { λ r. ⌜ now (number .exit) ≡ left (numberAnswer (date year month day)) (λ n. n) (now (number .entry)) ⌝ }
+{
+    give_number((Date { year, month, day }).day_number(), number)
+}
+
+// The day of the week of a date, 0 for Sunday: 3.
+#[no_mangle]
+pub extern "C" fn panel_date_weekday(year: u16, month: u16, day: u16, weekday: &mut u32) -> u16
+    ensures code { λ r. ⌜ r ≡ code (weekdayAnswer (date year month day)) ⌝ }
+    ensures weekday { λ r. ⌜ now (weekday .exit) ≡ left (weekdayAnswer (date year month day)) (λ n. n) (now (weekday .entry)) ⌝ }
+{
+    give_number((Date { year, month, day }).weekday(), weekday)
+}
+
+// The day after a date: 3, also after 31 December 2149.
+#[no_mangle]
+pub extern "C" fn panel_date_next(
+    year: u16,
+    month: u16,
+    day: u16,
+    next_year: &mut u16,
+    next_month: &mut u16,
+    next_day: &mut u16,
+) -> u16
+    ensures code { λ r. ⌜ r ≡ code (nextAnswer (date year month day)) ⌝ }
+    ensures year { λ r. ⌜ now («next_year» .exit) ≡ left (nextAnswer (date year month day)) (λ x. x .year) (now («next_year» .entry)) ⌝ }
+    ensures month { λ r. ⌜ now («next_month» .exit) ≡ left (nextAnswer (date year month day)) (λ x. x .month) (now («next_month» .entry)) ⌝ }
+    ensures day { λ r. ⌜ now («next_day» .exit) ≡ left (nextAnswer (date year month day)) (λ x. x .day) (now («next_day» .entry)) ⌝ }
+{
+    give_date(
+        (Date { year, month, day }).next(),
+        next_year,
+        next_month,
+        next_day,
+    )
+}
+
+// The date of a day number: 3.
+#[no_mangle]
+pub extern "C" fn panel_date_from_day_number(
+    number: u32,
+    year: &mut u16,
+    month: &mut u16,
+    day: &mut u16,
+) -> u16
+    ensures code { λ r. ⌜ r ≡ code (dateAnswer number) ⌝ }
+    ensures year { λ r. ⌜ now (year .exit) ≡ left (dateAnswer number) (λ x. x .year) (now (year .entry)) ⌝ }
+    ensures month { λ r. ⌜ now (month .exit) ≡ left (dateAnswer number) (λ x. x .month) (now (month .entry)) ⌝ }
+    ensures day { λ r. ⌜ now (day .exit) ≡ left (dateAnswer number) (λ x. x .day) (now (day .entry)) ⌝ }
+{
+    give_date(Date::from_day_number(number), year, month, day)
+}
+
+// The instant of a date at a fraction of the day: 3, 8.
+#[no_mangle]
+pub extern "C" fn panel_julian_day(
+    year: u16,
+    month: u16,
+    day: u16,
+    fraction: f64,
+    ut: &mut f64,
+) -> u16
+    ensures code { λ r. ⌜ r ≡ code (julianAnswer (date year month day) fraction) ⌝ }
+    ensures ut { λ r. ⌜ now (ut .exit) ≡ left (julianAnswer (date year month day) fraction) (λ x. x) (now (ut .entry)) ⌝ }
+{
+    give_julian(
+        gregorian::julian_day(Date { year, month, day }, fraction),
+        ut,
+    )
+}
+
+// The date in Nepal at an instant: 8, 3.
+#[no_mangle]
+pub extern "C" fn panel_npt_date(ut: f64, year: &mut u16, month: &mut u16, day: &mut u16) -> u16
+    ensures code { λ r. ⌜ r ≡ code (nptAnswer ut) ⌝ }
+    ensures year { λ r. ⌜ now (year .exit) ≡ left (nptAnswer ut) (λ x. x .year) (now (year .entry)) ⌝ }
+    ensures month { λ r. ⌜ now (month .exit) ≡ left (nptAnswer ut) (λ x. x .month) (now (month .entry)) ⌝ }
+    ensures day { λ r. ⌜ now (day .exit) ≡ left (nptAnswer ut) (λ x. x .day) (now (day .entry)) ⌝ }
+{
+    give_npt(gregorian::npt_date(UtDay(ut)), year, month, day)
+}

@@ -1,0 +1,185 @@
+// Time, the longitudes of sun and moon, the elongation, tithis and where they begin.
+ghost use mathlib.Core.Path.{_≡_};
+ghost use lib.ListN.{length};
+ghost use Rattle.sky.specs.Time.{deltaT};
+ghost use Rattle.sky.specs.Tithi.{tithiOf};
+ghost use Rattle.sky.specs.Answers.{ttSays, ttAnswer, degreesSays, sunAnswer, moonAnswer, elongationAnswer, tithiSays, tithiAnswer, startsSays, startsAnswer, startsBuffer, endSays, endAnswer};
+ghost use Rattle.panel.specs.Boundary.{code, left, some?, leftSome};
+use gregorian::UtDay;
+use sky::DegreesAnswer;
+use sky::EndAnswer;
+use sky::StartsAnswer;
+use sky::TithiAnswer;
+use sky::TtAnswer;
+use sky::TtDay;
+
+// A day of terrestrial time where it is asked for.
+fn give_tt(answer: TtAnswer, tt: &mut f64) -> u16
+    ensures code { λ r. ⌜ r ≡ code (ttSays answer) ⌝ }
+    ensures tt { λ r. ⌜ now (tt .exit) ≡ left (ttSays answer) (λ x. x) (now (tt .entry)) ⌝ }
+{
+    let TtAnswer::At(day) = answer else {
+        return 8;
+    };
+    *tt = day.0;
+    0
+}
+
+// An angle where it is asked for.
+fn give_degrees(answer: DegreesAnswer, degrees: &mut f64) -> u16
+    ensures code { λ r. ⌜ r ≡ code (degreesSays answer) ⌝ }
+    ensures degrees { λ r. ⌜ now (degrees .exit) ≡ left (degreesSays answer) (λ x. x) (now (degrees .entry)) ⌝ }
+{
+    let DegreesAnswer::Is(angle) = answer else {
+        return 8;
+    };
+    *degrees = angle;
+    0
+}
+
+// A tithi's number where it is asked for.
+fn give_tithi(answer: TithiAnswer, tithi: &mut u16) -> u16
+    ensures code { λ r. ⌜ r ≡ code (tithiSays answer) ⌝ }
+    ensures tithi { λ r. ⌜ now (tithi .exit) ≡ left (tithiSays answer) (λ n. n) (now (tithi .entry)) ⌝ }
+{
+    let TithiAnswer::Is(n) = answer else {
+        return 8;
+    };
+    *tithi = n;
+    0
+}
+
+// The numbers of starts and of steps where they are asked for.
+fn give_starts(answer: StartsAnswer, count: &mut usize, steps: &mut usize) -> u16
+    ensures code { λ r. ⌜ r ≡ code (startsSays answer) ⌝ }
+    ensures count { λ r. ⌜ now (count .exit) ≡ left (startsSays answer) (λ x. x .0) (now (count .entry)) ⌝ }
+    ensures steps { λ r. ⌜ now (steps .exit) ≡ left (startsSays answer) (λ x. x .1) (now (steps .entry)) ⌝ }
+{
+    match answer {
+        StartsAnswer::Found { count: n, steps: k } => {
+            *count = n;
+            *steps = k;
+            0
+        }
+        StartsAnswer::OutOfRange => 8,
+        StartsAnswer::NotEnded => 11,
+        StartsAnswer::NoRoom => 9,
+    }
+}
+
+// An instant where it is asked for, if there is one, and whether there is.
+fn give_end(answer: EndAnswer, found: &mut u16, end: &mut f64) -> u16
+    ensures code { λ r. ⌜ r ≡ code (endSays answer) ⌝ }
+    ensures found { λ r. ⌜ now (found .exit) ≡ left (endSays answer) some? (now (found .entry)) ⌝ }
+    ensures end { λ r. ⌜ now (end .exit) ≡ leftSome (endSays answer) (λ x. x) (now (end .entry)) ⌝ }
+{
+    match answer {
+        EndAnswer::At(at) => {
+            *found = 1;
+            *end = at.0;
+            0
+        }
+        EndAnswer::Nothing => {
+            *found = 0;
+            0
+        }
+        EndAnswer::OutOfRange => 8,
+    }
+}
+
+// The difference between terrestrial and universal time in a year, in seconds. It refuses nothing.
+#[no_mangle]
+pub extern "C" fn panel_delta_t(year: f64, seconds: &mut f64) -> u16
+    ensures code { λ r. ⌜ r ≡ 0 ⌝ }
+    ensures seconds { λ r. ⌜ now (seconds .exit) ≡ deltaT year ⌝ }
+{
+    *seconds = sky::delta_t(year);
+    0
+}
+
+// The day of terrestrial time at an instant: 8.
+#[no_mangle]
+pub extern "C" fn panel_tt_from_ut(ut: f64, tt: &mut f64) -> u16
+    ensures code { λ r. ⌜ r ≡ code (ttAnswer ut) ⌝ }
+    ensures tt { λ r. ⌜ now (tt .exit) ≡ left (ttAnswer ut) (λ x. x) (now (tt .entry)) ⌝ }
+{
+    give_tt(sky::tt_from_ut(UtDay(ut)), tt)
+}
+
+// The longitude of the sun on a day of terrestrial time: 8.
+#[no_mangle]
+pub extern "C" fn panel_sun_longitude(tt: f64, degrees: &mut f64) -> u16
+    ensures code { λ r. ⌜ r ≡ code (sunAnswer tt) ⌝ }
+    ensures degrees { λ r. ⌜ now (degrees .exit) ≡ left (sunAnswer tt) (λ x. x) (now (degrees .entry)) ⌝ }
+{
+    give_degrees(sky::sun_longitude(TtDay(tt)), degrees)
+}
+
+// The longitude of the moon on a day of terrestrial time: 8.
+#[no_mangle]
+pub extern "C" fn panel_moon_longitude(tt: f64, degrees: &mut f64) -> u16
+    ensures code { λ r. ⌜ r ≡ code (moonAnswer tt) ⌝ }
+    ensures degrees { λ r. ⌜ now (degrees .exit) ≡ left (moonAnswer tt) (λ x. x) (now (degrees .entry)) ⌝ }
+{
+    give_degrees(sky::moon_longitude(TtDay(tt)), degrees)
+}
+
+// The moon's elongation from the sun at an instant: 8.
+#[no_mangle]
+pub extern "C" fn panel_elongation(ut: f64, degrees: &mut f64) -> u16
+    ensures code { λ r. ⌜ r ≡ code (elongationAnswer ut) ⌝ }
+    ensures degrees { λ r. ⌜ now (degrees .exit) ≡ left (elongationAnswer ut) (λ x. x) (now (degrees .entry)) ⌝ }
+{
+    give_degrees(sky::elongation(UtDay(ut)), degrees)
+}
+
+// The tithi of an elongation. It refuses nothing.
+#[no_mangle]
+pub extern "C" fn panel_tithi_of(degrees: f64, tithi: &mut u16) -> u16
+    ensures code { λ r. ⌜ r ≡ 0 ⌝ }
+    ensures tithi { λ r. ⌜ now (tithi .exit) ≡ tithiOf degrees ⌝ }
+{
+    *tithi = sky::tithi_of(degrees);
+    0
+}
+
+// The tithi running at an instant: 8.
+#[no_mangle]
+pub extern "C" fn panel_tithi_at(ut: f64, tithi: &mut u16) -> u16
+    ensures code { λ r. ⌜ r ≡ code (tithiAnswer ut) ⌝ }
+    ensures tithi { λ r. ⌜ now (tithi .exit) ≡ left (tithiAnswer ut) (λ n. n) (now (tithi .entry)) ⌝ }
+{
+    give_tithi(sky::tithi_at(UtDay(ut)), tithi)
+}
+
+// Every instant from one to another at which a tithi begins, at the front of a lent buffer; how many, and how many steps were walked: 8, 11, 9.
+#[no_mangle]
+pub extern "C" fn panel_tithi_starts_between(
+    tithi: u16,
+    from: f64,
+    to: f64,
+    starts: &mut [f64],
+    count: &mut usize,
+    steps: &mut usize,
+) -> u16
+    ensures starts { λ r. ⌜ now (starts .exit) ≡ startsBuffer tithi from to (now (starts .entry)) ⌝ }
+    ensures code { λ r. ⌜ r ≡ code (startsAnswer tithi from to (length (now (starts .entry)))) ⌝ }
+    ensures count { λ r. ⌜ now (count .exit) ≡ left (startsAnswer tithi from to (length (now (starts .entry)))) (λ x. x .0) (now (count .entry)) ⌝ }
+    ensures steps { λ r. ⌜ now (steps .exit) ≡ left (startsAnswer tithi from to (length (now (starts .entry)))) (λ x. x .1) (now (steps .entry)) ⌝ }
+{
+    give_starts(
+        sky::tithi_starts_between(tithi, UtDay(from), UtDay(to), starts),
+        count,
+        steps,
+    )
+}
+
+// Where the tithi that runs at an instant ends, if it does in two and a half days: 8.
+#[no_mangle]
+pub extern "C" fn panel_tithi_end(ut: f64, found: &mut u16, end: &mut f64) -> u16
+    ensures code { λ r. ⌜ r ≡ code (endAnswer ut) ⌝ }
+    ensures found { λ r. ⌜ now (found .exit) ≡ left (endAnswer ut) some? (now (found .entry)) ⌝ }
+    ensures end { λ r. ⌜ now (end .exit) ≡ leftSome (endAnswer ut) (λ x. x) (now (end .entry)) ⌝ }
+{
+    give_end(sky::tithi_end(UtDay(ut)), found, end)
+}

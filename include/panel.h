@@ -1,0 +1,156 @@
+/*
+ * The calendar engine for C and C++.
+ *
+ * Link target/staticlib/libpanel.a, which `rt staticlib panel` writes (x86-64), and the C library's mathematics, -lm: of other code the engine calls
+ * fmod, memcpy and memset alone. It has no heap, no state and no threads, and each call ends.
+ *
+ * Every call answers 0 and writes what was asked for, or answers the number of a refusal and writes nothing at all:
+ *
+ *    1  the year table breaks a rule             7  a Gregorian day before the first or after the last day of the table
+ *    2  a festival rule breaks a rule            8  an instant out of range or no number; a tithi not 1 to 30
+ *    3  no such Gregorian date in 1900 to 2149   9  a lent buffer is shorter than the answer
+ *    4  the BS year is not in the table         10  a month step that leaves the table
+ *    5  the BS month is not 1 to 12             11  a search not ended after 1,024 steps
+ *    6  the BS day is 0 or past the month
+ *
+ * Each comment names the refusals that its call can meet, in the order in which they are tested.
+ *
+ * Pointers: each must be valid for what it points to, aligned, and not null, also where a length is 0. What a call writes must overlap nothing else that
+ * is lent to the same call. A pointer to const may be shared. A length counts elements, not bytes. Of a buffer the elements past the answer stay.
+ *
+ * An instant (ut) is a Julian day of universal time, from 2400000.0 to 2510000.0. A day of terrestrial time (tt) is from 2399999.0 to 2510001.0. They are
+ * never the same number: panel_tt_from_ut makes the second of the first. Minutes are of the clock in Nepal, 0 to 1,439.
+ *
+ * A year table is lent as its first BS year (1 to 3,000), the Gregorian date of its first day, and rows: for each year thirteen numbers, twelve month
+ * lengths of 29 to 32 days and their sum. rows_len is 13 times the number of years, of which there are 1 to 128. Days lie in 1901 to 2099.
+ */
+#ifndef PANEL_H
+#define PANEL_H
+
+#include <stddef.h>
+#include <stdint.h>
+
+#ifdef __cplusplus
+extern "C" {
+#endif
+
+/* ---- Gregorian dates */
+
+/* Whether three numbers are a date; if so, the same three. Refusal: 3. */
+uint16_t panel_date_new(uint16_t year, uint16_t month, uint16_t day, uint16_t *date_year, uint16_t *date_month, uint16_t *date_day);
+
+/* The Julian day number of a date's noon: 2,415,021 for 1900-01-01. Refusal: 3. */
+uint16_t panel_date_day_number(uint16_t year, uint16_t month, uint16_t day, uint32_t *number);
+
+/* The day of the week of a date, 0 for Sunday to 6 for Saturday. Refusal: 3. */
+uint16_t panel_date_weekday(uint16_t year, uint16_t month, uint16_t day, uint32_t *weekday);
+
+/* The day after a date. Refusal: 3, also for 2149-12-31. */
+uint16_t panel_date_next(uint16_t year, uint16_t month, uint16_t day, uint16_t *next_year, uint16_t *next_month, uint16_t *next_day);
+
+/* The date of a day number. Refusal: 3. */
+uint16_t panel_date_from_day_number(uint32_t number, uint16_t *year, uint16_t *month, uint16_t *day);
+
+/* The instant of a date at a fraction of the day, which may be any number: 0.0 is 0h. Refusals: 3, 8 (the sum is no instant). */
+uint16_t panel_julian_day(uint16_t year, uint16_t month, uint16_t day, double fraction, double *ut);
+
+/* The date in Nepal at an instant. Refusals: 8, 3. */
+uint16_t panel_npt_date(double ut, uint16_t *year, uint16_t *month, uint16_t *day);
+
+/* ---- Bikram Sambat dates, over a lent year table */
+
+/* The number of days of a month. Refusals: 1, 4, 5. */
+uint16_t panel_bs_month_len(uint16_t first_year, uint16_t first_ad_year, uint16_t first_ad_month, uint16_t first_ad_day, const uint16_t *rows,
+                            size_t rows_len, uint16_t year, uint16_t month, uint16_t *days);
+
+/* Whether there is such a BS date: 0 if there is. Refusals: 1, 4, 5, 6. */
+uint16_t panel_validate_bs_date(uint16_t first_year, uint16_t first_ad_year, uint16_t first_ad_month, uint16_t first_ad_day, const uint16_t *rows,
+                                size_t rows_len, uint16_t year, uint16_t month, uint16_t day);
+
+/* The Gregorian date of a BS date. Refusals: 1, 4, 5, 6. */
+uint16_t panel_bs_to_ad(uint16_t first_year, uint16_t first_ad_year, uint16_t first_ad_month, uint16_t first_ad_day, const uint16_t *rows,
+                        size_t rows_len, uint16_t year, uint16_t month, uint16_t day, uint16_t *ad_year, uint16_t *ad_month, uint16_t *ad_day);
+
+/* The BS date of a Gregorian date. Refusals: 1, 3, 7. */
+uint16_t panel_ad_to_bs(uint16_t first_year, uint16_t first_ad_year, uint16_t first_ad_month, uint16_t first_ad_day, const uint16_t *rows,
+                        size_t rows_len, uint16_t year, uint16_t month, uint16_t day, uint16_t *bs_year, uint16_t *bs_month, uint16_t *bs_day);
+
+/* ---- Trigonometry, in radians, on every number; none of these refuses */
+
+/* The sine of x, from -1 to 1; 0.0 past 100,000 radians either way or for no number. */
+uint16_t panel_sine(double x, double *value);
+
+/* The cosine of x, from -1 to 1; 0.0 past 100,000 radians either way or for no number. */
+uint16_t panel_cosine(double x, double *value);
+
+/* The tangent of x: sine over cosine; no number where both are 0.0. */
+uint16_t panel_tangent(double x, double *value);
+
+/* The angle whose sine is x; 0.0 past -1 to 1 or for no number. */
+uint16_t panel_arcsine(double x, double *value);
+
+/* The angle from 0 to pi whose cosine is x; 0.0 past -1 to 1 or for no number. */
+uint16_t panel_arccosine(double x, double *value);
+
+/* ---- Time, sun, moon and tithis. Angles are in degrees */
+
+/* Terrestrial time less universal time in a year, such as 2026.5, in seconds. It refuses nothing. */
+uint16_t panel_delta_t(double year, double *seconds);
+
+/* The day of terrestrial time at an instant. Refusal: 8. */
+uint16_t panel_tt_from_ut(double ut, double *tt);
+
+/* The longitude of the sun on a day of terrestrial time. Refusal: 8. */
+uint16_t panel_sun_longitude(double tt, double *degrees);
+
+/* The longitude of the moon on a day of terrestrial time. Refusal: 8. */
+uint16_t panel_moon_longitude(double tt, double *degrees);
+
+/* The moon's elongation from the sun at an instant. Refusal: 8. */
+uint16_t panel_elongation(double ut, double *degrees);
+
+/* The tithi of an elongation, 1 to 30. It refuses nothing. */
+uint16_t panel_tithi_of(double degrees, uint16_t *tithi);
+
+/* The tithi that runs at an instant, 1 to 30. Refusal: 8. */
+uint16_t panel_tithi_at(double ut, uint16_t *tithi);
+
+/* Every instant from one on and before another at which a tithi (1 to 30) begins, at the front of starts; how many there are, and how many steps of 0.75
+   days were walked. A tithi begins about every 29.5 days: starts_len 14 serves a year, 27 the longest window that is answered, of 768 days.
+   Refusals: 8, 11, 9. */
+uint16_t panel_tithi_starts_between(uint16_t tithi, double from, double to, double *starts, size_t starts_len, size_t *count, size_t *steps);
+
+/* Where the tithi that runs at an instant ends. found gets 1; or 0 where it does not end in 2.5 days, and end stays. Refusal: 8, also where 2.5 days on
+   are no instant. */
+uint16_t panel_tithi_end(double ut, uint16_t *found, double *end);
+
+/* ---- Sun times over Kathmandu, the clock, a date's reading */
+
+/* Sunrise and sunset on a date. found gets 1; or 0 where there are none, and rise and set stay. Refusal: 3. */
+uint16_t panel_sun_events(uint16_t year, uint16_t month, uint16_t day, uint16_t *found, double *rise, double *set);
+
+/* Sunrise on a date. found gets 1; or 0 where there is none, and ut stays. Refusal: 3. */
+uint16_t panel_sunrise(uint16_t year, uint16_t month, uint16_t day, uint16_t *found, double *ut);
+
+/* Sunset on a date. found gets 1; or 0 where there is none, and ut stays. Refusal: 3. */
+uint16_t panel_sunset(uint16_t year, uint16_t month, uint16_t day, uint16_t *found, double *ut);
+
+/* The beginning and the end of nishita in the night that follows a date. found gets 1; or 0 where there is none, and from and to stay. Refusal: 3, also
+   for 2149-12-31. */
+uint16_t panel_nishita_window(uint16_t year, uint16_t month, uint16_t day, uint16_t *found, double *from, double *to);
+
+/* The minute of the clock in Nepal at an instant. Refusal: 8. */
+uint16_t panel_npt_clock(double ut, uint16_t *minutes);
+
+/* The minutes of a fraction of the day, rounded, half upward, modulo 1,440. It refuses nothing. */
+uint16_t panel_minutes_of(double fraction, uint16_t *minutes);
+
+/* What a calendar prints under a date: the tithi that names the day, 1 to 30, and the minutes at which it ends, the sun rises and the sun sets; 1,440 for
+   what does not happen on that date. Refusal: 3. */
+uint16_t panel_reading(uint16_t year, uint16_t month, uint16_t day, uint16_t *tithi, uint16_t *end, uint16_t *sunrise, uint16_t *sunset);
+
+#ifdef __cplusplus
+}
+#endif
+
+#endif

@@ -1,0 +1,38 @@
+/* Arguments for one call: tame ones, which the call answers, or hostile ones. */
+#ifndef ARGUMENTS_H
+#define ARGUMENTS_H
+
+#include <stddef.h>
+#include <stdint.h>
+
+struct slice {
+    const uint16_t *at;
+    size_t len;
+};
+
+/* What is passed, each kind in the order of the parameters. */
+struct arguments {
+    uint32_t number[16];
+    double real[4];
+    int32_t step;
+    struct slice slice[2];
+    size_t room[2]; /* the elements of each lent buffer */
+};
+
+/* Begins the random numbers, and makes the tables and rule lists that are lent. */
+void prepare(uint64_t seed);
+
+/* A random number below another. */
+uint64_t below(uint64_t end);
+
+/* Arguments for parameters by their letters:
+     ymd a Gregorian date   n a day number   k a tithi   q a kala
+     T a year table         YMD a BS date in it   g a Gregorian date in it   R rules   b a month in a byte   s a step of months
+     i an instant           e an instant whose next days are instants too   u an instant soon after the one before
+     t a day of terrestrial time   r any number   B a lent buffer, with `most` elements where it is tame */
+void draw(struct arguments *to, const char *letters, int tame, const size_t *most);
+
+/* Prints arguments to standard error. */
+void show(const struct arguments *shown, const char *letters);
+
+#endif

@@ -1,0 +1,356 @@
+/* See ../hostile. */
+#define _GNU_SOURCE
+#include "arguments.h"
+#include "memory.h"
+#include "panel.h"
+
+#include <signal.h>
+#include <stdio.h>
+#include <stdlib.h>
+#include <string.h>
+#include <sys/wait.h>
+#include <unistd.h>
+
+/* ---- the functions */
+
+static struct arguments a;
+static struct lent places[16], buffers[2];
+
+/* What is passed: a number, a real, a lent slice, a table; a place to write a u16, u32, size_t or double to; a buffer. */
+#define N(i) ((uint16_t)a.number[i])
+#define X(i) (a.real[i])
+#define S(i) a.slice[i].at, a.slice[i].len
+#define TABLE N(0), N(1), N(2), N(3), S(0)
+#define H(i) ((uint16_t *)places[i].at)
+#define W(i) ((uint32_t *)places[i].at)
+#define Z(i) ((size_t *)places[i].at)
+#define F(i) ((double *)places[i].at)
+#define HB(i) (uint16_t *)buffers[i].at, a.room[i]
+#define FB(i) (double *)buffers[i].at, a.room[i]
+
+/* A lent buffer: the width of its elements, the most that an answer can write, and the place that tells how many times `each` were written. */
+struct buffer {
+    size_t width, most, place, each;
+};
+
+static const struct buffer no_buffer[2], starts[2] = { { sizeof(double), 40, 0, 1 } };
+
+/* The name; the letters of its arguments (arguments.h); the letters of its places: h a u16, w a u32, z a size_t, f a double, o a u16 that is 1 where the
+   places behind it are written and 0 where they stay; its buffers; the refusals that document 01 allows; one in how many calls is tame; the call. */
+#define FUNCTIONS(f) \
+    f(panel_date_new, "ymd", "hhh", no_buffer, "3", 2, (N(0), N(1), N(2), H(0), H(1), H(2))) \
+    f(panel_date_day_number, "ymd", "w", no_buffer, "3", 2, (N(0), N(1), N(2), W(0))) \
+    f(panel_date_weekday, "ymd", "w", no_buffer, "3", 2, (N(0), N(1), N(2), W(0))) \
+    f(panel_date_next, "ymd", "hhh", no_buffer, "3", 2, (N(0), N(1), N(2), H(0), H(1), H(2))) \
+    f(panel_date_from_day_number, "n", "hhh", no_buffer, "3", 2, (a.number[0], H(0), H(1), H(2))) \
+    f(panel_julian_day, "ymdr", "f", no_buffer, "3 8", 2, (N(0), N(1), N(2), X(0), F(0))) \
+    f(panel_npt_date, "i", "hhh", no_buffer, "8 3", 2, (X(0), H(0), H(1), H(2))) \
+    f(panel_bs_month_len, "TYM", "h", no_buffer, "1 4 5", 4, (TABLE, N(4), N(5), H(0))) \
+    f(panel_validate_bs_date, "TYMD", "", no_buffer, "1 4 5 6", 4, (TABLE, N(4), N(5), N(6))) \
+    f(panel_bs_to_ad, "TYMD", "hhh", no_buffer, "1 4 5 6", 4, (TABLE, N(4), N(5), N(6), H(0), H(1), H(2))) \
+    f(panel_ad_to_bs, "Tg", "hhh", no_buffer, "1 3 7", 4, (TABLE, N(4), N(5), N(6), H(0), H(1), H(2))) \
+    f(panel_sine, "r", "f", no_buffer, "", 2, (X(0), F(0))) \
+    f(panel_cosine, "r", "f", no_buffer, "", 2, (X(0), F(0))) \
+    f(panel_tangent, "r", "f", no_buffer, "", 2, (X(0), F(0))) \
+    f(panel_arcsine, "r", "f", no_buffer, "", 2, (X(0), F(0))) \
+    f(panel_arccosine, "r", "f", no_buffer, "", 2, (X(0), F(0))) \
+    f(panel_delta_t, "r", "f", no_buffer, "", 2, (X(0), F(0))) \
+    f(panel_tt_from_ut, "i", "f", no_buffer, "8", 2, (X(0), F(0))) \
+    f(panel_sun_longitude, "t", "f", no_buffer, "8", 2, (X(0), F(0))) \
+    f(panel_moon_longitude, "t", "f", no_buffer, "8", 2, (X(0), F(0))) \
+    f(panel_elongation, "i", "f", no_buffer, "8", 2, (X(0), F(0))) \
+    f(panel_tithi_of, "r", "h", no_buffer, "", 2, (X(0), H(0))) \
+    f(panel_tithi_at, "i", "h", no_buffer, "8", 2, (X(0), H(0))) \
+    f(panel_tithi_starts_between, "keuB", "zz", starts, "8 11 9", 50, (N(0), X(0), X(1), FB(0), Z(0), Z(1))) \
+    f(panel_tithi_end, "e", "of", no_buffer, "8", 10, (X(0), H(0), F(1))) \
+    f(panel_sun_events, "ymd", "off", no_buffer, "3", 2, (N(0), N(1), N(2), H(0), F(1), F(2))) \
+    f(panel_sunrise, "ymd", "of", no_buffer, "3", 2, (N(0), N(1), N(2), H(0), F(1))) \
+    f(panel_sunset, "ymd", "of", no_buffer, "3", 2, (N(0), N(1), N(2), H(0), F(1))) \
+    f(panel_nishita_window, "ymd", "off", no_buffer, "3", 2, (N(0), N(1), N(2), H(0), F(1), F(2))) \
+    f(panel_npt_clock, "i", "h", no_buffer, "8", 2, (X(0), H(0))) \
+    f(panel_minutes_of, "r", "h", no_buffer, "", 2, (X(0), H(0))) \
+    f(panel_reading, "ymd", "hhhh", no_buffer, "3", 10, (N(0), N(1), N(2), H(0), H(1), H(2), H(3)))
+
+struct function {
+    const char *name, *letters, *places;
+    const struct buffer *buffers;
+    const char *refusals;
+    unsigned tame;
+    uint16_t (*call)(void);
+};
+
+/* Functions that break what is promised, each in one way: --self-test sees that each is noticed. */
+#define BROKEN(f) \
+    f(broken_refusal, "ymd", "h", no_buffer, "3", 2, (N(0), H(0))) \
+    f(broken_place, "ymd", "h", no_buffer, "3", 2, (N(0), H(0))) \
+    f(broken_none, "ymd", "oh", no_buffer, "3", 2, (H(0), H(1))) \
+    f(broken_answer, "ymd", "h", no_buffer, "3", 2, (H(0))) \
+    f(broken_guard, "kB", "z", starts, "8 9", 2, (FB(0), Z(0))) \
+    f(broken_room, "kB", "z", starts, "8 9", 2, (FB(0), Z(0))) \
+    f(broken_rest, "kB", "z", starts, "8 9", 2, (FB(0), Z(0))) \
+    f(broken_read, "TYM", "h", no_buffer, "1 4 5", 2, (S(0), H(0))) \
+    f(broken_write, "TYM", "h", no_buffer, "1 4 5", 2, (S(0), H(0)))
+
+/* refuses with a number of another call */
+static uint16_t broken_refusal(uint16_t year, uint16_t *out)
+{
+    *out = year;
+    return year < 1900 ? 7 : 0;
+}
+
+/* writes and refuses */
+static uint16_t broken_place(uint16_t year, uint16_t *out)
+{
+    *out = year;
+    return year < 1900 ? 3 : 0;
+}
+
+/* writes what there is not */
+static uint16_t broken_none(uint16_t *found, uint16_t *out)
+{
+    *found = 0;
+    *out = 1;
+    return 0;
+}
+
+/* leaves a place that belongs to its answer */
+static uint16_t broken_answer(uint16_t *out)
+{
+    (void)out;
+    return 0;
+}
+
+/* writes in front of its buffer */
+static uint16_t broken_guard(double *out, size_t len, size_t *count)
+{
+    out[-1] = 1.0;
+    *count = 0 * len;
+    return 0;
+}
+
+/* writes one element more than there is room for */
+static uint16_t broken_room(double *out, size_t len, size_t *count)
+{
+    for (size_t i = 0; i < 4; i++) out[i] = 1.0;
+    *count = len < 4 ? len : 4;
+    return 0;
+}
+
+/* writes one element more than it answers */
+static uint16_t broken_rest(double *out, size_t len, size_t *count)
+{
+    if (len < 5) return 9;
+    for (size_t i = 0; i < 5; i++) out[i] = 1.0;
+    *count = 4;
+    return 0;
+}
+
+/* reads past a slice */
+static uint16_t broken_read(const uint16_t *rows, size_t len, uint16_t *out)
+{
+    *out = ((const volatile uint16_t *)rows)[len];
+    return 0;
+}
+
+/* writes to what is only to be read */
+static uint16_t broken_write(const uint16_t *rows, size_t len, uint16_t *out)
+{
+    if (len > 0) ((uint16_t *)rows)[0] = 0;
+    *out = 0;
+    return 0;
+}
+
+#define DEFINED(name, letters, places, buffers, refusals, tame, passed) \
+    static uint16_t call_##name(void) { return name passed; }
+#define LISTED(name, letters, places, buffers, refusals, tame, passed) { #name, letters, places, buffers, refusals, tame, call_##name },
+
+FUNCTIONS(DEFINED)
+BROKEN(DEFINED)
+static const struct function functions[] = { FUNCTIONS(LISTED) }, broken[] = { BROKEN(LISTED) };
+
+/* ---- one call, and what must hold after it */
+
+static const struct function *function;
+
+static void failed(const char *what)
+{
+    fprintf(stderr, "hostile: %s %s:", function->name, what);
+    show(&a, function->letters);
+    exit(1);
+}
+
+static void fault(int number)
+{
+    fprintf(stderr, "hostile: signal %d\n", number);
+    failed("faults");
+}
+
+static size_t width_of(char place)
+{
+    return place == 'w' ? sizeof(uint32_t) : place == 'z' ? sizeof(size_t) : place == 'f' ? sizeof(double) : sizeof(uint16_t);
+}
+
+static uint16_t call(unsigned char fill)
+{
+    for (size_t i = 0; function->places[i]; i++) lend(&places[i], width_of(function->places[i]), (int)below(2), fill);
+    for (size_t i = 0; i < 2 && function->buffers[i].width > 0; i++) lend(&buffers[i], a.room[i] * function->buffers[i].width, (int)below(2), fill);
+    return function->call();
+}
+
+/* Whether a refusal is one of those that are allowed. */
+static int allowed(uint16_t code)
+{
+    char *rest;
+    for (const char *at = function->refusals; *at; at = rest)
+        if (strtoul(at, &rest, 10) == code) return 1;
+    return 0;
+}
+
+/* Whether there is something: each answer says so but one whose first place says that there is nothing. */
+static int is_found(uint16_t code)
+{
+    return code == 0 && !(function->places[0] == 'o' && *H(0) == 0);
+}
+
+/* The bytes that an answer has written to a buffer. */
+static size_t written(size_t i)
+{
+    const struct buffer *buffer = &function->buffers[i];
+    return *Z(buffer->place) * buffer->each * buffer->width;
+}
+
+static void check(uint16_t code, unsigned char fill)
+{
+    if (code != 0 && !allowed(code)) failed("refuses with a number that is not allowed");
+    for (size_t i = 0; function->places[i]; i++) {
+        int stays = i == 0 && function->places[0] == 'o' ? code != 0 : !is_found(code);
+        if (!untouched(&places[i], stays ? 0 : places[i].bytes, fill)) failed("changes a place that it must leave");
+    }
+    if (code == 0 && function->places[0] == 'o' && *H(0) > 1) failed("finds neither 0 nor 1");
+    for (size_t i = 0; i < 2 && function->buffers[i].width > 0; i++) {
+        if (code == 0 && written(i) > buffers[i].bytes) failed("answers more than there is room for");
+        if (!untouched(&buffers[i], code == 0 ? written(i) : 0, fill)) failed("changes a buffer past its answer");
+    }
+}
+
+/* What an answer has written, all places and buffers one after the other. */
+static size_t kept(uint16_t code, unsigned char *to)
+{
+    unsigned char *at = to;
+    for (size_t i = 0; is_found(code) && function->places[i]; at += places[i].bytes, i++) memcpy(at, places[i].at, places[i].bytes);
+    for (size_t i = 0; code == 0 && i < 2 && function->buffers[i].width > 0; at += written(i), i++) memcpy(at, buffers[i].at, written(i));
+    return (size_t)(at - to);
+}
+
+/* The same once more over other bytes: the same answer, written in full. */
+static void call_again(uint16_t code, unsigned char fill)
+{
+    static unsigned char before[1 << 20], after[1 << 20];
+    size_t length = kept(code, before);
+    uint16_t now = call(fill);
+    check(now, fill);
+    if (now != code || kept(now, after) != length || memcmp(before, after, length) != 0) failed("answers the same question in two ways");
+}
+
+/* Once more with just enough room in each buffer, and with one element less. */
+static void call_exact(void)
+{
+    size_t room[2] = { a.room[0], a.room[1] };
+    for (size_t i = 0; i < 2 && function->buffers[i].width > 0; i++) a.room[i] = written(i) / function->buffers[i].width;
+    call_again(0, 0x3c);
+    for (size_t i = 0; i < 2 && function->buffers[i].width > 0; i++) {
+        if (a.room[i] == 0) continue;
+        a.room[i]--;
+        if (call(0xc3) != 9) failed("does not miss an element of room");
+        check(9, 0xc3);
+        a.room[i]++;
+        if (call(0xc3) != 0) failed("misses room");
+    }
+    a.room[0] = room[0];
+    a.room[1] = room[1];
+}
+
+/* ---- all calls */
+
+static void drive(unsigned long calls)
+{
+    unsigned long answered = 0, none = 0, refused[16] = { 0 };
+    size_t most[2] = { function->buffers[0].most, function->buffers[1].most };
+    for (unsigned long n = 0; n < calls; n++) {
+        unsigned char fill = n % 2 ? 0xa5 : 0x5a;
+        uint16_t code;
+        draw(&a, function->letters, below(function->tame) == 0, most);
+        code = call(fill);
+        check(code, fill);
+        if (code != 0) refused[code]++;
+        else if (is_found(code)) answered++;
+        else none++;
+        if (below(8) == 0) {
+            call_again(code, (unsigned char)~fill);
+            if (code == 0 && function->buffers[0].width > 0) call_exact();
+        }
+    }
+    printf("%-28s %8lu calls %8lu answered", function->name, calls, answered);
+    if (function->places[0] == 'o') printf(", %lu none", none);
+    for (unsigned k = 1; k < 16; k++)
+        if (refused[k] > 0) printf(", %lu refused with %u", refused[k], k);
+    printf("\n");
+    fflush(stdout);
+}
+
+static unsigned long setting(const char *name, unsigned long otherwise)
+{
+    const char *text = getenv(name);
+    return text ? strtoul(text, NULL, 10) : otherwise;
+}
+
+static int is_asked(const char *name, int count, char **names)
+{
+    for (int i = 1; i < count; i++)
+        if (strcmp(names[i], name) == 0) return 1;
+    return count < 2;
+}
+
+/* Drives each broken function in a process of its own, which must fail. */
+static int self_test(void)
+{
+    int missed = 0;
+    for (size_t i = 0; i < sizeof broken / sizeof *broken; i++) {
+        int status = 0;
+        pid_t child = fork();
+        if (child == 0) {
+            function = &broken[i];
+            drive(1000);
+            _exit(0);
+        }
+        waitpid(child, &status, 0);
+        if (WIFEXITED(status) && WEXITSTATUS(status) == 0) {
+            printf("hostile: %s is not noticed\n", broken[i].name);
+            missed++;
+        }
+    }
+    printf("hostile: of %zu broken functions %d are not noticed\n", sizeof broken / sizeof *broken, missed);
+    return missed > 0;
+}
+
+int main(int count, char **names)
+{
+    const size_t all = sizeof functions / sizeof *functions;
+    if (count == 2 && strcmp(names[1], "--names") == 0) {
+        for (size_t i = 0; i < all; i++) puts(functions[i].name);
+        return 0;
+    }
+    for (int number = 1; number < 32; number++)
+        if (number == SIGSEGV || number == SIGBUS || number == SIGFPE || number == SIGILL || number == SIGABRT) signal(number, fault);
+    for (size_t i = 0; i < sizeof places / sizeof *places; i++) reserve(&places[i], 1);
+    for (size_t i = 0; i < 2; i++) reserve(&buffers[i], (size_t)1 << 19);
+    prepare(setting("HOSTILE_SEED", 1));
+    if (count == 2 && strcmp(names[1], "--self-test") == 0) return self_test();
+    for (size_t i = 0; i < all; i++) {
+        if (!is_asked(functions[i].name, count, names)) continue;
+        function = &functions[i];
+        drive(setting("HOSTILE_CALLS", 1000000));
+    }
+    printf("hostile: no fault, no write past an answer or on a refusal, no refusal that is not allowed\n");
+    return 0;
+}
