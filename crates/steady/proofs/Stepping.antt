@@ -11,7 +11,8 @@ use Rattle.paper.specs.Answers.{answered, given}
 use Rattle.paper.proofs.Answers.{answered-same, refused-answered, given-answered, given-on, given-off}
 use Rattle.paper.proofs.Tests.{and-left, and-right, split}
 use Rattle.conversion.specs.Calendar.{Calendar}
-use Rattle.conversion.proofs.Longer.{Extends, Added, RefusedIf}
+use Rattle.conversion.specs.Claims.{Added, RefusedIf}
+use Rattle.conversion.proofs.Longer.{Extends}
 use Rattle.grid.specs.declared.BsMonth.{BsMonth}
 use Rattle.grid.specs.Step.{absolute, wholeYears, monthsLeft, inYears, monthAt, stepMonth}
 
