@@ -1,4 +1,7 @@
 // Lines of words, gathered in a lent buffer and written to standard output when it is nearly full.
+ghost use mathlib.Core.Path.{_≡_};
+ghost use Prim.Native.Nat.{_+_, _≤_};
+ghost use lib.ListN.{length};
 use crate::floats;
 use libc::STDOUT_FILENO;
 
@@ -29,7 +32,9 @@ fn put_space(buffer: &mut [u8], at: usize, begun: bool) -> usize {
 
 impl Out {
     // Writes out what is gathered. After a write that failed nothing more is written.
-    pub fn flush(self, buffer: &[u8]) -> Out {
+    pub fn flush(self, buffer: &[u8]) -> Out
+        ensures { λ r. ⌜ r .at ≡ 0 ⌝ }
+    {
         let at = self.at;
         let begun = self.begun;
         if self.failed {
@@ -55,7 +60,9 @@ impl Out {
     }
 
     // Room for so many bytes, where the buffer has that many.
-    pub fn room(self, buffer: &[u8], bytes: usize) -> Out {
+    pub fn room(self, buffer: &[u8], bytes: usize) -> Out
+        ensures { λ r. ⌜ (bytes ≤ length (now (buffer .entry)) → r .at + bytes ≤ length (now (buffer .entry))) ⌝ }
+    {
         if self.at <= buffer.len() {
             if bytes <= buffer.len() - self.at {
                 return self;

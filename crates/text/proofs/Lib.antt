@@ -7,3 +7,4 @@ pub mod Writes
 pub mod Turns
 pub mod Lines
 pub mod Said
+pub mod Ways

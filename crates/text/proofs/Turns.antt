@@ -2,13 +2,13 @@
 use Prim.Native.Nat.{ℕ, zero, suc, _+_, _-_, _*_, _/_, _%_, _^_, _≤_, _<_}
 use mathlib.Core.Path.{_≡_, refl, sym, ap, _∙_}
 use mathlib.Core.List.{List, [], _∷_}
-use native.Mathlib.Nat.{le-trans, mul-assoc, mul-comm, suc-mul, mul-le-mul-right, le-mul-of-pos-right, pow-suc}
+use native.Mathlib.Nat.{le-trans, mul-assoc, mul-comm, suc-mul, mul-le-mul-right, le-mul-of-pos-right, pow-suc, pow-le-pow-right}
 use native.Mathlib.Omega.{arith}
 use borrow.Author.Tests.{lt-ltb, le-ltb, le-leb, lt-leb}
 use lib.ListN.{length, getD, drop, set}
 use lib.Seq.{sets}
 use Rattle.paper.proofs.Stores.{sets-append, sets-behind}
-use Rattle.text.specs.Digits.{mark, run, worth, got, no, fixed, scan}
+use Rattle.text.specs.Digits.{mark, run, worth, got, no, fixed, wide, scan}
 use Rattle.text.proofs.Runs.{power-pos, run-last, length-run}
 use Rattle.text.proofs.Texts.{cut, over}
 
@@ -48,6 +48,21 @@ room-turn v d base (suc left) most h l m =
 
 pub room-small : (v base left most : ℕ) → 0 < base → suc v * base ^ left ≤ most → v < most
 room-small v base left most h m = le-trans (le-mul-of-pos-right (suc v) (power-pos base left h)) m
+
+-- up to nineteen decimal digits are a u64
+pub wide-is : (k : ℕ) (s : List ℕ) → k ≤ 19 → wide k s ≡ fixed 10 k 0 s
+unfolding wide
+wide-is k s h = rw (le-leb k 19 h)
+
+pub wide-not : (k : ℕ) (s : List ℕ) → 19 < k → no ≡ wide k s
+unfolding wide
+wide-not k s h = rw (lt-leb k 19 h)
+
+pub wide-fits : (k : ℕ) → k ≤ 19 → 10 ^ k ≤ 2 ^ 64
+wide-fits k h =
+    let z : 0 < 10 = omega arith in
+    let p : 10 ^ k ≤ 10 ^ 19 = pow-le-pow-right z h in
+    omega arith
 
 -- ---- all decimal digits that follow
 

@@ -67,6 +67,10 @@ abbrev pub found : {A B : Type 0} → Got A → (A → List ℕ → B) → B →
 found (got x t) f other = f x t
 found no f other = other
 
+-- one and then another
+abbrev pub both : {A B : Type 0} → (List ℕ → Got A) → (List ℕ → Got B) → List ℕ → Got (A × B)
+both a b s = found (a s) (λ x t. found (b t) (λ y u. got (x, y) u) no) no
+
 -- exactly this text
 abbrev pub past : List ℕ → List ℕ → Got (Unit {0})
 past [] s = got tt s
@@ -78,6 +82,14 @@ abbrev pub fixed : ℕ → ℕ → ℕ → List ℕ → Got ℕ
 fixed base zero v s = got v s
 fixed base (suc k) v [] = no
 fixed base (suc k) v (b ∷ s) = cond (digit base b) (fixed base k (v * base + worth b) s) no
+
+-- exactly k decimal digits, nineteen at most
+unfoldable pub wide : ℕ → List ℕ → Got ℕ
+wide k s = cond (leb k 19) (fixed 10 k 0 s) no
+
+-- a text, and then another
+abbrev pub behind : {A : Type 0} → List ℕ → (List ℕ → Got A) → List ℕ → Got A
+behind w a s = found (past w s) (λ u t. a t) no
 
 -- all decimal digits that follow, with the number v before them, as long as the number is at most the limit
 abbrev pub scan : ℕ → ℕ → List ℕ → Got ℕ

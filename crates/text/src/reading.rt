@@ -187,18 +187,14 @@ impl Cursor {
         Read::NotOne
     }
 
-    // Two decimal digits.
-    pub fn two(self, s: &[u8]) -> Read
-        ensures { λ r. ⌜ Says (now (s .entry)) (readSays (now (s .entry)) r) (readEnd r) (fixed 10 2 0 (drop (self .at) (now (s .entry)))) ⌝ }
+    // Exactly k decimal digits, nineteen at most.
+    pub fn wide(self, s: &[u8], k: u8) -> Read
+        ensures { λ r. ⌜ Says (now (s .entry)) (readSays (now (s .entry)) r) (readEnd r) (Digits.wide k (drop (self .at) (now (s .entry)))) ⌝ }
     {
-        read_fixed(s, self.at, 10, 2)
-    }
-
-    // Four decimal digits.
-    pub fn four(self, s: &[u8]) -> Read
-        ensures { λ r. ⌜ Says (now (s .entry)) (readSays (now (s .entry)) r) (readEnd r) (fixed 10 4 0 (drop (self .at) (now (s .entry)))) ⌝ }
-    {
-        read_fixed(s, self.at, 10, 4)
+        if k <= 19 {
+            return read_fixed(s, self.at, 10, k as usize);
+        }
+        Read::NotOne
     }
 
     // Sixteen hexadecimal digits in lower case.

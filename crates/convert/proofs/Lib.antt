@@ -1,0 +1,4 @@
+pub mod Forms
+pub mod Puts
+pub mod Whole
+pub mod Examples

@@ -1,0 +1,73 @@
+-- A line too long to be kept has another form: the reply to what is kept of a line, where 20 bytes or more are kept, is the reply to the line.
+-- Assumes nothing.
+use Prim.Native.Nat.{ℕ, _≤_, _<_}
+use mathlib.Core.Path.{_≡_, refl, sym, ap, _∙_}
+use mathlib.Core.Bool.{Bool, true, false, cond}
+use mathlib.Core.List.{List, [], _++_}
+use native.Mathlib.Omega.{arith}
+use borrow.Author.Tests.{leb-false}
+use lib.Dec.{leb}
+use lib.ListN.{length, length-append}
+use Rattle.text.specs.Kept.{Current, short, long}
+use Rattle.text.proofs.Lines.{comes}
+use Rattle.convert.specs.Lines.{dash, numberText, numbersText, lineForm, LineIs, IsBs, IsAd}
+use Rattle.convert.specs.declared.line.Line.{Line}
+use Rattle.convert.specs.declared.line.Line.the-variants.{Bs, Ad, Other}
+use Rattle.convert.specs.Replies.{lineReply, replyTo}
+use Rattle.convert.proofs.Forms.{line-is}
+use Rattle.convert.proofs.Puts.{number-short}
+
+-- three numbers of at most five digits
+numbers-short : (f o y m d : ℕ) → f ≤ 4 → o ≤ 4 → y < 65536 → m < 65536 → d < 65536 → length (numbersText f o y m d) ≤ 17
+numbers-short f o y m d hf ho hy hm hd =
+    omega (
+      arith,
+      number-short f y hf hy,
+      number-short o m ho hm,
+      number-short o d ho hd,
+      length-append (numberText f y) ((dash ++ numberText o m) ++ (dash ++ numberText o d)),
+      length-append (dash ++ numberText o m) (dash ++ numberText o d),
+    )
+
+bs-short : (s : List ℕ) (y m d : ℕ) → IsBs s y m d → length s ≤ 20
+bs-short s y m d h =
+    let a = h .year in
+    let b = h .month in
+    let c = h .day in
+    let l = numbers-short 0 0 y m d (omega arith) (omega arith) (omega arith) (omega arith) (omega arith) in
+    rw (h .same) (omega arith)
+
+ad-short : (s : List ℕ) (y m d : ℕ) → IsAd s y m d → length s ≤ 20
+ad-short s y m d h =
+    let a = h .year in
+    let b = h .month in
+    let c = h .day in
+    let l = numbers-short 4 2 y m d (omega arith) (omega arith) (omega arith) (omega arith) (omega arith) in
+    rw (h .same) (omega arith)
+
+pub long-other : (s : List ℕ) → 20 < length s → lineForm s ≡ Other
+long-other s h = go (lineForm s) (line-is s)
+  where
+    go : (l : Line) → LineIs s l → l ≡ Other
+    go (Bs y m d) k = let x = bs-short s y m d k in absurd (let bad : ⊥ = omega arith in bad)
+    go (Ad y m d) k = let x = ad-short s y m d k in absurd (let bad : ⊥ = omega arith in bad)
+    go Other k = refl
+
+-- what is handed over of a line that came in: nothing of one too long
+abbrev pub handed : Current → List ℕ
+handed (short s) = s
+handed long = []
+
+empty-other : lineForm [] ≡ Other
+unfolding lineForm
+empty-other = refl
+
+pub whole-reply : (room : ℕ) (s : List ℕ) → 20 ≤ room → replyTo (handed (comes room s)) ≡ replyTo s
+whole-reply room s h = go (leb (length s) room) refl
+  where
+    go : (f : Bool) → leb (length s) room ≡ f → replyTo (handed (cond f (short s) long)) ≡ replyTo s
+    go true e = refl
+    go false e =
+        let l = leb-false (length s) room e in
+        let m : 20 < length s = omega arith in
+        ap lineReply (empty-other ∙ sym (long-other s m))

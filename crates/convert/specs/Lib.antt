@@ -1,0 +1,3 @@
+-- What `convert` reads and writes.
+pub mod Lines
+pub mod Replies

@@ -1,0 +1,85 @@
+-- The lines that `convert` reads: bs=Y-M-D with numbers at most 65,535 and no leading zeros, and ad=YYYY-MM-DD. Assumes nothing.
+use Prim.Native.Nat.{ℕ, zero, suc, _≤_, _<_, _^_}
+use mathlib.Core.Path.{_≡_}
+use mathlib.Core.Bool.{cond}
+use mathlib.Core.List.{List, [], _∷_, _++_}
+use Rattle.text.specs.Digits.{run, digits, isEnd, Got, got, no, found, both, past, behind, wide, decimal}
+use Rattle.convert.specs.declared.line.Line.{Line}
+use Rattle.convert.specs.declared.line.Line.the-variants.{Bs, Ad, Other}
+use Rattle.convert.specs.declared.line.Numbers.{Numbers}
+use Rattle.convert.specs.declared.line.Numbers.the-variants.{Are, Not}
+
+-- ---- three numbers with a dash (45) between them
+
+-- a number in the fewest digits (width 0), or in so many
+abbrev pub numberText : ℕ → ℕ → List ℕ
+numberText zero n = digits n
+numberText (suc k) n = run 10 (suc k) n
+
+abbrev pub number : ℕ → List ℕ → Got ℕ
+number zero s = decimal 65535 s
+number (suc k) s = wide (suc k) s
+
+abbrev pub dash : List ℕ
+dash = 45 ∷ []
+
+-- the first of one width, the others of another
+abbrev pub numbersText : ℕ → ℕ → ℕ → ℕ → ℕ → List ℕ
+numbersText first others y m d = numberText first y ++ ((dash ++ numberText others m) ++ (dash ++ numberText others d))
+
+abbrev pub numbers : ℕ → ℕ → List ℕ → Got (ℕ × (ℕ × ℕ))
+numbers first others = both (number first) (both (behind dash (number others)) (behind dash (number others)))
+
+-- and nothing after them
+abbrev pub ended : Got (ℕ × (ℕ × ℕ)) → Numbers
+ended (got x t) = cond (isEnd t) (Are (x .0) (x .1 .0) (x .1 .1)) Not
+ended no = Not
+
+-- ---- a line
+
+-- bs= and ad=
+abbrev pub bsTag : List ℕ
+bsTag = 98 ∷ 115 ∷ 61 ∷ []
+
+abbrev pub adTag : List ℕ
+adTag = 97 ∷ 100 ∷ 61 ∷ []
+
+abbrev pub bsLine : ℕ → ℕ → ℕ → List ℕ
+bsLine y m d = bsTag ++ numbersText 0 0 y m d
+
+abbrev pub adLine : ℕ → ℕ → ℕ → List ℕ
+adLine y m d = adTag ++ numbersText 4 2 y m d
+
+-- three numbers of one of the two lines
+abbrev pub asBs : Numbers → Line
+asBs (Are y m d) = Bs y m d
+asBs Not = Other
+
+abbrev pub asAd : Numbers → Line
+asAd (Are y m d) = Ad y m d
+asAd Not = Other
+
+unfoldable pub lineForm : List ℕ → Line
+lineForm s =
+    found (past bsTag s) (λ u t. asBs (ended (numbers 0 0 t)))
+    (found (past adTag s) (λ u t. asAd (ended (numbers 4 2 t))) Other)
+
+-- ---- the same, by what is written
+
+pub record IsBs (s : List ℕ) (y m d : ℕ) : Type 0 where
+  pub year : y ≤ 65535
+  pub month : m ≤ 65535
+  pub day : d ≤ 65535
+  pub same : s ≡ bsLine y m d
+
+pub record IsAd (s : List ℕ) (y m d : ℕ) : Type 0 where
+  pub year : y < 10 ^ 4
+  pub month : m < 10 ^ 2
+  pub day : d < 10 ^ 2
+  pub same : s ≡ adLine y m d
+
+-- a line is the writing of three numbers in one of the two forms, or in neither
+abbrev pub LineIs : List ℕ → Line → Type 0
+LineIs s (Bs y m d) = IsBs s y m d
+LineIs s (Ad y m d) = IsAd s y m d
+LineIs s Other = ((y m d : ℕ) → IsBs s y m d → ⊥) × ((y m d : ℕ) → IsAd s y m d → ⊥)

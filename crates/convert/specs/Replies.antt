@@ -1,0 +1,86 @@
+-- What `convert` writes for a line. Assumes nothing.
+use Prim.Native.Nat.{ℕ, _+_, _≤_}
+use mathlib.Core.Path.{_≡_}
+use mathlib.Core.List.{List, [], _∷_, _++_}
+use lib.ListN.{length}
+use lib.Seq.{sets}
+use Rattle.paper.specs.Answers.{Answer, answered, refused}
+use Rattle.text.specs.Digits.{digits}
+use Rattle.text.specs.Written.{Wrote}
+use Rattle.gregorian.specs.declared.Date.{Date}
+use Rattle.conversion.specs.Calendar.{Calendar, toAd, fromAd}
+use Rattle.conversion.specs.Flat.{flat}
+use Rattle.conversion.specs.declared.BsDate.{BsDate}
+use Rattle.conversion.specs.declared.Table.{Table}
+use Rattle.convert.specs.declared.line.Line.{Line}
+use Rattle.convert.specs.declared.line.Line.the-variants.{Bs, Ad, Other}
+use Rattle.convert.specs.declared.reply.Shown.{Shown}
+use Rattle.convert.specs.declared.reply.Shown.the-variants as shown
+use Rattle.convert.specs.declared.reply.Reply.{Reply}
+use Rattle.convert.specs.Lines.{numbersText, lineForm}
+
+-- ---- the own table of document 01
+
+abbrev pub ownTable : Table
+ownTable = record { «first_year» = 100; year = 1950; month = 1; day = 1 }
+
+abbrev pub ownRows : List ℕ
+ownRows =
+    31 ∷ 31 ∷ 32 ∷ 31 ∷ 31 ∷ 31 ∷ 30 ∷ 29 ∷ 30 ∷ 29 ∷ 30 ∷ 30 ∷ 365
+    ∷ 31 ∷ 31 ∷ 32 ∷ 32 ∷ 31 ∷ 30 ∷ 30 ∷ 29 ∷ 30 ∷ 29 ∷ 30 ∷ 31 ∷ 366 ∷ []
+
+abbrev pub calendar : Calendar
+calendar = flat ownTable ownRows
+
+-- ---- a reply
+
+-- the date as read beside the one found; a refused date as read beside none
+abbrev pub fromBs : ℕ → ℕ → ℕ → Answer Date → Reply
+fromBs y m d (answered x) = record { bs = shown.Date y m d; ad = shown.Date (x .year) (x .month) (x .day); refusal = 0 }
+fromBs y m d (refused k) = record { bs = shown.Date y m d; ad = shown.Nothing; refusal = k }
+
+abbrev pub fromAdDate : ℕ → ℕ → ℕ → Answer BsDate → Reply
+fromAdDate y m d (answered x) = record { bs = shown.Date (x .year) (x .month) (x .day); ad = shown.Date y m d; refusal = 0 }
+fromAdDate y m d (refused k) = record { bs = shown.Nothing; ad = shown.Date y m d; refusal = k }
+
+unfoldable pub bsReply : ℕ → ℕ → ℕ → Reply
+bsReply y m d = fromBs y m d (toAd calendar y m d)
+
+unfoldable pub adReply : ℕ → ℕ → ℕ → Reply
+adReply y m d = fromAdDate y m d (fromAd calendar y m d)
+
+-- ---- its text
+
+-- Y-M-D or YYYY-MM-DD, by the widths, or none
+abbrev pub shownText : ℕ → ℕ → Shown → List ℕ
+shownText first others (shown.Date y m d) = numbersText first others y m d
+shownText first others shown.Nothing = 110 ∷ 111 ∷ 110 ∷ 101 ∷ []
+
+-- bs=.., ad=.. and refusal=.., each with a line feed
+abbrev pub replyText : Reply → List ℕ
+replyText r =
+    (98 ∷ 115 ∷ 61 ∷ []) ++ (shownText 0 0 (r .bs) ++ ((10 ∷ 97 ∷ 100 ∷ 61 ∷ []) ++ (shownText 4 2 (r .ad)
+    ++ ((10 ∷ 114 ∷ 101 ∷ 102 ∷ 117 ∷ 115 ∷ 97 ∷ 108 ∷ 61 ∷ []) ++ (digits (r .refusal) ++ (10 ∷ []))))))
+
+abbrev pub lineReply : Line → List ℕ
+lineReply (Bs y m d) = replyText (bsReply y m d)
+lineReply (Ad y m d) = replyText (adReply y m d)
+lineReply Other = []
+
+-- what is written for a line
+abbrev pub replyTo : List ℕ → List ℕ
+replyTo s = lineReply (lineForm s)
+
+-- ---- what the writers promise
+
+-- a text of at most so many bytes was written
+pub record Put (most : ℕ) (out : List ℕ) (at : ℕ) (text after : List ℕ) (next : ℕ) : Type 0 where
+  pub wrote : Wrote out at text after next
+  pub short : length text ≤ most
+
+-- the whole text was stored from some place on, and the next place is right after it, in the buffer
+pub record Gathered (out text after : List ℕ) (next : ℕ) : Type 0 where
+  pub place : ℕ
+  pub stored : after ≡ sets out place text
+  pub end : next ≡ place + length text
+  pub inside : next ≤ length out

@@ -1,0 +1,205 @@
+// The reply to a line, worked out and written.
+ghost use mathlib.Core.Path.{_≡_};
+ghost use mathlib.Core.List.{_++_};
+ghost use Prim.Native.Nat.{_≤_};
+ghost use Rattle.conversion.specs.Answers.{adSays, bsSays};
+ghost use Rattle.paper.specs.Answers.{refused};
+ghost use Rattle.convert.specs.Lines.{numberText, dash};
+ghost use Rattle.convert.specs.Replies.{ownTable, fromBs, fromAdDate, bsReply, adReply, shownText, replyText, replyTo, Put};
+use crate::line;
+use crate::line::Line;
+use conversion::AdAnswer;
+use conversion::BsAnswer;
+use conversion::BsDate;
+use conversion::Table;
+
+// A date as it is shown, or none.
+pub enum Shown {
+    Date(u16, u16, u16),
+    Nothing,
+}
+
+// The two dates and the refusal, 0 for none.
+pub struct Reply {
+    pub bs: Shown,
+    pub ad: Shown,
+    pub refusal: u16,
+}
+
+// The rows of the own table.
+const ROWS: [u16; 26] = [
+    31,
+    31,
+    32,
+    31,
+    31,
+    31,
+    30,
+    29,
+    30,
+    29,
+    30,
+    30,
+    365,
+    31,
+    31,
+    32,
+    32,
+    31,
+    30,
+    30,
+    29,
+    30,
+    29,
+    30,
+    31,
+    366,
+];
+
+fn table() -> Table
+    ensures { λ r. ⌜ r ≡ ownTable ⌝ }
+{
+    Table {
+        first_year: 100,
+        year: 1950,
+        month: 1,
+        day: 1,
+    }
+}
+
+// A refused BS date as read, and no other.
+fn refused_bs(y: u16, m: u16, d: u16, k: u16) -> Reply
+    ensures { λ r. ⌜ r ≡ fromBs y m d (refused k) ⌝ }
+{
+    Reply {
+        bs: Shown::Date(y, m, d),
+        ad: Shown::Nothing,
+        refusal: k,
+    }
+}
+
+// A refused Gregorian date as read, and no other.
+fn refused_ad(y: u16, m: u16, d: u16, k: u16) -> Reply
+    ensures { λ r. ⌜ r ≡ fromAdDate y m d (refused k) ⌝ }
+{
+    Reply {
+        bs: Shown::Nothing,
+        ad: Shown::Date(y, m, d),
+        refusal: k,
+    }
+}
+
+// A BS date beside its Gregorian date.
+fn beside_ad(y: u16, m: u16, d: u16, a: AdAnswer) -> Reply
+    ensures { λ r. ⌜ r ≡ fromBs y m d (adSays a) ⌝ }
+{
+    match a {
+        AdAnswer::Is(x) => Reply {
+            bs: Shown::Date(y, m, d),
+            ad: Shown::Date(x.year, x.month, x.day),
+            refusal: 0,
+        },
+        AdAnswer::BadTable => refused_bs(y, m, d, 1),
+        AdAnswer::NoYear => refused_bs(y, m, d, 4),
+        AdAnswer::NoMonth => refused_bs(y, m, d, 5),
+        AdAnswer::NoDay => refused_bs(y, m, d, 6),
+    }
+}
+
+// A Gregorian date beside its BS date.
+fn beside_bs(y: u16, m: u16, d: u16, a: BsAnswer) -> Reply
+    ensures { λ r. ⌜ r ≡ fromAdDate y m d (bsSays a) ⌝ }
+{
+    match a {
+        BsAnswer::Is(x) => Reply {
+            bs: Shown::Date(x.year, x.month, x.day),
+            ad: Shown::Date(y, m, d),
+            refusal: 0,
+        },
+        BsAnswer::BadTable => refused_ad(y, m, d, 1),
+        BsAnswer::NoSuchDate => refused_ad(y, m, d, 3),
+        BsAnswer::Outside => refused_ad(y, m, d, 7),
+    }
+}
+
+// The reply to a BS date.
+fn bs_reply(y: u16, m: u16, d: u16) -> Reply
+    ensures { λ r. ⌜ r ≡ bsReply y m d ⌝ }
+{
+    let rows = ROWS;
+    let date = BsDate {
+        year: y,
+        month: m,
+        day: d,
+    };
+    beside_ad(y, m, d, conversion::bs_to_ad(table(), &rows, date))
+}
+
+// The reply to a Gregorian date.
+fn ad_reply(y: u16, m: u16, d: u16) -> Reply
+    ensures { λ r. ⌜ r ≡ adReply y m d ⌝ }
+{
+    let rows = ROWS;
+    beside_bs(y, m, d, conversion::ad_to_bs(table(), &rows, y, m, d))
+}
+
+// Writes a number in so many digits, or in the fewest for width 0.
+fn put_number(out: &mut [u8], at: usize, n: u16, width: u8) -> usize
+    requires { ⌜ width ≤ 4 ⌝ }
+    ensures { λ r. ⌜ Put 5 (now (out .entry)) at (numberText width n) (now (out .exit)) r ⌝ }
+{
+    if width == 0 {
+        return text::put_decimal(out, at, n as u64);
+    }
+    text::put_wide(out, at, n as u64, width)
+}
+
+// The same behind a dash.
+fn put_next(out: &mut [u8], at: usize, n: u16, width: u8) -> usize
+    requires { ⌜ width ≤ 4 ⌝ }
+    ensures { λ r. ⌜ Put 6 (now (out .entry)) at (dash ++ numberText width n) (now (out .exit)) r ⌝ }
+{
+    let a = text::put(out, at, b"-");
+    put_number(out, a, n, width)
+}
+
+// Writes a date with numbers of these widths, or none.
+fn put_shown(out: &mut [u8], at: usize, shown: Shown, first: u8, others: u8) -> usize
+    requires { ⌜ («first» ≤ 4) × (others ≤ 4) ⌝ }
+    ensures { λ r. ⌜ Put 17 (now (out .entry)) at (shownText «first» others shown) (now (out .exit)) r ⌝ }
+{
+    match shown {
+        Shown::Date(y, m, d) => {
+            let a = put_number(out, at, y, first);
+            let b = put_next(out, a, m, others);
+            put_next(out, b, d, others)
+        }
+        Shown::Nothing => text::put(out, at, b"none"),
+    }
+}
+
+// Writes the three lines of a reply.
+fn put_reply(out: &mut [u8], at: usize, reply: Reply) -> usize
+    ensures { λ r. ⌜ Put 64 (now (out .entry)) at (replyText reply) (now (out .exit)) r ⌝ }
+{
+    let bs = reply.bs;
+    let ad = reply.ad;
+    let a = text::put(out, at, b"bs=");
+    let b = put_shown(out, a, bs, 0, 0);
+    let c = text::put(out, b, b"\nad=");
+    let d = put_shown(out, c, ad, 4, 2);
+    let e = text::put(out, d, b"\nrefusal=");
+    let f = text::put_decimal(out, e, reply.refusal as u64);
+    text::put(out, f, b"\n")
+}
+
+// Writes the reply to a line from a place on, and answers the place after it. A line of another form is skipped.
+pub fn put_line(out: &mut [u8], at: usize, s: &[u8]) -> usize
+    ensures { λ r. ⌜ Put 64 (now (out .entry)) at (replyTo (now (s .entry))) (now (out .exit)) r ⌝ }
+{
+    match line::read_line(s) {
+        Line::Bs(y, m, d) => put_reply(out, at, bs_reply(y, m, d)),
+        Line::Ad(y, m, d) => put_reply(out, at, ad_reply(y, m, d)),
+        Line::Other => at,
+    }
+}
