@@ -1,8 +1,8 @@
 -- The day in Nepal at an instant, as the calls on dates answer it. Assumes nothing.
 use Prim.Native.Nat.{ℕ, _+_, _≤_, _<_}
-use mathlib.Core.Path.{_≡_, refl, sym, ap, _∙_}
+use mathlib.Core.Path.{_≡_, refl}
 use mathlib.Core.Bool.{Bool, true}
-use mathlib.Core.Option.{Option, some, none}
+use mathlib.Core.Option.{some, none}
 use lib.Ieee.{Float}
 use native.Mathlib.Omega.{arith}
 use lib.Dec.{T}

@@ -19,13 +19,13 @@ use Rattle.conversion.specs.declared.DayAnswer.the-variants as DA
 use Rattle.conversion.specs.declared.MonthDays.{MonthDays}
 use Rattle.conversion.specs.declared.MonthDays.the-variants as MD
 use Rattle.conversion.specs.Calendar.{Calendar, yearOk, monthLen, toDay}
-use Rattle.conversion.specs.Flat.{lens, rowCount, accepted, flat}
+use Rattle.conversion.specs.Flat.{accepted, flat}
 use Rattle.conversion.specs.Answers.{daysSays, daySays}
 use Rattle.conversion.proofs.DayAnswer as day-type
 use Rattle.conversion.proofs.MonthDays as month-type
 use Rattle.conversion.proofs.Accepted.{facts}
 use Rattle.conversion.proofs.Rows.{row-lens}
-use Rattle.conversion.proofs.Days.{InTable, Valid, of-month, len-told, converts, converted}
+use Rattle.conversion.proofs.Days.{InTable, of-month, converts, converted}
 use Rattle.rules.specs.Sky.{Sky}
 use Rattle.rules.specs.Festivals.{firstDay, lastDay, lastOf, moons, inMonth, opening}
 use Rattle.festivals.specs.Months.{yearDays}

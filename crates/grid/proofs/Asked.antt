@@ -1,10 +1,9 @@
 -- A month that is asked for: which refusal comes first, and what is known where none does. Assumes nothing.
 use Prim.Native.Nat.{ℕ, zero, suc, _+_, _-_, _≤_, _<_}
-use mathlib.Core.Path.{_≡_, refl, sym, ap, _∙_}
+use mathlib.Core.Path.{_≡_, refl, _∙_}
 use mathlib.Core.Bool.{Bool, true, false}
 use mathlib.Core.List.{List}
 use native.Mathlib.Omega.{arith}
-use lib.ListN.{length}
 use Rattle.paper.specs.Answers.{Answer, answered, refused, given, then}
 use Rattle.paper.proofs.Answers.{given-on, given-off}
 use Rattle.gregorian.specs.declared.Date.{Date}

@@ -1,6 +1,6 @@
 -- What is proved of a month's grid, for any day lists, any readings and any today: whole weeks from Sunday, as many blanks before the first day
 -- as its weekday says, the days in their order with no gap, blanks to the week's end; and what a cell's holiday number says. Assumes nothing.
-use Prim.Native.Nat.{ℕ, zero, suc, _+_, _*_, _%_, _<_}
+use Prim.Native.Nat.{ℕ, zero, suc, _+_, _%_, _<_}
 use mathlib.Core.Path.{_≡_, refl, ap, _∙_}
 use mathlib.Core.Bool.{_||_}
 use mathlib.Core.List.{List}
@@ -13,8 +13,8 @@ use Rattle.gregorian.specs.Calendar.{weekdayOf}
 use Rattle.rules.specs.declared.lists.Day.{Day}
 use Rattle.rules.specs.Festivals.{Pair}
 use Rattle.panchanga.specs.declared.lunar.Reading.{Reading}
-use Rattle.grid.specs.Cells.{one, anyHoliday, cellWith, dayCell, blank, toFill, weeks, each}
-use Rattle.grid.specs.Month.{Grid, dayOn, listOn, cellOn, gridOf}
+use Rattle.grid.specs.Cells.{one, anyHoliday, cellWith, dayCell, blank, toFill, each}
+use Rattle.grid.specs.Month.{Grid, cellOn, gridOf}
 use Rattle.grid.proofs.Weeks.{each-length, month-length, weeks-whole, weeks-lead, weeks-at, weeks-tail}
 
 each-at : {A : Type 0} (f : ℕ → A) (k n d : ℕ) (z : A) → d < n → getD (each f k n) d z ≡ f (k + d)

@@ -1,20 +1,16 @@
 -- What a good list of rules says: of each rule, and of how many there are. Assumes nothing.
 use Prim.Native.Nat.{ℕ, zero, suc, _+_, _/_, _%_, _≤_, _<_}
-use mathlib.Core.Path.{_≡_, refl, ap}
-use mathlib.Core.Bool.{Bool, true, false, cond, _&&_, _||_, or-false}
-use mathlib.Core.List.{List, [], _∷_, _++_}
-use mathlib.Core.Logic.{⊎-elim, _⊎_, inl, inr}
+use mathlib.Core.Path.{_≡_}
+use mathlib.Core.Bool.{true, false, _&&_, _||_, or-false}
+use mathlib.Core.List.{List}
 use native.Mathlib.Omega.{arith}
-use borrow.Author.Tests.{leb-true, eqb-true, eqb-false, eq-eqb, ne-eqb}
+use borrow.Author.Tests.{leb-true, eqb-true}
 use lib.Dec.{leb, eqb}
-use lib.ListN.{length, length-append}
+use lib.ListN.{length}
 use Rattle.paper.proofs.Tests.{and-left, and-right}
 use Rattle.rules.specs.declared.Rule.{Rule}
-use Rattle.rules.specs.Rules.{common, plain, fixed, gregorian, computed, override, ruleAt, rulesFrom, rulesOf, ruleGood, allGood, countKind, acceptedRules}
-use Rattle.rules.specs.Festivals.{Pair, picked, keptAfter, kept}
-use Rattle.rules.specs.Resolved.{used}
-use Rattle.rules.proofs.Walk.{good-cons, count-none, count-is, count-not}
-use Rattle.rules.proofs.Stores.{picked-cons, used-is, used-not}
+use Rattle.rules.specs.Rules.{ruleAt, rulesFrom, rulesOf, ruleGood, allGood, countKind, acceptedRules}
+use Rattle.rules.proofs.Walk.{good-cons}
 
 -- ---- the counts
 

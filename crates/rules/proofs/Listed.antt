@@ -8,7 +8,7 @@ use lib.ListN.{length, drop}
 use lib.Seq.{sets}
 use Rattle.paper.specs.Answers.{Answer, answered, refused}
 use Rattle.paper.proofs.Stores.{sets-front}
-use Rattle.rules.specs.Festivals.{Pair, numbers, Listed, listed}
+use Rattle.rules.specs.Festivals.{Pair, numbers, listed}
 
 pub numbers-length : (es : List Pair) → length (numbers es) ≡ length es * 2
 numbers-length [] = refl

@@ -1,16 +1,16 @@
 -- The two questions of a day's list, case by case. Assumes nothing.
 use Prim.Native.Nat.{ℕ}
-use mathlib.Core.Path.{_≡_, ap, _∙_}
+use mathlib.Core.Path.{_≡_, _∙_}
 use mathlib.Core.Bool.{Bool, true, false}
 use mathlib.Core.List.{List}
-use Rattle.paper.specs.Answers.{Answer, answered, refused, given, then}
+use Rattle.paper.specs.Answers.{Answer, answered, refused, then}
 use Rattle.paper.proofs.Answers.{given-on, given-off, then-answered, then-refused}
 use Rattle.gregorian.specs.Calendar.{isDate, dayNumber}
 use Rattle.conversion.specs.declared.BsDate.{BsDate}
 use Rattle.conversion.specs.Calendar.{Calendar, toDay, fromDay}
 use Rattle.rules.specs.declared.Rule.{Rule}
 use Rattle.rules.specs.Sky.{Sky}
-use Rattle.rules.specs.Festivals.{Pair, dayList, listOnBs, listOnAd}
+use Rattle.rules.specs.Festivals.{dayList, listOnBs, listOnAd}
 
 -- what a step makes of an answer that is known
 then-by : {A B : Type 0} (a : Answer A) (f : A → Answer B) (x : A) → a ≡ answered x → then a f ≡ f x

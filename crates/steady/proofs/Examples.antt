@@ -2,11 +2,10 @@
 use Prim.Native.Nat.{ℕ, _-_}
 use mathlib.Core.Path.{_≡_, refl, ap, _∙_}
 use mathlib.Core.Bool.{true}
-use mathlib.Core.List.{List, [], _∷_}
+use mathlib.Core.List.{List}
 use lib.Dec.{T}
 use lib.ListN.{length, take, drop, replicate}
-use lib.IntN.{pos, negsuc}
-use Rattle.paper.specs.Answers.{answered, refused, given}
+use Rattle.paper.specs.Answers.{answered, given}
 use Rattle.paper.specs.Sums.{sum, all}
 use Rattle.gregorian.specs.declared.Date.{Date}
 use Rattle.gregorian.specs.Calendar.{isDate, dayNumber, weekdayOf}
@@ -24,7 +23,7 @@ use Rattle.grid.specs.Month.{gridOf}
 use Rattle.grid.specs.Step.{absolute, wholeYears, monthsLeft, monthAt, stepMonth}
 use Rattle.grid.proofs.Theorems.{cell-count, blanks-before, blanks-after}
 use Rattle.steady.specs.Own.{ownTable, ownRows, own}
-use Rattle.steady.specs.Examples.{Says, AllSay, is, noBs, noAd, step, noStep, examples}
+use Rattle.steady.specs.Examples.{Says, AllSay, is, examples}
 
 good : own .good ≡ true
 unfolding accepted rowOk all sum isDate dayNumber

@@ -1,9 +1,7 @@
 -- `festivals::day_numbered` meets its contract. Assumes nothing.
 use borrow.Author.Needs.{needs}
-use mathlib.Core.Path.{_≡_, sym, ap, _∙_}
-use Rattle.gregorian.specs.declared.Date.{Date}
+use mathlib.Core.Path.{sym, ap, _∙_}
 use Rattle.gregorian.specs.Answers.{dateSays}
-use Rattle.rules.specs.declared.lists.Day.{Day}
 use Rattle.festivals.proofs.Numbered.{is-date, always-date}
 use Rattle.festivals.proofs.day_numbered.Statement.{statement}
 use Rattle.festivals.proofs.day_numbered.Tie as tie

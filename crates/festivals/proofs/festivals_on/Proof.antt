@@ -2,12 +2,9 @@
 use borrow.Author.Needs.{needs}
 use borrow.Author.Tests.{not-true, not-false}
 use mathlib.Core.Path.{sym, ap, _∙_}
-use mathlib.Core.List.{List}
-use Rattle.paper.specs.Answers.{Answer}
 use Rattle.conversion.specs.Flat.{flat}
 use Rattle.conversion.specs.Answers.{daySays}
 use Rattle.rules.specs.Rules.{rulesOf, acceptedRules}
-use Rattle.rules.specs.Festivals.{Pair, listed}
 use Rattle.rules.proofs.Listed.{says-refused, says-by}
 use Rattle.rules.proofs.Questions.{bs-bad-table, bs-bad-rules, bs-refused, bs-list}
 use Rattle.festivals.specs.Kathmandu.{kathmandu}

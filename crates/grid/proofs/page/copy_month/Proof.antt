@@ -1,10 +1,10 @@
 -- The fronts of the page and of the lists are what the month's buffers hold. Assumes nothing.
 use borrow.Author.Needs.{needs}
 use Prim.Native.Nat.{ℕ, _*_, _≤_}
-use mathlib.Core.Path.{_≡_, sym, ap, _∙_}
+use mathlib.Core.Path.{sym, ap, _∙_}
 use native.Mathlib.Omega.{arith}
 use lib.ListN.{length, take}
-use Rattle.grid.specs.Month.{cellNumbers, festivalNumbers, fitted}
+use Rattle.grid.specs.Month.{cellNumbers, festivalNumbers}
 use Rattle.grid.specs.Inner.{gridBy}
 use Rattle.grid.proofs.Grids.{no-cells, no-festivals, fits, says-refused, says-grid, cell-numbers-length, festival-numbers-length, festivals-are, page-front, lists-front, month-is}
 use Rattle.grid.proofs.page.copy_month.Statement.{statement}

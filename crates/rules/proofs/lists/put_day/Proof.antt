@@ -1,6 +1,5 @@
 -- `rules::lists::put_day` meets its contract: five runs over the rules, one after the other. Assumes nothing.
 use borrow.Author.Needs.{needs}
-use mathlib.Core.Path.{_≡_}
 use native.Mathlib.Omega.{arith}
 use Rattle.rules.specs.Rules.{rulesOf}
 use Rattle.rules.specs.Resolved.{pairsBy, listBy}
