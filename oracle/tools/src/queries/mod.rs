@@ -7,6 +7,7 @@ use parameterised::gregorian::{Date, date};
 use std::fmt::Display;
 use std::io::Write;
 
+mod ask;
 mod conversion;
 mod convert;
 mod festivals;
@@ -24,8 +25,9 @@ pub struct Maker<'a> {
 
 type Set = (&'static str, fn(&mut Maker));
 
-/// The samples, by the part of a replay program's name behind `replay_`.
-pub const SAMPLES: [Set; 7] = [
+/// The samples: of `ask` and `convert`, and of the replay programs by the part of a name behind `replay_`.
+pub const SAMPLES: [Set; 8] = [
+    ("ask", ask::sample),
     ("gregorian", gregorian::sample),
     ("conversion", conversion::sample),
     ("convert", convert::sample),
