@@ -38,7 +38,7 @@ pub const SAMPLES: [Set; 8] = [
 ];
 
 /// The sets at full scale.
-pub const FULL: [Set; 8] = [
+pub const FULL: [Set; 9] = [
     ("dates", full::dates),
     ("instants", full::instants),
     ("angles", full::angles),
@@ -46,6 +46,7 @@ pub const FULL: [Set; 8] = [
     ("conversions", full::conversions),
     ("steps", full::steps),
     ("grids", full::grids),
+    ("days", full::days),
     ("lists", full::lists),
 ];
 
