@@ -89,12 +89,12 @@ rules =
     ∷ 3 ∷ 0 ∷ 1 ∷ 2 ∷ 0 ∷ 5 ∷ 8 ∷ 1  -- computed, two days later
     ∷ 3 ∷ 0 ∷ 2 ∷ 1 ∷ 0 ∷ 0 ∷ 9 ∷ 1  -- its lunar month has no new moon
     ∷ 2 ∷ 0 ∷ 1 ∷ 23 ∷ 0 ∷ 0 ∷ 8 ∷ 0  -- Gregorian, 23 January, the name of the second
-    ∷ 4 ∷ 101 ∷ 1 ∷ 1 ∷ 0 ∷ 0 ∷ 8 ∷ 1 ∷ [])  -- a pin of 101: name 8 is silenced in that year
+    ∷ 4 ∷ 101 ∷ 1 ∷ 1 ∷ 0 ∷ 0 ∷ 8 ∷ 1 ∷ [])  -- an override of 101: name 8 is silenced in that year
 
 abbrev on : Calendar → ℕ → ℕ → ℕ → Answer (List Pair)
 on c y m d = listOnBs sky c rules true y m d
 
--- neighbours with equal names keep the first; the pin silences by the day's own year; refusals
+-- neighbours with equal names keep the first; the override silences by the day's own year; refusals
 pub lists : _≡_ {A = List (Answer (List Pair))}
     (on short 100 1 21 ∷ on own 100 1 21 ∷ on own 100 1 23 ∷ on own 101 1 23 ∷ on own 101 1 1 ∷ on short 101 1 21 ∷ listOnBs sky own rules false 102 1 1 ∷ [])
     (answered ((7, 1) ∷ []) ∷ answered ((7, 1) ∷ []) ∷ answered ((8, 0) ∷ []) ∷ answered ((8, 0) ∷ []) ∷ answered ((8, 1) ∷ []) ∷ refused 4 ∷ refused 2 ∷ [])
