@@ -5,7 +5,7 @@ use mathlib.Core.Bool.{Bool, true, false}
 use mathlib.Core.List.{List}
 use native.Mathlib.Omega.{arith}
 use Rattle.paper.specs.Answers.{Answer, answered, refused, given, then}
-use Rattle.paper.proofs.Answers.{given-on, given-off}
+use Rattle.paper.proofs.Answers.{given-on, given-off, then-answered, then-refused}
 use Rattle.gregorian.specs.declared.Date.{Date}
 use Rattle.gregorian.specs.Answers.{real}
 use Rattle.conversion.specs.declared.Table.{Table}
@@ -48,6 +48,13 @@ module _ (c : Calendar) (ok : Bool) (list : Day → List Pair) (reading : Day �
       → monthGrid c ok list reading today y m a b ≡ then (monthLen c y m) (λ n. fitted (gridOf list reading today y m (dayAt c (y - c .first) (m - 1) 0) n) a b)
   unfolding monthGrid monthLen
   by-length g h k = passed (c .good) ok (real today) (yearOk c y) (monthOk m) _ _ g h k
+
+  pub no-length : c .good ≡ true → ok ≡ true → real today ≡ true → (j : ℕ) → refused j ≡ monthLen c y m → monthGrid c ok list reading today y m a b ≡ refused j
+  no-length g h k j e = by-length g h k ∙ rw (← e) (then-refused j _)
+
+  pub its-length : c .good ≡ true → ok ≡ true → real today ≡ true → (n : ℕ) → answered n ≡ monthLen c y m
+      → monthGrid c ok list reading today y m a b ≡ fitted (gridOf list reading today y m (dayAt c (y - c .first) (m - 1) 0) n) a b
+  its-length g h k n e = by-length g h k ∙ rw (← e) (then-answered n _)
 
 -- ---- a month of an accepted table
 
