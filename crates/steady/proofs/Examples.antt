@@ -22,7 +22,7 @@ use Rattle.grid.specs.Cells.{blank}
 use Rattle.grid.specs.Month.{gridOf}
 use Rattle.grid.specs.Step.{absolute, wholeYears, monthsLeft, monthAt, stepMonth}
 use Rattle.grid.proofs.Theorems.{cell-count, blanks-before, blanks-after}
-use Rattle.steady.specs.Own.{ownTable, ownRows, own}
+use Rattle.rules.specs.Own.{ownTable, ownRows, own}
 use Rattle.steady.specs.Examples.{Says, AllSay, is, examples}
 
 good : own .good ≡ true
