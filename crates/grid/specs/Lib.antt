@@ -2,4 +2,5 @@
 pub mod Step
 pub mod Cells
 pub mod Month
+pub mod Kathmandu
 pub mod Inner
