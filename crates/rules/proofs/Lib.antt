@@ -5,3 +5,7 @@ pub mod Most
 pub mod Used
 pub mod Listed
 pub mod Questions
+pub mod Following
+pub mod Longer
+pub mod Theorems
+pub mod Examples

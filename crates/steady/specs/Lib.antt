@@ -1,4 +1,3 @@
 -- What the theorems say.
-pub mod Own
 pub mod Examples
 pub mod Once
