@@ -1,3 +1,4 @@
 pub mod Stepping
+pub mod Steady
 pub mod Examples
 pub mod Once
