@@ -2,3 +2,4 @@ pub mod Stepping
 pub mod Steady
 pub mod Examples
 pub mod Once
+pub mod Demands

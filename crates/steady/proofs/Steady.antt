@@ -35,9 +35,9 @@ module _ {X W A : Type 0} (w : Answer X → W) (answer : W → Answer A) (refuse
       record {
         same = λ v h. let x = tells a v h in ap w (longer (x .0) (x .1) ∙ sym (x .1));
         added = λ v h.
-        let x = tells b v h in
-        let r = added (x .0) (x .1) in
-        record { when = λ p. ap (λ (z : Answer X). answer (w z)) (r .when p) ∙ refuses k; only = λ j q. go v h r j q a refl };
+            let x = tells b v h in
+            let r = added (x .0) (x .1) in
+            record { when = λ p. ap (λ (z : Answer X). answer (w z)) (r .when p) ∙ refuses k; only = λ j q. go v h r j q a refl };
       }
     where
       go : (v : A) → answer (w b) ≡ answered v → RefusedIf a k P → (j : ℕ) → answer (w a) ≡ refused j → (c : Answer X) → a ≡ c → P
