@@ -7,4 +7,5 @@ pub mod Grids
 pub mod Asked
 pub mod Plans
 pub mod Theorems
+pub mod Longer
 pub mod Unique

@@ -8,4 +8,3 @@ pub mod Questions
 pub mod Following
 pub mod Longer
 pub mod Theorems
-pub mod Examples

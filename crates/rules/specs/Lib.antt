@@ -5,4 +5,3 @@ pub mod Festivals
 pub mod Resolved
 pub mod Store
 pub mod Steady
-pub mod Own

@@ -10,7 +10,7 @@ use Rattle.conversion.specs.Calendar.{bs, toAd, fromAd}
 use Rattle.conversion.specs.Flat.{date}
 use Rattle.grid.specs.declared.BsMonth.{BsMonth}
 use Rattle.grid.specs.Step.{stepMonth}
-use Rattle.rules.specs.Own.{own}
+use Rattle.steady.specs.Own.{own}
 
 pub data Example : Type 0 where
   -- a BS date is a Gregorian date, asked either way

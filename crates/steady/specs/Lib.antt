@@ -1,3 +1,4 @@
 -- What the theorems say.
+pub mod Own
 pub mod Examples
 pub mod Once

@@ -119,7 +119,7 @@ returns-4 c =
     let j = t .before .before .before in
     let i = j .before .before in
     let s = start (i .before) in
-    let r = refuses s 4 (no-length (cal s) _ _ _ _ _ _ _ _ (good i) (ok j) (is-date t) 4 (said daysSays (c .enum-told3 .given .1) (l .month-days .ensures))) in
+    let r = refuses s 4 (no-length (cal s) _ _ _ _ _ _ _ _ (ok j) (is-date t) 4 (said daysSays (c .enum-told3 .given .1) (l .month-days .ensures))) in
     (r .answer, (r .first, r .second))
 
 returns-5 : tie.Need-returns-5
@@ -129,7 +129,7 @@ returns-5 c =
     let j = t .before .before .before in
     let i = j .before .before in
     let s = start (i .before) in
-    let r = refuses s 5 (no-length (cal s) _ _ _ _ _ _ _ _ (good i) (ok j) (is-date t) 5 (said daysSays (c .enum-told4 .given .1) (l .month-days .ensures))) in
+    let r = refuses s 5 (no-length (cal s) _ _ _ _ _ _ _ _ (ok j) (is-date t) 5 (said daysSays (c .enum-told4 .given .1) (l .month-days .ensures))) in
     (r .answer, (r .first, r .second))
 
 same-length : tie.Need-same-length
@@ -149,7 +149,7 @@ returns-6 c =
     let i = j .before .before in
     let s = start (i .before) in
     let a = s .args in
-    let e = its-length (cal s) _ (listUnder (cal s) (now (a .rules))) readingOn (a .today) (a .year) (a .month) _ _ (good i) (ok j) (is-date t) _ (said daysSays (n .days .given .1) (l .month-days .ensures)) in
+    let e = its-length (cal s) _ (listUnder (cal s) (now (a .rules))) readingOn (a .today) (a .year) (a .month) _ _ (ok j) (is-date t) _ (said daysSays (n .days .given .1) (l .month-days .ensures)) in
     let f = ap (λ (g : Grid). fitted g (length (now (a .cells))) (length (now (a .festivals)))) (sym (p .plan-of .ensures .1)) in
     let r = says-by (e ∙ f) (record { answer = w .write-month .ensures .0; first = w .write-month .ensures .1 .0; second = w .write-month .ensures .1 .1 }) in
     (r .answer, (r .first, r .second))
