@@ -179,12 +179,24 @@ uint16_t panel_festivals_on_ad(uint16_t first_year, uint16_t first_ad_year, uint
                                size_t rows_len, const uint16_t *rules, size_t rules_len, uint16_t year, uint16_t month, uint16_t day, uint16_t *festivals,
                                size_t festivals_len, size_t *count);
 
-/* ---- Months, over a lent year table */
+/* ---- Months, over a lent year table and, for the cells, lent rules */
 
 /* The month that is step months after a month, or before it where step is negative. Month 0 is the one before 1, 13 the one after 12, and so on to 255.
    Refusals: 1, 10. */
 uint16_t panel_step_month(uint16_t first_year, uint16_t first_ad_year, uint16_t first_ad_month, uint16_t first_ad_day, const uint16_t *rows,
                           size_t rows_len, uint16_t year, uint8_t month, int32_t step, uint16_t *to_year, uint8_t *to_month);
+
+/* A BS month as a calendar shows it, in whole weeks from Sunday: at the front of cells twelve numbers for each cell, BS day; Gregorian year, month, day;
+   weekday (0 is Sunday); whether it is today; whether it is a holiday; tithi; the minutes at which that ends, the sun rises and sets (1,440 for none); how
+   many festivals. A cell before the first day or after the last is all 0. At the front of festivals two numbers for each festival, name, holiday, day after
+   day. days gets the number of days, from and to the first and the last Gregorian date, and the counts say how many cells and how many festivals there
+   are. cells_len 504 and festivals_len 768 serve every month: it has at most 42 cells and 384 festivals. today is a Gregorian date, of any month.
+   Refusals: 1, 2, 3 (today), 4, 5, 9. */
+uint16_t panel_month_grid(uint16_t first_year, uint16_t first_ad_year, uint16_t first_ad_month, uint16_t first_ad_day, const uint16_t *rows,
+                          size_t rows_len, const uint16_t *rules, size_t rules_len, uint16_t today_year, uint16_t today_month, uint16_t today_day,
+                          uint16_t year, uint16_t month, uint16_t *cells, size_t cells_len, uint16_t *festivals, size_t festivals_len, uint16_t *days,
+                          uint16_t *from_year, uint16_t *from_month, uint16_t *from_day, uint16_t *to_year, uint16_t *to_month, uint16_t *to_day,
+                          size_t *cell_count, size_t *festival_count);
 
 #ifdef __cplusplus
 }

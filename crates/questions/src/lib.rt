@@ -36,7 +36,8 @@ fn answer_over(o: Out, out: &mut [u8], w: Words, table: Table, rows: &[u16], rul
         tags::CHECKRULES | tags::LISTBS | tags::LISTAD => {
             lists::answer(o, out, w, table, rows, rules)
         }
-        tags::STEP => months::answer(o, out, w, table, rows),
+        tags::STEP => months::step(o, out, w, table, rows),
+        tags::GRID => months::month(o, out, w, table, rows, rules),
         _ => answers::heavens::answer(o, out, w),
     }
 }
