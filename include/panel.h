@@ -23,6 +23,12 @@
  *
  * A year table is lent as its first BS year (1 to 3,000), the Gregorian date of its first day, and rows: for each year thirteen numbers, twelve month
  * lengths of 29 to 32 days and their sum. rows_len is 13 times the number of years, of which there are 1 to 128. Days lie in 1901 to 2099.
+ *
+ * Festival rules are lent as rules: for each eight numbers, kind, year, month, day, half, kala, name, holiday. Kind 1 is a BS date (day 1 to 32), 2 a
+ * Gregorian date (day 1 to 31), 3 a tithi (day 1 to 15) of the half 0 waxing or 1 waning of a lunar month at a kala, 4 a date of one BS year (day 1 to 32)
+ * that silences the computed rules of its name in that year. Months are 1 to 12, holiday is 0 or 1, names are free; year is 0 but of kind 4, half and kala are
+ * 0 but of kind 3. rules_len is 8 times the number of rules: at most 64 of each of the kinds 1 to 3 and 128 of kind 4; no rule at all is good.
+ * Kalas: 0 sunrise, 1 midday, 2 afternoon, 3 dusk, 4 the middle of the night (nishita), 5 the tithi's beginning.
  */
 #ifndef PANEL_H
 #define PANEL_H
@@ -58,6 +64,10 @@ uint16_t panel_julian_day(uint16_t year, uint16_t month, uint16_t day, double fr
 uint16_t panel_npt_date(double ut, uint16_t *year, uint16_t *month, uint16_t *day);
 
 /* ---- Bikram Sambat dates, over a lent year table */
+
+/* Whether a year table is accepted: 0 if it is. Every other call that takes a table tests it too. Refusal: 1. */
+uint16_t panel_check_table(uint16_t first_year, uint16_t first_ad_year, uint16_t first_ad_month, uint16_t first_ad_day, const uint16_t *rows,
+                           size_t rows_len);
 
 /* The number of days of a month. Refusals: 1, 4, 5. */
 uint16_t panel_bs_month_len(uint16_t first_year, uint16_t first_ad_year, uint16_t first_ad_month, uint16_t first_ad_day, const uint16_t *rows,
@@ -139,6 +149,10 @@ uint16_t panel_sunset(uint16_t year, uint16_t month, uint16_t day, uint16_t *fou
    for 2149-12-31. */
 uint16_t panel_nishita_window(uint16_t year, uint16_t month, uint16_t day, uint16_t *found, double *from, double *to);
 
+/* The instant of a kala (0 to 5, as in a rule) on a date: of nishita the middle, of 5 sunrise. found gets 1; or 0 where there is none, and ut stays.
+   Refusals: 2 (no such kala), 3, of nishita also for 2149-12-31. */
+uint16_t panel_kala_instant(uint16_t year, uint16_t month, uint16_t day, uint16_t kala, uint16_t *found, double *ut);
+
 /* The minute of the clock in Nepal at an instant. Refusal: 8. */
 uint16_t panel_npt_clock(double ut, uint16_t *minutes);
 
@@ -148,6 +162,41 @@ uint16_t panel_minutes_of(double fraction, uint16_t *minutes);
 /* What a calendar prints under a date: the tithi that names the day, 1 to 30, and the minutes at which it ends, the sun rises and the sun sets; 1,440 for
    what does not happen on that date. Refusal: 3. */
 uint16_t panel_reading(uint16_t year, uint16_t month, uint16_t day, uint16_t *tithi, uint16_t *end, uint16_t *sunrise, uint16_t *sunset);
+
+/* ---- Festivals, over a lent year table and lent rules */
+
+/* Whether rules are accepted: 0 if they are. Every other call that takes rules tests them too. Refusal: 2. */
+uint16_t panel_check_rules(const uint16_t *rules, size_t rules_len);
+
+/* The festivals of a BS date at the front of festivals, two numbers each: name, holiday; count gets how many there are. festivals_len 768 serves every day:
+   there are at most 384. Refusals: 1, 2, 4, 5, 6, 9. */
+uint16_t panel_festivals_on(uint16_t first_year, uint16_t first_ad_year, uint16_t first_ad_month, uint16_t first_ad_day, const uint16_t *rows,
+                            size_t rows_len, const uint16_t *rules, size_t rules_len, uint16_t year, uint16_t month, uint16_t day, uint16_t *festivals,
+                            size_t festivals_len, size_t *count);
+
+/* The festivals of a Gregorian date, likewise. Refusals: 1, 2, 3, 7, 9. */
+uint16_t panel_festivals_on_ad(uint16_t first_year, uint16_t first_ad_year, uint16_t first_ad_month, uint16_t first_ad_day, const uint16_t *rows,
+                               size_t rows_len, const uint16_t *rules, size_t rules_len, uint16_t year, uint16_t month, uint16_t day, uint16_t *festivals,
+                               size_t festivals_len, size_t *count);
+
+/* ---- Months, over a lent year table and, for the cells, lent rules */
+
+/* The month that is step months after a month, or before it where step is negative. Month 0 is the one before 1, 13 the one after 12, and so on to 255.
+   Refusals: 1, 10. */
+uint16_t panel_step_month(uint16_t first_year, uint16_t first_ad_year, uint16_t first_ad_month, uint16_t first_ad_day, const uint16_t *rows,
+                          size_t rows_len, uint16_t year, uint8_t month, int32_t step, uint16_t *to_year, uint8_t *to_month);
+
+/* A BS month as a calendar shows it, in whole weeks from Sunday: at the front of cells twelve numbers for each cell, BS day; Gregorian year, month, day;
+   weekday (0 is Sunday); whether it is today; whether it is a holiday; tithi; the minutes at which that ends, the sun rises and sets (1,440 for none); how
+   many festivals. A cell before the first day or after the last is all 0. At the front of festivals two numbers for each festival, name, holiday, day after
+   day. days gets the number of days, from and to the first and the last Gregorian date, and the counts say how many cells and how many festivals there
+   are. cells_len 504 and festivals_len 768 serve every month: it has at most 42 cells and 384 festivals. today is a Gregorian date, of any month.
+   Refusals: 1, 2, 3 (today), 4, 5, 9. */
+uint16_t panel_month_grid(uint16_t first_year, uint16_t first_ad_year, uint16_t first_ad_month, uint16_t first_ad_day, const uint16_t *rows,
+                          size_t rows_len, const uint16_t *rules, size_t rules_len, uint16_t today_year, uint16_t today_month, uint16_t today_day,
+                          uint16_t year, uint16_t month, uint16_t *cells, size_t cells_len, uint16_t *festivals, size_t festivals_len, uint16_t *days,
+                          uint16_t *from_year, uint16_t *from_month, uint16_t *from_day, uint16_t *to_year, uint16_t *to_month, uint16_t *to_day,
+                          size_t *cell_count, size_t *festival_count);
 
 #ifdef __cplusplus
 }

@@ -8,3 +8,4 @@ pub mod TableYears
 pub mod Moons
 pub mod Entries
 pub mod Numbered
+pub mod Unique

@@ -1,19 +1,19 @@
 -- A month that is asked for: which refusal comes first, and what is known where none does. Assumes nothing.
 use Prim.Native.Nat.{ℕ, zero, suc, _+_, _-_, _≤_, _<_}
-use mathlib.Core.Path.{_≡_, refl, _∙_}
+use mathlib.Core.Path.{_≡_, refl, ap, _∙_}
 use mathlib.Core.Bool.{Bool, true, false}
 use mathlib.Core.List.{List}
 use native.Mathlib.Omega.{arith}
-use Rattle.paper.specs.Answers.{Answer, answered, refused, given, then}
-use Rattle.paper.proofs.Answers.{given-on, given-off}
+use Rattle.paper.specs.Answers.{answered, refused, given, then}
+use Rattle.paper.proofs.Answers.{answered-same, given-answered, given-on, given-off, given-then, then-answered, then-refused}
 use Rattle.gregorian.specs.declared.Date.{Date}
 use Rattle.gregorian.specs.Answers.{real}
 use Rattle.conversion.specs.declared.Table.{Table}
-use Rattle.conversion.specs.Calendar.{Calendar, yearOk, monthOk, dayAt, monthLen}
+use Rattle.conversion.specs.Calendar.{Calendar, ofMonth, dayAt, monthLen}
 use Rattle.conversion.specs.Flat.{accepted, flat}
 use Rattle.conversion.proofs.Accepted.{facts}
 use Rattle.conversion.proofs.Rows.{row-lens}
-use Rattle.conversion.proofs.Days.{InTable, Valid, valid-on}
+use Rattle.conversion.proofs.Days.{InTable, Valid, in-month, valid-on}
 use Rattle.rules.specs.declared.lists.Day.{Day}
 use Rattle.rules.specs.Festivals.{Pair}
 use Rattle.panchanga.specs.declared.lunar.Reading.{Reading}
@@ -21,14 +21,6 @@ use Rattle.grid.specs.Cells.{each}
 use Rattle.grid.specs.Month.{Grid, dayOn, listOn, cellOn, gridOf, fitted, monthGrid}
 
 -- ---- the refusals, in their order
-
--- three tests that pass, and two that the month's length makes as well
-passed : (g o r a b : Bool) (n : ℕ) (f : ℕ → Answer Grid) → g ≡ true → o ≡ true → r ≡ true
-    → given g 1 (given o 2 (given r 3 (given a 4 (given b 5 (f n))))) ≡ then (given g 1 (given a 4 (given b 5 (answered n)))) f
-unfolding given then
-passed g o r true true n f p q s = rw (p, q, s)
-passed g o r true false n f p q s = rw (p, q, s)
-passed g o r false b n f p q s = rw (p, q, s)
 
 module _ (c : Calendar) (ok : Bool) (list : Day → List Pair) (reading : Day → Reading) (today : Date) (y m a b : ℕ) where
   pub bad-table : c .good ≡ false → monthGrid c ok list reading today y m a b ≡ refused 1
@@ -43,11 +35,39 @@ module _ (c : Calendar) (ok : Bool) (list : Day → List Pair) (reading : Day �
   unfolding monthGrid
   bad-today g h k = given-on (c .good) 1 _ g ∙ given-on ok 2 _ h ∙ given-off (real today) 3 _ k
 
-  -- the rest by way of the month's length
-  pub by-length : c .good ≡ true → ok ≡ true → real today ≡ true
+  -- the rest is a question about a month, and goes by way of the month's length
+  by-month : ok ≡ true → real today ≡ true
+      → monthGrid c ok list reading today y m a b ≡ ofMonth c y m (fitted (gridOf list reading today y m (dayAt c (y - c .first) (m - 1) 0) (c .len (y - c .first) (m - 1))) a b)
+  unfolding monthGrid
+  by-month h k = ap (given (c .good) 1) (given-on ok 2 _ h ∙ given-on (real today) 3 _ k)
+
+  pub by-length : ok ≡ true → real today ≡ true
       → monthGrid c ok list reading today y m a b ≡ then (monthLen c y m) (λ n. fitted (gridOf list reading today y m (dayAt c (y - c .first) (m - 1) 0) n) a b)
-  unfolding monthGrid monthLen
-  by-length g h k = passed (c .good) ok (real today) (yearOk c y) (monthOk m) _ _ g h k
+  unfolding monthLen
+  by-length h k = by-month h k ∙ simp (given-then, then-answered)
+
+  pub no-length : ok ≡ true → real today ≡ true → (j : ℕ) → refused j ≡ monthLen c y m → monthGrid c ok list reading today y m a b ≡ refused j
+  no-length h k j e = by-length h k ∙ rw (← e) (then-refused j _)
+
+  pub its-length : ok ≡ true → real today ≡ true → (n : ℕ) → answered n ≡ monthLen c y m
+      → monthGrid c ok list reading today y m a b ≡ fitted (gridOf list reading today y m (dayAt c (y - c .first) (m - 1) 0) n) a b
+  its-length h k n e = by-length h k ∙ rw (← e) (then-answered n _)
+
+  -- what is known of a month that is answered
+  pub record Told (g : Grid) : Type 0 where
+    pub month : InTable c y m
+    pub rules : ok ≡ true
+    pub is-date : real today ≡ true
+    pub grid : gridOf list reading today y m (dayAt c (y - c .first) (m - 1) 0) (c .len (y - c .first) (m - 1)) ≡ g
+
+  pub told : (g : Grid) → monthGrid c ok list reading today y m a b ≡ answered g → Told g
+  unfolding monthGrid fitted
+  told g h =
+      let p = given-answered (c .good) 1 _ h in
+      let q = given-answered ok 2 _ (p .1) in
+      let r = given-answered (real today) 3 _ (q .1) in
+      let k = in-month c y m _ (given-on (c .good) 1 _ (p .0) ∙ r .1) in
+      record { month = k .0; rules = q .0; is-date = r .0; grid = answered-same (given-answered _ 9 _ (k .1) .1) }
 
 -- ---- a month of an accepted table
 

@@ -46,6 +46,9 @@ pub says-refused : (a : Answer Grid) (k : ℕ) (cells festivals : List ℕ) → 
 unfolding shown
 says-refused a k cells festivals e = rw e (record { answer = refl; first = refl; second = refl })
 
+pub says-by : {a b : Answer Grid} {cells festivals cells′ festivals′ : List ℕ} {r : Answer Month} → a ≡ b → Says b cells festivals r cells′ festivals′ → Says a cells festivals r cells′ festivals′
+says-by e s = rw e s
+
 -- what fits is stored from the front
 pub says-grid : (a : Answer Grid) (g : Grid) (cells festivals vs ws : List ℕ) (r : Month) → a ≡ answered g
     → r ≡ record { days = g .days; first = g .first; last = g .last; cells = length (g .cells); festivals = length (g .festivals) }

@@ -5,5 +5,7 @@ pub mod Pages
 pub mod Weeks
 pub mod Grids
 pub mod Asked
+pub mod Plans
 pub mod Theorems
+pub mod Longer
 pub mod Unique

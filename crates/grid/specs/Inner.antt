@@ -9,12 +9,11 @@ use Rattle.rules.specs.declared.lists.Day.{Day}
 use Rattle.rules.specs.Festivals.{Pair}
 use Rattle.rules.specs.Rules.{rulesOf}
 use Rattle.rules.specs.Resolved.{listBy}
-use Rattle.panchanga.specs.declared.lunar.Reading.{Reading}
-use Rattle.panchanga.specs.Reading.{readingOf}
 use Rattle.grid.specs.declared.page.Plan.{Plan}
 use Rattle.grid.specs.declared.Month.{Month}
 use Rattle.grid.specs.Cells.{toFill}
 use Rattle.grid.specs.Month.{Grid, Shown, listOn, cellOn, gridOf, fitted, shown}
+use Rattle.grid.specs.Kathmandu.{readingOn}
 
 -- a day number from that of 1 January 1900 to that of 31 December 2149
 pub record Dated (n : ℕ) : Type 0 where
@@ -37,10 +36,6 @@ pub record Roomy (page lists : List ℕ) : Type 0 where
 unfoldable pub anyMark : List ℕ → ℕ → ℕ → Bool
 anyMark xs i zero = false
 anyMark xs i (suc k) = eqb (getD xs (i * 2 + 1) 0) 1 || anyMark xs (i + 1) k
-
--- the reading of a day
-abbrev pub readingOn : Day → Reading
-readingOn q = readingOf (q .ad) (q .number)
 
 -- ---- a month from two resolved years
 

@@ -2,4 +2,6 @@
 pub mod Step
 pub mod Cells
 pub mod Month
+pub mod Kathmandu
+pub mod Steady
 pub mod Inner

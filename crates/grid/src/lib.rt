@@ -1,16 +1,23 @@
 // Months: stepping from one to another, and the cells of one laid out in weeks.
 mod cells;
 mod page;
+mod plan;
 mod step;
 
 ghost use mathlib.Core.Path.{_≡_};
 ghost use Rattle.conversion.specs.Flat.{flat};
+ghost use Rattle.grid.specs.Month.{gridSays};
+ghost use Rattle.grid.specs.Kathmandu.{monthShown};
 ghost use Rattle.grid.specs.Step.{stepMonth, stepSays};
+use crate::page::write_month;
+use crate::plan::plan_of;
 use crate::step::absolute_month;
 use crate::step::month_at;
+use conversion::MonthDays;
 use conversion::Table;
 use conversion::accepts;
 use gregorian::Date;
+use gregorian::NumberAnswer;
 
 pub struct BsMonth {
     pub year: u16,
@@ -53,4 +60,39 @@ pub fn step_month(table: Table, rows: &[u16], year: u16, month: u8, step: i32) -
     }
     let years = (rows.len() / 13) as u16;
     month_at(table.first_year, years, absolute_month(year, month, step))
+}
+
+// The month in cells of twelve numbers, in weeks from Sunday, and its days' festivals as name, holiday. Refusals 1, 2, 3 (today), 4, 5, 9.
+pub fn month_grid(
+    table: Table,
+    rows: &[u16],
+    rules: &[u16],
+    today: Date,
+    year: u16,
+    month: u16,
+    cells: &mut [u16],
+    festivals: &mut [u16],
+) -> GridAnswer
+    ensures { λ r. ⌜ gridSays r ≡ monthShown table (now (rows .entry)) (now (rules .entry)) today year month (now (cells .entry)) (now (festivals .entry)) .answer ⌝ }
+    ensures { λ r. ⌜ now (cells .exit) ≡ monthShown table (now (rows .entry)) (now (rules .entry)) today year month (now (cells .entry)) (now (festivals .entry)) .cells ⌝ }
+    ensures { λ r. ⌜ now (festivals .exit) ≡ monthShown table (now (rows .entry)) (now (rules .entry)) today year month (now (cells .entry)) (now (festivals .entry)) .festivals ⌝ }
+{
+    if !accepts(table, rows) {
+        return GridAnswer::BadTable;
+    }
+    if !rules::accepts_rules(rules) {
+        return GridAnswer::BadRules;
+    }
+    let NumberAnswer::Number(_) = today.day_number() else {
+        return GridAnswer::NoSuchDate;
+    };
+    let days = conversion::month_days(table, rows, year, month);
+    match days {
+        MonthDays::NoYear => GridAnswer::NoYear,
+        MonthDays::NoMonth => GridAnswer::NoMonth,
+        MonthDays::Days(n) => {
+            let plan = plan_of(table, rows, rules, today, year, month, n);
+            write_month(rules, plan, cells, festivals)
+        }
+    }
 }

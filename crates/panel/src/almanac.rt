@@ -2,7 +2,8 @@
 ghost use mathlib.Core.Path.{_≡_};
 ghost use Rattle.panchanga.specs.Answers.{spanSays, instantSays, minutesSays, readingSays, eventsAnswer, riseAnswer, setAnswer, nishitaAnswer, clockAnswer, readingAnswer};
 ghost use Rattle.panchanga.specs.Clock.{minutesOf};
-ghost use Rattle.panel.specs.Boundary.{code, left, some?, leftSome, date};
+ghost use Rattle.panel.specs.Boundary.{code, left, some?, leftSome, date, kalaBy};
+use festivals::days::kala_named;
 use gregorian::Date;
 use gregorian::UtDay;
 use panchanga::InstantAnswer;
@@ -163,6 +164,31 @@ pub extern "C" fn panel_nishita_window(
         found,
         from,
         to,
+    )
+}
+
+// The instant of a kala, 0 to 5 as in a rule, on a date, if there is one: 2, 3, of nishita also on 31 December 2149.
+#[no_mangle]
+pub extern "C" fn panel_kala_instant(
+    year: u16,
+    month: u16,
+    day: u16,
+    kala: u16,
+    found: &mut u16,
+    ut: &mut f64,
+) -> u16
+    ensures code { λ r. ⌜ r ≡ code (kalaBy kala (date year month day)) ⌝ }
+    ensures found { λ r. ⌜ now (found .exit) ≡ left (kalaBy kala (date year month day)) some? (now (found .entry)) ⌝ }
+    ensures ut { λ r. ⌜ now (ut .exit) ≡ leftSome (kalaBy kala (date year month day)) (λ x. x) (now (ut .entry)) ⌝ }
+{
+    if 5 < kala {
+        return 2;
+    }
+    let named = kala_named(kala);
+    give_instant(
+        panchanga::kala_instant(Date { year, month, day }, named),
+        found,
+        ut,
     )
 }
 

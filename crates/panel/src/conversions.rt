@@ -1,8 +1,9 @@
 // Bikram Sambat dates over a lent year table: its first year, the Gregorian date of its first day, and rows of thirteen numbers.
 ghost use mathlib.Core.Path.{_≡_};
+ghost use Rattle.conversion.specs.Flat.{accepted};
 ghost use Rattle.conversion.specs.Calendar.{monthLen, validBs, toAd, fromAd};
 ghost use Rattle.conversion.specs.Answers.{monthLenSays, validSays, adSays, bsSays};
-ghost use Rattle.panel.specs.Boundary.{code, left, lent};
+ghost use Rattle.panel.specs.Boundary.{code, left, table, lent, accepting};
 use conversion::AdAnswer;
 use conversion::BsAnswer;
 use conversion::BsDate;
@@ -77,6 +78,30 @@ fn give_bs(answer: BsAnswer, year: &mut u16, month: &mut u16, day: &mut u16) -> 
         BsAnswer::BadTable => 1,
         BsAnswer::NoSuchDate => 3,
         BsAnswer::Outside => 7,
+    }
+}
+
+// Whether a lent year table is accepted: 1.
+#[no_mangle]
+pub extern "C" fn panel_check_table(
+    first_year: u16,
+    first_ad_year: u16,
+    first_ad_month: u16,
+    first_ad_day: u16,
+    rows: &[u16],
+) -> u16
+    ensures { λ r. ⌜ r ≡ code (accepting (accepted (table «first_year» «first_ad_year» «first_ad_month» «first_ad_day») (now (rows .entry))) 1) ⌝ }
+{
+    let table = Table {
+        first_year,
+        year: first_ad_year,
+        month: first_ad_month,
+        day: first_ad_day,
+    };
+    if conversion::accepts(table, rows) {
+        0
+    } else {
+        1
     }
 }
 

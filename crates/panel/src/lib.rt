@@ -3,5 +3,7 @@
 mod almanac;
 mod conversions;
 mod dates;
+mod day_lists;
 mod heavens;
+mod months;
 mod trigonometry;

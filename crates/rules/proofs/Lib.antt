@@ -5,3 +5,6 @@ pub mod Most
 pub mod Used
 pub mod Listed
 pub mod Questions
+pub mod Following
+pub mod Longer
+pub mod Theorems

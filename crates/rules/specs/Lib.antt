@@ -4,3 +4,4 @@ pub mod Days
 pub mod Festivals
 pub mod Resolved
 pub mod Store
+pub mod Steady

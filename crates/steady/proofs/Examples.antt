@@ -12,16 +12,17 @@ use Rattle.gregorian.specs.Calendar.{isDate, dayNumber, weekdayOf}
 use Rattle.gregorian.specs.Answers.{real}
 use Rattle.gregorian.proofs.Laws.{of-number, real-of}
 use Rattle.conversion.specs.declared.BsDate.{BsDate}
-use Rattle.conversion.specs.Calendar.{bs, dayAt, toDay, toAd, fromDay, fromAd}
-use Rattle.conversion.specs.Flat.{rowOk, accepted, date}
+use Rattle.conversion.specs.Calendar.{dayAt, toDay, toAd, fromDay, fromAd}
+use Rattle.conversion.specs.Flat.{rowOk, accepted}
 use Rattle.conversion.proofs.Ad.{number-ad, served, ad-to-from}
 use Rattle.rules.specs.declared.lists.Day.{Day}
 use Rattle.rules.specs.Festivals.{Pair}
 use Rattle.panchanga.specs.declared.lunar.Reading.{Reading}
 use Rattle.grid.specs.Cells.{blank}
-use Rattle.grid.specs.Month.{gridOf}
+use Rattle.grid.specs.Month.{Grid, gridOf}
+use Rattle.grid.specs.Kathmandu.{monthUnder}
 use Rattle.grid.specs.Step.{absolute, wholeYears, monthsLeft, monthAt, stepMonth}
-use Rattle.grid.proofs.Theorems.{cell-count, blanks-before, blanks-after}
+use Rattle.grid.proofs.Theorems.{InWeeks, laid-out, month-weeks}
 use Rattle.steady.specs.Own.{ownTable, ownRows, own}
 use Rattle.steady.specs.Examples.{Says, AllSay, is, examples}
 
@@ -40,17 +41,17 @@ by-number t x e r =
 pub checked : AllSay examples
 unfolding AllSay Says examples toDay toAd fromAd fromDay given accepted rowOk all sum isDate dayNumber stepMonth monthAt absolute wholeYears monthsLeft
 checked = (
-  by-number (bs 100 1 1) (date 1950 1 1) refl tt,
+  by-number _ _ refl tt,
   (
-    by-number (bs 100 2 29) (date 1950 3 1) refl tt,
+    by-number _ _ refl tt,
     (
-      by-number (bs 100 4 1) (date 1950 4 5) refl tt,
+      by-number _ _ refl tt,
       (
-        by-number (bs 100 12 30) (date 1950 12 31) refl tt,
+        by-number _ _ refl tt,
         (
-          by-number (bs 101 1 1) (date 1951 1 1) refl tt,
+          by-number _ _ refl tt,
           (
-            by-number (bs 101 12 31) (date 1952 1 1) refl tt,
+            by-number _ _ refl tt,
             (refl, (refl, (refl, (refl, (refl, (refl, (refl, tt))))))),
           ),
         ),
@@ -72,11 +73,15 @@ unfolding sum dayNumber
 wednesday = refl
 
 -- 3 blanks before, 1 after, 35 cells
-pub month-100-2 : (list : Day → List Pair) (reading : Day → Reading) (today : Date)
-    → let g = gridOf list reading today 100 2 firstNumber days in
-    (length (g .cells) ≡ 35) × (take 3 (g .cells) ≡ replicate 3 blank) × (drop 34 (g .cells) ≡ replicate 1 blank)
-month-100-2 list reading today = (
-  rw wednesday at (cell-count list reading today 100 2 firstNumber days),
-  rw wednesday at (blanks-before list reading today 100 2 firstNumber days),
-  rw wednesday at (blanks-after list reading today 100 2 firstNumber days),
-)
+abbrev In35 : List (List ℕ) → Type 0
+In35 cells = (length cells ≡ 35) × (take 3 cells ≡ replicate 3 blank) × (drop 34 cells ≡ replicate 1 blank)
+
+in-35 : (day : ℕ → List ℕ) (cells : List (List ℕ)) → InWeeks (weekdayOf firstNumber) days day cells → In35 cells
+in-35 day cells w = (rw wednesday at (w .count), rw wednesday at (w .before), rw wednesday at (w .after))
+
+pub month-100-2 : (list : Day → List Pair) (reading : Day → Reading) (today : Date) → In35 (gridOf list reading today 100 2 firstNumber days .cells)
+month-100-2 list reading today = in-35 _ _ (laid-out list reading today 100 2 firstNumber days)
+
+-- and so wherever `month_grid` answers it
+pub month-100-2-asked : (rules : List ℕ) (today : Date) (a b : ℕ) (g : Grid) → monthUnder own rules today 100 2 a b ≡ answered g → In35 (g .cells)
+month-100-2-asked rules today a b g h = in-35 _ _ (month-weeks own _ _ _ today 100 2 a b g h)

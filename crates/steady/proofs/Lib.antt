@@ -1,3 +1,5 @@
 pub mod Stepping
+pub mod Steady
 pub mod Examples
 pub mod Once
+pub mod Demands

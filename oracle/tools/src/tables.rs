@@ -26,6 +26,11 @@ pub fn nepal_rules() -> Vec<u16> {
     numbers(include_str!("../../rules/nepal.rules"))
 }
 
+/// data/nepal.rules.
+pub fn data_rules() -> Vec<u16> {
+    numbers(include_str!("../../../data/nepal.rules"))
+}
+
 /// oracle/rules/stress.rules: as many rules of each kind as are accepted, few names.
 pub fn stress_rules() -> Vec<u16> {
     numbers(include_str!("../../rules/stress.rules"))

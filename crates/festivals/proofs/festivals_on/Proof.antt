@@ -1,13 +1,17 @@
 -- `festivals::festivals_on` meets its contract. Assumes nothing.
 use borrow.Author.Needs.{needs}
 use borrow.Author.Tests.{not-true, not-false}
-use mathlib.Core.Path.{sym, ap, _∙_}
-use Rattle.conversion.specs.Flat.{flat}
+use Prim.Native.Nat.{ℕ}
+use mathlib.Core.Path.{_≡_, sym, ap, _∙_}
+use mathlib.Core.Bool.{true}
+use Rattle.paper.specs.Answers.{refused}
+use Rattle.conversion.specs.Flat.{accepted, flat}
 use Rattle.conversion.specs.Answers.{daySays}
 use Rattle.rules.specs.Rules.{rulesOf, acceptedRules}
 use Rattle.rules.proofs.Listed.{says-refused, says-by}
 use Rattle.rules.proofs.Questions.{bs-bad-table, bs-bad-rules, bs-refused, bs-list}
 use Rattle.festivals.specs.Kathmandu.{kathmandu}
+use Rattle.festivals.specs.Answers.{onBs}
 use Rattle.festivals.proofs.Numbered.{to-numbered}
 use Rattle.festivals.proofs.festivals_on.Statement.{statement}
 use Rattle.festivals.proofs.festivals_on.Tie as tie
@@ -59,65 +63,39 @@ enum-told-3 c = search needs
 enum-known-number : tie.Need-enum-known-number
 enum-known-number c = search needs
 
+-- where the day is asked, table and rules are accepted
+good : (d : tie.After-day-of) → let a = d .before .before .before .before .before .before .before .before .args in accepted (a .table) (a .rows .now) ≡ true
+good d = let i = d .before .before .before in sym (i .before .accepts .ensures) ∙ not-false (i .before .accepts .result) (i .if1 .left)
+
+good-rules : (d : tie.After-day-of) → let a = d .before .before .before .before .before .before .before .before .args in acceptedRules (a .rules .now) ≡ true
+good-rules d = let j = d .before in sym (j .before .accepts-rules .ensures) ∙ not-false (j .before .accepts-rules .result) (j .if2 .left)
+
 list-day-requires : tie.Need-list-day-requires
 list-day-requires c κs =
     let n = c .before .before in
     let d = n .before .before in
-    let j = d .before in
-    let w = j .before in
-    let i = w .before in
-    let t = i .before in
-    let a = t .before .before .before .before .args in
-    let good = sym (t .accepts .ensures) ∙ not-false (t .accepts .result) (i .if1 .left) in (
-      good,
-      sym (w .accepts-rules .ensures) ∙ not-false (w .accepts-rules .result) (j .if2 .left),
-      to-numbered (a .table) (a .rows .now) (a .year) (a .month) (a .day) _ good (sym (d .day-of .ensures) ∙ ap daySays (n .number .given .1)),
-    )
+    let a = d .before .before .before .before .before .before .before .before .args in
+    (good d, good-rules d, to-numbered (a .table) (a .rows .now) (a .year) (a .month) (a .day) _ (good d) (sym (d .day-of .ensures) ∙ ap daySays (n .number .given .1)))
+
+-- a date that the table refuses
+refusal : (d : tie.After-day-of) (k : ℕ) → daySays (d .day-of .result) ≡ refused k →
+    let a = d .before .before .before .before .before .before .before .before .args in
+    let l = onBs (a .table) (a .rows .now) (a .rules .now) (a .year) (a .month) (a .day) (a .out .now) in
+    (refused k ≡ l .answer) × (a .out .now ≡ l .buffer)
+refusal d k e =
+    let a = d .before .before .before .before .before .before .before .before .args in
+    let xs = a .rules .now in
+    let s = says-by (bs-refused kathmandu (flat (a .table) (a .rows .now)) (rulesOf xs) (acceptedRules xs) (a .year) (a .month) (a .day) (good d) (good-rules d) k (sym (d .day-of .ensures) ∙ e)) (says-refused k (a .out .now)) in
+    (s .answer, s .buffer)
 
 returns-3 : tie.Need-returns-3
-returns-3 c =
-    let d = c .before .before in
-    let j = d .before in
-    let w = j .before in
-    let i = w .before in
-    let t = i .before in
-    let a = t .before .before .before .before .args in
-    let k = flat (a .table) (a .rows .now) in
-    let xs = a .rules .now in
-    let good = sym (t .accepts .ensures) ∙ not-false (t .accepts .result) (i .if1 .left) in
-    let ok = sym (w .accepts-rules .ensures) ∙ not-false (w .accepts-rules .result) (j .if2 .left) in
-    let s = says-by (bs-refused kathmandu k (rulesOf xs) (acceptedRules xs) (a .year) (a .month) (a .day) good ok 4 (sym (d .day-of .ensures) ∙ ap daySays (c .enum-told .given .1))) (says-refused 4 (a .out .now)) in
-    (s .answer, s .buffer)
+returns-3 c = refusal (c .before .before) 4 (ap daySays (c .enum-told .given .1))
 
 returns-4 : tie.Need-returns-4
-returns-4 c =
-    let d = c .before .before in
-    let j = d .before in
-    let w = j .before in
-    let i = w .before in
-    let t = i .before in
-    let a = t .before .before .before .before .args in
-    let k = flat (a .table) (a .rows .now) in
-    let xs = a .rules .now in
-    let good = sym (t .accepts .ensures) ∙ not-false (t .accepts .result) (i .if1 .left) in
-    let ok = sym (w .accepts-rules .ensures) ∙ not-false (w .accepts-rules .result) (j .if2 .left) in
-    let s = says-by (bs-refused kathmandu k (rulesOf xs) (acceptedRules xs) (a .year) (a .month) (a .day) good ok 5 (sym (d .day-of .ensures) ∙ ap daySays (c .enum-told2 .given .1))) (says-refused 5 (a .out .now)) in
-    (s .answer, s .buffer)
+returns-4 c = refusal (c .before .before) 5 (ap daySays (c .enum-told2 .given .1))
 
 returns-5 : tie.Need-returns-5
-returns-5 c =
-    let d = c .before .before in
-    let j = d .before in
-    let w = j .before in
-    let i = w .before in
-    let t = i .before in
-    let a = t .before .before .before .before .args in
-    let k = flat (a .table) (a .rows .now) in
-    let xs = a .rules .now in
-    let good = sym (t .accepts .ensures) ∙ not-false (t .accepts .result) (i .if1 .left) in
-    let ok = sym (w .accepts-rules .ensures) ∙ not-false (w .accepts-rules .result) (j .if2 .left) in
-    let s = says-by (bs-refused kathmandu k (rulesOf xs) (acceptedRules xs) (a .year) (a .month) (a .day) good ok 6 (sym (d .day-of .ensures) ∙ ap daySays (c .enum-told3 .given .1))) (says-refused 6 (a .out .now)) in
-    (s .answer, s .buffer)
+returns-5 c = refusal (c .before .before) 6 (ap daySays (c .enum-told3 .given .1))
 
 same-length : tie.Need-same-length
 same-length c = search needs
@@ -127,16 +105,9 @@ returns-6 c =
     let l = c .before .before in
     let n = l .before .before .before in
     let d = n .before .before in
-    let j = d .before in
-    let w = j .before in
-    let i = w .before in
-    let t = i .before in
-    let a = t .before .before .before .before .args in
-    let k = flat (a .table) (a .rows .now) in
+    let a = d .before .before .before .before .before .before .before .before .args in
     let xs = a .rules .now in
-    let good = sym (t .accepts .ensures) ∙ not-false (t .accepts .result) (i .if1 .left) in
-    let ok = sym (w .accepts-rules .ensures) ∙ not-false (w .accepts-rules .result) (j .if2 .left) in
-    let e = bs-list kathmandu k (rulesOf xs) (acceptedRules xs) (a .year) (a .month) (a .day) good ok _ (sym (d .day-of .ensures) ∙ ap daySays (n .number .given .1)) in
+    let e = bs-list kathmandu (flat (a .table) (a .rows .now)) (rulesOf xs) (acceptedRules xs) (a .year) (a .month) (a .day) (good d) (good-rules d) _ (sym (d .day-of .ensures) ∙ ap daySays (n .number .given .1)) in
     let s = says-by e (record { answer = l .list-day .ensures .0; buffer = l .list-day .ensures .1 }) in
     (s .answer, s .buffer)
 

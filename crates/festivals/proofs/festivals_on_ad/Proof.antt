@@ -1,13 +1,18 @@
 -- `festivals::festivals_on_ad` meets its contract. Assumes nothing.
 use borrow.Author.Needs.{needs}
 use borrow.Author.Tests.{not-true, not-false}
-use mathlib.Core.Path.{sym, ap, _∙_}
-use Rattle.gregorian.specs.Answers.{numberSays}
-use Rattle.conversion.specs.Flat.{flat}
+use mathlib.Core.Path.{_≡_, sym, ap, _∙_}
+use mathlib.Core.Bool.{true}
+use Rattle.paper.specs.Answers.{refused}
+use Rattle.gregorian.specs.Calendar.{dayNumber}
+use Rattle.gregorian.specs.Answers.{real, numberSays}
+use Rattle.conversion.specs.Calendar.{fromDay}
+use Rattle.conversion.specs.Flat.{accepted, flat, date}
 use Rattle.rules.specs.Rules.{rulesOf, acceptedRules}
 use Rattle.rules.proofs.Listed.{says-refused, says-by}
 use Rattle.rules.proofs.Questions.{ad-bad-table, ad-bad-rules, ad-no-date, ad-refused, ad-list}
 use Rattle.festivals.specs.Kathmandu.{kathmandu}
+use Rattle.festivals.specs.Answers.{onAd}
 use Rattle.festivals.proofs.Placed.{inside, before-first, after-last}
 use Rattle.festivals.proofs.Numbered.{no-number, its-number, real-numbered}
 use Rattle.festivals.proofs.festivals_on_ad.Statement.{statement}
@@ -51,27 +56,36 @@ enum-known-n c = search needs
 enum-told : tie.Need-enum-told
 enum-told c = search needs
 
+-- where the day's number is asked, table and rules are accepted
+good : (d : tie.After-day-number) → let a = d .before .before .before .before .before .before .before .before .args in accepted (a .table) (a .rows .now) ≡ true
+good d = let i = d .before .before .before in sym (i .before .accepts .ensures) ∙ not-false (i .before .accepts .result) (i .if1 .left)
+
+good-rules : (d : tie.After-day-number) → let a = d .before .before .before .before .before .before .before .before .args in acceptedRules (a .rules .now) ≡ true
+good-rules d = let j = d .before in sym (j .before .accepts-rules .ensures) ∙ not-false (j .before .accepts-rules .result) (j .if2 .left)
+
 returns-3 : tie.Need-returns-3
 returns-3 c =
     let d = c .before .before in
-    let j = d .before in
-    let w = j .before in
-    let i = w .before in
-    let t = i .before in
-    let a = t .before .before .before .before .args in
-    let k = flat (a .table) (a .rows .now) in
+    let a = d .before .before .before .before .before .before .before .before .args in
     let xs = a .rules .now in
-    let good = sym (t .accepts .ensures) ∙ not-false (t .accepts .result) (i .if1 .left) in
-    let ok = sym (w .accepts-rules .ensures) ∙ not-false (w .accepts-rules .result) (j .if2 .left) in
-    let none = no-number (record { year = a .year; month = a .month; day = a .day }) (sym (ap numberSays (c .enum-told .given .1)) ∙ d .day-number .ensures) in
-    let s = says-by (ad-no-date kathmandu k (rulesOf xs) (acceptedRules xs) (a .year) (a .month) (a .day) good ok none) (says-refused 3 (a .out .now)) in
+    let none = no-number (date (a .year) (a .month) (a .day)) (sym (ap numberSays (c .enum-told .given .1)) ∙ d .day-number .ensures) in
+    let s = says-by (ad-no-date kathmandu (flat (a .table) (a .rows .now)) (rulesOf xs) (acceptedRules xs) (a .year) (a .month) (a .day) (good d) (good-rules d) none) (says-refused 3 (a .out .now)) in
     (s .answer, s .buffer)
 
+-- where the day is placed, it is a date's
+number : (p : tie.After-place) →
+    let d = p .before .before .before .before in
+    let a = d .before .before .before .before .before .before .before .before .args in
+    let x = date (a .year) (a .month) (a .day) in
+    (real x ≡ true) × (p .before .before .n .given .0 .0 ≡ dayNumber x)
+number p =
+    let n = p .before .before in
+    let d = n .before .before in
+    let a = d .before .before .before .before .before .before .before .before .args in
+    its-number (date (a .year) (a .month) (a .day)) _ (sym (ap numberSays (n .n .given .1)) ∙ d .day-number .ensures)
+
 place-requires : tie.Need-place-requires
-place-requires c κs =
-    let i = c .before .before .before .before .before .before in
-    let t = i .before in
-    sym (t .accepts .ensures) ∙ not-false (t .accepts .result) (i .if1 .left)
+place-requires c κs = good (c .before .before .before)
 
 enum-told-2 : tie.Need-enum-told-2
 enum-told-2 c = search needs
@@ -84,56 +98,33 @@ enum-known-place c = search needs
 
 list-day-requires : tie.Need-list-day-requires
 list-day-requires c κs =
-    let n = c .before .before .before .before .before .before in
-    let d = n .before .before in
-    let j = d .before in
-    let w = j .before in
-    let i = w .before in
-    let t = i .before in
-    let a = t .before .before .before .before .args in
-    let x = its-number (record { year = a .year; month = a .month; day = a .day }) _ (sym (ap numberSays (n .n .given .1)) ∙ d .day-number .ensures) in (
-      sym (t .accepts .ensures) ∙ not-false (t .accepts .result) (i .if1 .left),
-      sym (w .accepts-rules .ensures) ∙ not-false (w .accepts-rules .result) (j .if2 .left),
-      real-numbered (record { year = a .year; month = a .month; day = a .day }) _ (x .0) (x .1),
-    )
+    let p = c .before .before .before .before in
+    let d = p .before .before .before .before in
+    let a = d .before .before .before .before .before .before .before .before .args in
+    (good d, good-rules d, real-numbered (date (a .year) (a .month) (a .day)) _ (number p .0) (number p .1))
+
+-- a day outside the table
+outside : (p : tie.After-place) →
+    let d = p .before .before .before .before in
+    let a = d .before .before .before .before .before .before .before .before .args in
+    let l = onAd (a .table) (a .rows .now) (a .rules .now) (a .year) (a .month) (a .day) (a .out .now) in
+    fromDay (flat (a .table) (a .rows .now)) (p .before .before .n .given .0 .0) ≡ refused 7 → (refused 7 ≡ l .answer) × (a .out .now ≡ l .buffer)
+outside p e =
+    let d = p .before .before .before .before in
+    let a = d .before .before .before .before .before .before .before .before .args in
+    let xs = a .rules .now in
+    let s = says-by (ad-refused kathmandu (flat (a .table) (a .rows .now)) (rulesOf xs) (acceptedRules xs) (a .year) (a .month) (a .day) (good d) (good-rules d) (number p .0) _ (number p .1) 7 e) (says-refused 7 (a .out .now)) in
+    (s .answer, s .buffer)
 
 returns-4 : tie.Need-returns-4
 returns-4 c =
     let p = c .before .before in
-    let n = p .before .before in
-    let d = n .before .before in
-    let j = d .before in
-    let w = j .before in
-    let i = w .before in
-    let t = i .before in
-    let a = t .before .before .before .before .args in
-    let k = flat (a .table) (a .rows .now) in
-    let xs = a .rules .now in
-    let good = sym (t .accepts .ensures) ∙ not-false (t .accepts .result) (i .if1 .left) in
-    let ok = sym (w .accepts-rules .ensures) ∙ not-false (w .accepts-rules .result) (j .if2 .left) in
-    let x = its-number (record { year = a .year; month = a .month; day = a .day }) _ (sym (ap numberSays (n .n .given .1)) ∙ d .day-number .ensures) in
-    let out = before-first k good _ (p .place .result) (p .place .ensures) _ (c .enum-told2 .given .1) in
-    let s = says-by (ad-refused kathmandu k (rulesOf xs) (acceptedRules xs) (a .year) (a .month) (a .day) good ok (x .0) _ (x .1) 7 out) (says-refused 7 (a .out .now)) in
-    (s .answer, s .buffer)
+    outside p (before-first _ (good (p .before .before .before .before)) _ (p .place .result) (p .place .ensures) _ (c .enum-told2 .given .1))
 
 returns-5 : tie.Need-returns-5
 returns-5 c =
     let p = c .before .before in
-    let n = p .before .before in
-    let d = n .before .before in
-    let j = d .before in
-    let w = j .before in
-    let i = w .before in
-    let t = i .before in
-    let a = t .before .before .before .before .args in
-    let k = flat (a .table) (a .rows .now) in
-    let xs = a .rules .now in
-    let good = sym (t .accepts .ensures) ∙ not-false (t .accepts .result) (i .if1 .left) in
-    let ok = sym (w .accepts-rules .ensures) ∙ not-false (w .accepts-rules .result) (j .if2 .left) in
-    let x = its-number (record { year = a .year; month = a .month; day = a .day }) _ (sym (ap numberSays (n .n .given .1)) ∙ d .day-number .ensures) in
-    let out = after-last k good _ (p .place .result) (p .place .ensures) _ (c .enum-told3 .given .1) in
-    let s = says-by (ad-refused kathmandu k (rulesOf xs) (acceptedRules xs) (a .year) (a .month) (a .day) good ok (x .0) _ (x .1) 7 out) (says-refused 7 (a .out .now)) in
-    (s .answer, s .buffer)
+    outside p (after-last _ (good (p .before .before .before .before)) _ (p .place .result) (p .place .ensures) _ (c .enum-told3 .given .1))
 
 same-length : tie.Need-same-length
 same-length c = search needs
@@ -143,20 +134,12 @@ returns-6 c =
     let l = c .before .before in
     let b = l .before .before .before in
     let p = b .before .before in
-    let n = p .before .before in
-    let d = n .before .before in
-    let j = d .before in
-    let w = j .before in
-    let i = w .before in
-    let t = i .before in
-    let a = t .before .before .before .before .args in
-    let k = flat (a .table) (a .rows .now) in
+    let d = p .before .before .before .before in
+    let a = d .before .before .before .before .before .before .before .before .args in
     let xs = a .rules .now in
-    let good = sym (t .accepts .ensures) ∙ not-false (t .accepts .result) (i .if1 .left) in
-    let ok = sym (w .accepts-rules .ensures) ∙ not-false (w .accepts-rules .result) (j .if2 .left) in
-    let x = its-number (record { year = a .year; month = a .month; day = a .day }) _ (sym (ap numberSays (n .n .given .1)) ∙ d .day-number .ensures) in
-    let here = inside k good _ (p .place .result) (p .place .ensures) _ (b .place2 .given .1) in
-    let e = ad-list kathmandu k (rulesOf xs) (acceptedRules xs) (a .year) (a .month) (a .day) good ok (x .0) _ (x .1) _ here in
+    let k = flat (a .table) (a .rows .now) in
+    let here = inside k (good d) _ (p .place .result) (p .place .ensures) _ (b .place2 .given .1) in
+    let e = ad-list kathmandu k (rulesOf xs) (acceptedRules xs) (a .year) (a .month) (a .day) (good d) (good-rules d) (number p .0) _ (number p .1) _ here in
     let s = says-by e (record { answer = l .list-day .ensures .0; buffer = l .list-day .ensures .1 }) in
     (s .answer, s .buffer)
 

@@ -37,19 +37,28 @@ put-day-requires c κs = search needs
 mul-if1 : tie.Need-mul-if1
 mul-if1 c = search needs
 
-returns : tie.Need-returns
-returns c =
-    let p = c .before .before in
-    let t = p .before .before in
+-- the list from the two resolved years is the day's list
+resolved-list : (t : tie.After-resolve-year) →
+    let b = t .before in
+    let a = b .before .before .before .before .before .args in
+    listBy (rulesOf (a .rules .now)) (b .before .day-numbered .result) (b .resolve-before .result .days) (t .resolve-year .result .days)
+    ≡ dayList kathmandu (flat (a .table) (a .rows .now)) (rulesOf (a .rules .now)) (a .bs) (a .number)
+resolved-list t =
     let b = t .before in
     let d = b .before in
     let o = d .before .before .before .before in
     let a = o .args in
     let rs = rulesOf (a .rules .now) in
-    let k = flat (a .table) (a .rows .now) in
-    let two = two-years kathmandu k rs (a .bs) (a .number) _ _ (good-rules (a .rules .now) (o .pre .1) .counts .computed-few) (numbered-from (a .number) (o .pre .2)) (b .resolve-before .ensures) (t .resolve-year .ensures) in
-    let l = dayList kathmandu k rs (a .bs) (a .number) in
-    let n : p .put-day .result ≡ length l = p .put-day .ensures .1 .0 ∙ zero-add _ ∙ ap (λ (z : Day). length (listBy rs z (b .resolve-before .result .days) (t .resolve-year .result .days))) (d .day-numbered .ensures) ∙ ap length two in
+    ap (λ (z : Day). listBy rs z (b .resolve-before .result .days) (t .resolve-year .result .days)) (d .day-numbered .ensures)
+    ∙ two-years kathmandu (flat (a .table) (a .rows .now)) rs (a .bs) (a .number) _ _ (good-rules (a .rules .now) (o .pre .1) .counts .computed-few) (numbered-from (a .number) (o .pre .2)) (b .resolve-before .ensures) (t .resolve-year .ensures)
+
+returns : tie.Need-returns
+returns c =
+    let p = c .before .before in
+    let t = p .before .before in
+    let a = t .before .before .before .before .before .before .args in
+    let l = dayList kathmandu (flat (a .table) (a .rows .now)) (rulesOf (a .rules .now)) (a .bs) (a .number) in
+    let n : p .put-day .result ≡ length l = p .put-day .ensures .1 .0 ∙ zero-add _ ∙ ap length (resolved-list t) in
     let s = says-short l (a .out .now) (omega (arith, n, c .if1 .taken)) in
     (s .answer, s .buffer)
 
@@ -65,16 +74,9 @@ returns-2 c =
     let i = w .before .before in
     let p = i .before .before in
     let t = p .before .before in
-    let b = t .before in
-    let d = b .before in
-    let o = d .before .before .before .before in
-    let a = o .args in
-    let rs = rulesOf (a .rules .now) in
-    let k = flat (a .table) (a .rows .now) in
-    let two = two-years kathmandu k rs (a .bs) (a .number) _ _ (good-rules (a .rules .now) (o .pre .1) .counts .computed-few) (numbered-from (a .number) (o .pre .2)) (b .resolve-before .ensures) (t .resolve-year .ensures) in
-    let l = dayList kathmandu k rs (a .bs) (a .number) in
-    let e : listBy rs (d .day-numbered .result) (b .resolve-before .result .days) (t .resolve-year .result .days) ≡ l =
-    ap (λ (z : Day). listBy rs z (b .resolve-before .result .days) (t .resolve-year .result .days)) (d .day-numbered .ensures) ∙ two in
+    let a = t .before .before .before .before .before .before .args in
+    let l = dayList kathmandu (flat (a .table) (a .rows .now)) (rulesOf (a .rules .now)) (a .bs) (a .number) in
+    let e = resolved-list t in
     let n : p .put-day .result ≡ length l = p .put-day .ensures .1 .0 ∙ zero-add _ ∙ ap length e in
     let s = says-list l (a .out .now) _ _ (omega (arith, n, i .if1 .left)) (w .put-day2 .ensures .1 .0 ∙ zero-add _ ∙ ap length e) (w .put-day2 .ensures .0 ∙ ap (λ (z : List Pair). sets (a .out .now) 0 (numbers z)) e) in
     (s .answer, s .buffer)

@@ -124,6 +124,21 @@ pub fn random_days(maker: &mut Maker, almanac: &mut Almanac, count: usize) {
     }
 }
 
+/// Every day of a table, by its BS date and by its Gregorian date in turn, into a buffer as long as the list.
+pub fn every_day(maker: &mut Maker, almanac: &mut Almanac, mut by_bs: bool) {
+    for year in almanac.table.first_year..=almanac.table.last_year() {
+        for day in (1..=12).flat_map(|month| almanac.month(year, month)).collect::<Vec<_>>() {
+            let length = 2 * almanac.count(day);
+            if by_bs {
+                list_bs(maker, day, length);
+            } else {
+                list_ad(maker, bs_to_ad(&almanac.table, day).expect("a day of the table"), length);
+            }
+            by_bs = !by_bs;
+        }
+    }
+}
+
 /// The first and the last month of a table.
 fn table_ends(maker: &mut Maker, almanac: &mut Almanac, step: usize) {
     let (first, last) = (almanac.table.first_year, almanac.table.last_year());

@@ -149,6 +149,16 @@ pub fn grids(maker: &mut Maker) {
     }
 }
 
+/// Every day's list of the owner's table with both rule lists: each day by its BS date with one list
+/// and by its Gregorian date with the other.
+pub fn days(maker: &mut Maker) {
+    for (rules, by_bs) in [(nepal_rules(), true), (stress_rules(), false)] {
+        let mut almanac = Almanac::new(owner_table(), rules);
+        festivals::lend(maker, &almanac);
+        festivals::every_day(maker, &mut almanac, by_bs);
+    }
+}
+
 /// 2,400 day lists over random tables, and every rule list at the edge of the paper's lines.
 pub fn lists(maker: &mut Maker) {
     for _ in 0..80 {

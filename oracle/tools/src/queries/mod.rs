@@ -7,6 +7,7 @@ use parameterised::gregorian::{Date, date};
 use std::fmt::Display;
 use std::io::Write;
 
+mod ask;
 mod conversion;
 mod convert;
 mod festivals;
@@ -24,8 +25,9 @@ pub struct Maker<'a> {
 
 type Set = (&'static str, fn(&mut Maker));
 
-/// The samples, by the part of a replay program's name behind `replay_`.
-pub const SAMPLES: [Set; 7] = [
+/// The samples: of `ask` and `convert`, and of the replay programs by the part of a name behind `replay_`.
+pub const SAMPLES: [Set; 8] = [
+    ("ask", ask::sample),
     ("gregorian", gregorian::sample),
     ("conversion", conversion::sample),
     ("convert", convert::sample),
@@ -36,7 +38,7 @@ pub const SAMPLES: [Set; 7] = [
 ];
 
 /// The sets at full scale.
-pub const FULL: [Set; 8] = [
+pub const FULL: [Set; 9] = [
     ("dates", full::dates),
     ("instants", full::instants),
     ("angles", full::angles),
@@ -44,6 +46,7 @@ pub const FULL: [Set; 8] = [
     ("conversions", full::conversions),
     ("steps", full::steps),
     ("grids", full::grids),
+    ("days", full::days),
     ("lists", full::lists),
 ];
 

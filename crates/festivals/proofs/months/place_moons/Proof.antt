@@ -1,24 +1,33 @@
 -- `festivals::months::place_moons` meets its contract. The invariant: what is left to place comes to the same. Assumes nothing.
 use borrow.Author.Needs.{needs}
 use mathlib.Core.Path.{_≡_, refl, sym, ap, _∙_}
-use Prim.Native.Nat.{_+_, _-_, _≤_}
+use mathlib.Core.List.{List}
+use Prim.Native.Nat.{ℕ, _+_, _-_, _≤_}
 use native.Mathlib.Omega.{arith}
-use lib.ListN.{length, take}
+use lib.ListN.{length, getD, take}
 use lib.Seq.{slice}
+use lib.Ieee.{Float, nan}
+use Rattle.paper.specs.Answers.{answered}
+use Rattle.conversion.specs.declared.Table.{Table}
+use Rattle.conversion.specs.Calendar.{fromDay}
 use Rattle.conversion.specs.Flat.{flat}
 use Rattle.rules.specs.Festivals.{lastOf, inMonth}
 use Rattle.festivals.specs.declared.months.Months.{Months}
 use Rattle.festivals.specs.Kathmandu.{kathmandu}
-use Rattle.festivals.specs.Months.{put, placed, monthAt}
+use Rattle.festivals.specs.Months.{put, place, placed, monthAt}
 use Rattle.festivals.specs.Answers.{dayIs}
 use Rattle.festivals.proofs.Placed.{inside, outside, month-of}
 use Rattle.festivals.proofs.Moons.{turn, place-nothing, place-outside, place-other, place-in, placed-none, placed-reads, none-yet}
 use Rattle.festivals.proofs.months.place_moons.Statement.{statement}
 use Rattle.festivals.proofs.months.place_moons.Tie as tie
 
-abbrev Inv-loop : tie.InvT-loop
-Inv-loop table rows year found n m₀ i₀ m i =
+-- after i of the n new moons the months stand placed: the rest of them leads to the whole
+abbrev Stands : Table → List ℕ → ℕ → List Float → ℕ → Months → Months → ℕ → Type 0
+Stands table rows year found n m₀ m i =
     (i ≤ n) × (placed kathmandu (flat table rows) year (slice i n found) m ≡ placed kathmandu (flat table rows) year (take n found) m₀)
+
+abbrev Inv-loop : tie.InvT-loop
+Inv-loop table rows year found n m₀ i₀ m i = Stands table rows year found n m₀ m i
 
 abbrev μ-loop : tie.MeasureT-loop
 μ-loop table rows year found n m₀ i₀ m i = n - i
@@ -47,18 +56,23 @@ enum-told c = search needs
 loop-less : tie.Need-loop-less Inv-loop μ-loop
 loop-less c = search needs
 
-loop-again : tie.Need-loop-again Inv-loop μ-loop
-loop-again c =
-    let d = c .before .before in
+-- the turn's end, by the months that it left
+turned : (d : tie.After-day-of Inv-loop μ-loop) (m₀ m : Months) →
+    let l = d .before .before .before in
+    let a = l .before .before .args in
+    m ≡ place kathmandu (flat (a .table) (a .rows .now)) (a .year) (l .loop .m) (getD (a .found .now) (l .loop .i) nan)
+    → Stands (a .table) (a .rows .now) (a .year) (a .found .now) (a .n) m₀ (l .loop .m) (l .loop .i) → Stands (a .table) (a .rows .now) (a .year) (a .found .now) (a .n) m₀ m (l .loop .i + 1)
+turned d m₀ m e v =
     let l = d .before .before .before in
     let o = l .before .before in
     let a = o .args in
-    let k = flat (a .table) (a .rows .now) in
-    let fits : a .n ≤ length (a .found .now) = omega (arith, o .pre .1, o .pre .2) in (
-      omega arith,
-      turn kathmandu k (a .year) (a .found .now) (l .loop .i) (a .n) (d .before .before .loop-test .taken) fits (l .loop .m) _ _
-          (place-nothing kathmandu k (a .year) (l .loop .m) _ (sym (ap dayIs (c .enum-told .given .1)) ∙ d .day-of .ensures)) (l .loop .inv .1),
-    )
+    let fits : a .n ≤ length (a .found .now) = omega (arith, o .pre .1, o .pre .2) in
+    (omega arith, turn kathmandu (flat (a .table) (a .rows .now)) (a .year) (a .found .now) (l .loop .i) (a .n) (d .before .before .loop-test .taken) fits (l .loop .m) m _ e (v .1))
+
+loop-again : tie.Need-loop-again Inv-loop μ-loop
+loop-again c =
+    let d = c .before .before in
+    turned d _ _ (place-nothing kathmandu _ _ _ _ (sym (ap dayIs (c .enum-told .given .1)) ∙ d .day-of .ensures)) (d .before .before .before .loop .inv)
 
 place-requires : tie.Need-place-requires Inv-loop μ-loop
 place-requires c κs = search needs
@@ -74,44 +88,31 @@ loop-again-2 c =
     let p = c .before in
     let n = p .before .before in
     let d = n .before .before in
-    let l = d .before .before .before in
-    let o = l .before .before in
-    let a = o .args in
-    let k = flat (a .table) (a .rows .now) in
-    let fits : a .n ≤ length (a .found .now) = omega (arith, o .pre .1, o .pre .2) in (
-      omega arith,
-      turn kathmandu k (a .year) (a .found .now) (l .loop .i) (a .n) (d .before .before .loop-test .taken) fits (l .loop .m) _ _
-          (place-outside kathmandu k (a .year) (l .loop .m) _ _ (sym (ap dayIs (n .k .given .1)) ∙ d .day-of .ensures) 7
-          (outside k (o .pre .0) _ (p .place .result) (p .place .ensures) (c .match2 .keys2))) (l .loop .inv .1),
-    )
+    let o = d .before .before .before .before .before in
+    turned d _ _ (place-outside kathmandu _ _ _ _ _ (sym (ap dayIs (n .k .given .1)) ∙ d .day-of .ensures) 7 (outside _ (o .pre .0) _ (p .place .result) (p .place .ensures) (c .match2 .keys2))) (d .before .before .before .loop .inv)
 
 loop-less-3 : tie.Need-loop-less-3 Inv-loop μ-loop
 loop-less-3 c = search needs
 
+-- the date of a new moon inside the table
+dated-in : (t : tie.After-date Inv-loop μ-loop) →
+    let p = t .before .before in
+    let a = p .before .before .before .before .before .before .before .before .before .args in
+    fromDay (flat (a .table) (a .rows .now)) (p .before .before .k .given .0 .0) ≡ answered (t .date .given .0 .0)
+dated-in t =
+    let p = t .before .before in
+    let o = p .before .before .before .before .before .before .before .before .before in
+    inside (flat (o .args .table) (o .args .rows .now)) (o .pre .0) _ (p .place .result) (p .place .ensures) _ (t .date .given .1)
+
 loop-again-3 : tie.Need-loop-again-3 Inv-loop μ-loop
 loop-again-3 c =
     let t = c .before .before .before in
-    let p = t .before .before in
-    let n = p .before .before in
+    let n = t .before .before .before .before in
     let d = n .before .before in
-    let l = d .before .before .before in
-    let o = l .before .before in
-    let a = o .args in
-    let k = flat (a .table) (a .rows .now) in
-    let fits : a .n ≤ length (a .found .now) = omega (arith, o .pre .1, o .pre .2) in (
-      omega arith,
-      turn kathmandu k (a .year) (a .found .now) (l .loop .i) (a .n) (d .before .before .loop-test .taken) fits (l .loop .m) _ _
-          (place-other kathmandu k (a .year) (l .loop .m) _ _ (sym (ap dayIs (n .k .given .1)) ∙ d .day-of .ensures) _
-          (inside k (o .pre .0) _ (p .place .result) (p .place .ensures) _ (t .date .given .1)) (c .if1 .taken)) (l .loop .inv .1),
-    )
+    turned d _ _ (place-other kathmandu _ _ _ _ _ (sym (ap dayIs (n .k .given .1)) ∙ d .day-of .ensures) _ (dated-in t) (c .if1 .taken)) (d .before .before .before .loop .inv)
 
 sub-j : tie.Need-sub-j Inv-loop μ-loop
-sub-j c =
-    let t = c .before .before .before .before in
-    let p = t .before .before in
-    let o = p .before .before .before .before .before .before .before .before .before in
-    let k = flat (o .args .table) (o .args .rows .now) in
-    omega (arith, month-of k _ _ (inside k (o .pre .0) _ (p .place .result) (p .place .ensures) _ (t .date .given .1)))
+sub-j c = omega (arith, month-of _ _ _ (dated-in (c .before .before .before .before)))
 
 cast-j : tie.Need-cast-j Inv-loop μ-loop
 cast-j c = search needs
@@ -120,20 +121,10 @@ mul-m : tie.Need-mul-m Inv-loop μ-loop
 mul-m c = search needs
 
 element-write-m : tie.Need-element-write-m Inv-loop μ-loop
-element-write-m c =
-    let t = c .before .before .before .before in
-    let p = t .before .before in
-    let o = p .before .before .before .before .before .before .before .before .before in
-    let k = flat (o .args .table) (o .args .rows .now) in
-    omega (arith, month-of k _ _ (inside k (o .pre .0) _ (p .place .result) (p .place .ensures) _ (t .date .given .1)))
+element-write-m c = omega (arith, month-of _ _ _ (dated-in (c .before .before .before .before)))
 
 element-write-m-2 : tie.Need-element-write-m-2 Inv-loop μ-loop
-element-write-m-2 c =
-    let t = c .before .before .before .before in
-    let p = t .before .before in
-    let o = p .before .before .before .before .before .before .before .before .before in
-    let k = flat (o .args .table) (o .args .rows .now) in
-    omega (arith, month-of k _ _ (inside k (o .pre .0) _ (p .place .result) (p .place .ensures) _ (t .date .given .1)))
+element-write-m-2 c = omega (arith, month-of _ _ _ (dated-in (c .before .before .before .before)))
 
 loop-less-4 : tie.Need-loop-less-4 Inv-loop μ-loop
 loop-less-4 c = search needs
@@ -142,19 +133,9 @@ loop-again-4 : tie.Need-loop-again-4 Inv-loop μ-loop
 unfolding put
 loop-again-4 c =
     let t = c .before .before .before .before in
-    let p = t .before .before in
-    let n = p .before .before in
+    let n = t .before .before .before .before in
     let d = n .before .before in
-    let l = d .before .before .before in
-    let o = l .before .before in
-    let a = o .args in
-    let k = flat (a .table) (a .rows .now) in
-    let fits : a .n ≤ length (a .found .now) = omega (arith, o .pre .1, o .pre .2) in (
-      omega arith,
-      turn kathmandu k (a .year) (a .found .now) (l .loop .i) (a .n) (d .before .before .loop-test .taken) fits (l .loop .m) _ _
-          (place-in kathmandu k (a .year) (l .loop .m) _ _ (sym (ap dayIs (n .k .given .1)) ∙ d .day-of .ensures) _
-          (inside k (o .pre .0) _ (p .place .result) (p .place .ensures) _ (t .date .given .1)) (c .before .if1 .left)) (l .loop .inv .1),
-    )
+    turned d _ _ (place-in kathmandu _ _ _ _ _ (sym (ap dayIs (n .k .given .1)) ∙ d .day-of .ensures) _ (dated-in t) (c .before .if1 .left)) (d .before .before .before .loop .inv)
 
 returns : tie.Need-returns Inv-loop μ-loop
 returns c =

@@ -1,13 +1,16 @@
 -- `festivals::years::resolve_year` meets its contract. The invariant: what is left to enter comes to the same, and so do the places. Assumes nothing.
 use borrow.Author.Needs.{needs}
-use Prim.Native.Nat.{_+_, _-_, _/_, _≤_}
+use Prim.Native.Nat.{ℕ, _+_, _-_, _/_, _≤_, _<_}
 use mathlib.Core.Path.{_≡_, ap, _∙_}
+use mathlib.Core.List.{List}
 use native.Mathlib.Nat.{sub-zero, zero-add}
 use native.Mathlib.Omega.{arith}
 use lib.ListN.{length}
+use Rattle.conversion.specs.declared.Table.{Table}
 use Rattle.conversion.specs.Flat.{flat}
 use Rattle.rules.specs.Rules.{rulesFrom, countKind}
-use Rattle.rules.specs.Resolved.{filled, resolved}
+use Rattle.rules.specs.Festivals.{ruleDay, entry}
+use Rattle.rules.specs.Resolved.{putEntry, filled, resolved}
 use Rattle.rules.proofs.Walk.{left-none, count-turn, count-skip}
 use Rattle.rules.proofs.Accepted.{good-rules, good-rule}
 use Rattle.festivals.specs.Kathmandu.{kathmandu}
@@ -17,11 +20,15 @@ use Rattle.festivals.proofs.Entries.{rule-day-at, entry-nothing, entry-
 use Rattle.festivals.proofs.years.resolve_year.Statement.{statement}
 use Rattle.festivals.proofs.years.resolve_year.Tie as tie
 
-abbrev Inv-loop : tie.InvT-loop
-Inv-loop table rows rules year months out₀ n j₀ i₀ out j i =
+-- after i of the n rules, and j of kind 3 among them, the days stand entered: the rest of the rules leads to the whole
+abbrev Entered : Table → List ℕ → List ℕ → ℕ → ℕ → List ℕ → ℕ → ℕ → Type 0
+Entered table rows rules year n days j i =
     (i ≤ n)
     × (j + countKind 3 (rulesFrom rules i (n - i)) ≡ countKind 3 (rulesFrom rules 0 n))
-    × (filled kathmandu (flat table rows) year (out .days) j (rulesFrom rules i (n - i)) ≡ resolved kathmandu (flat table rows) year (rulesFrom rules 0 n))
+    × (filled kathmandu (flat table rows) year days j (rulesFrom rules i (n - i)) ≡ resolved kathmandu (flat table rows) year (rulesFrom rules 0 n))
+
+abbrev Inv-loop : tie.InvT-loop
+Inv-loop table rows rules year months out₀ n j₀ i₀ out j i = Entered table rows rules year n (out .days) j i
 
 abbrev μ-loop : tie.MeasureT-loop
 μ-loop table rows rules year months out₀ n j₀ i₀ out j i = n - i
@@ -80,28 +87,44 @@ enum-told c = search needs
 loop-less-2 : tie.Need-loop-less-2 Inv-loop μ-loop
 loop-less-2 c = search needs
 
-loop-again-2 : tie.Need-loop-again-2 Inv-loop μ-loop
-loop-again-2 c =
-    let d = c .before .before in
+-- the day of the rule that a turn meets, by the lunar months of the year
+met-day : (d : tie.After-rule-day Inv-loop μ-loop) →
+    let g = d .before .before .before in
+    let a = g .before .before .before .before .before .before .args in
+    ruleDay kathmandu (flat (a .table) (a .rows .now)) (a .year) (g .rule-at .result) ≡ dayIs (d .rule-day .result)
+met-day d =
     let f = d .before in
     let g = f .before .before in
-    let h = g .before .loop-test .taken in
     let l = g .before .before in
     let o = l .before .before .before .before in
     let a = o .args in
+    let good = good-rule (a .rules .now) (l .loop .i) (g .rule-at .result) (o .pre .1) (g .before .loop-test .taken) (g .rule-at .ensures) in
+    rule-day-at kathmandu (flat (a .table) (a .rows .now)) (a .year) (g .rule-at .result) _ _ good (f .if1 .left) (l .before .lunar-months .ensures) (d .rule-day .ensures)
+
+-- the turn's end, by what it entered
+turned : (d : tie.After-rule-day Inv-loop μ-loop) (days : List ℕ) →
+    let g = d .before .before .before in
+    let l = g .before .before in
+    let a = l .before .before .before .before .args in
+    days ≡ putEntry (l .loop .out .days) (l .loop .j) (entry kathmandu (flat (a .table) (a .rows .now)) (a .year) (g .rule-at .result))
+    → Entered (a .table) (a .rows .now) (a .rules .now) (a .year) (length (a .rules .now) / 8) days (l .loop .j + 1) (l .loop .i + 1)
+turned d days e =
+    let f = d .before in
+    let g = f .before .before in
+    let l = g .before .before in
+    let a = l .before .before .before .before .args in
     let xs = a .rules .now in
-    let k = flat (a .table) (a .rows .now) in
-    let r = g .rule-at .result in
-    let er = g .rule-at .ensures in
-    let kind = f .if1 .left in
-    let good = good-rule xs (l .loop .i) r (o .pre .1) h er in
-    let day = rule-day-at kathmandu k (a .year) r _ _ good kind (l .before .lunar-months .ensures) (d .rule-day .ensures) in
-    let w = l .loop .out .days in (
+    let h = g .before .loop-test .taken in
+    let r = g .rule-at .result in (
       omega arith,
-      count-turn xs (l .loop .i) _ h r er 3 (l .loop .j) _ (l .loop .inv .1) kind,
-      fill-next xs (l .loop .i) _ h r er kathmandu k (a .year) w _ (l .loop .j) kind w
-          (entry-nothing kathmandu k (a .year) r w (l .loop .j) (day ∙ ap dayIs (c .enum-told .given .1))) (l .loop .inv .2),
+      count-turn xs (l .loop .i) _ h r (g .rule-at .ensures) 3 (l .loop .j) _ (l .loop .inv .1) (f .if1 .left),
+      fill-next xs (l .loop .i) _ h r (g .rule-at .ensures) kathmandu (flat (a .table) (a .rows .now)) (a .year) (l .loop .out .days) _ (l .loop .j) (f .if1 .left) days e (l .loop .inv .2),
     )
+
+loop-again-2 : tie.Need-loop-again-2 Inv-loop μ-loop
+loop-again-2 c =
+    let d = c .before .before in
+    turned d _ (entry-nothing kathmandu _ _ _ _ _ (met-day d ∙ ap dayIs (c .enum-told .given .1)))
 
 place-requires : tie.Need-place-requires Inv-loop μ-loop
 place-requires c κs = search needs
@@ -117,43 +140,24 @@ loop-again-3 c =
     let p = c .before in
     let q = p .before .before in
     let d = q .before .before in
+    let o = d .before .before .before .before .before .before .before .before .before in
+    turned d _ (entry-outside kathmandu _ _ _ _ _ _ 7 (met-day d ∙ ap dayIs (q .k .given .1)) (outside _ (o .pre .0) _ (p .place .result) (p .place .ensures) (c .match2 .keys2)))
+
+-- a place is left for a rule of kind 3
+place-left : (d : tie.After-rule-day Inv-loop μ-loop) → d .before .before .before .before .before .loop .j < 64
+place-left d =
     let f = d .before in
     let g = f .before .before in
-    let h = g .before .loop-test .taken in
     let l = g .before .before in
     let o = l .before .before .before .before in
-    let a = o .args in
-    let xs = a .rules .now in
-    let k = flat (a .table) (a .rows .now) in
-    let r = g .rule-at .result in
-    let er = g .rule-at .ensures in
-    let kind = f .if1 .left in
-    let good = good-rule xs (l .loop .i) r (o .pre .1) h er in
-    let day = rule-day-at kathmandu k (a .year) r _ _ good kind (l .before .lunar-months .ensures) (d .rule-day .ensures) in
-    let w = l .loop .out .days in (
-      omega arith,
-      count-turn xs (l .loop .i) _ h r er 3 (l .loop .j) _ (l .loop .inv .1) kind,
-      fill-next xs (l .loop .i) _ h r er kathmandu k (a .year) w _ (l .loop .j) kind w
-          (entry-outside kathmandu k (a .year) r w (l .loop .j) _ 7 (day ∙ ap dayIs (q .k .given .1)) (outside k (o .pre .0) _ (p .place .result) (p .place .ensures) (c .match2 .keys2))) (l .loop .inv .2),
-    )
+    let xs = o .args .rules .now in
+    omega (arith, count-turn xs (l .loop .i) _ (g .before .loop-test .taken) (g .rule-at .result) (g .rule-at .ensures) 3 (l .loop .j) _ (l .loop .inv .1) (f .if1 .left), good-rules xs (o .pre .1) .counts .computed-few)
 
 mul-out : tie.Need-mul-out Inv-loop μ-loop
-mul-out c =
-    let f = c .before .before .before .before .before .before .before in
-    let g = f .before .before in
-    let l = g .before .before in
-    let o = l .before .before .before .before in
-    let xs = o .args .rules .now in
-    omega (arith, count-turn xs (l .loop .i) _ (g .before .loop-test .taken) (g .rule-at .result) (g .rule-at .ensures) 3 (l .loop .j) _ (l .loop .inv .1) (f .if1 .left), good-rules xs (o .pre .1) .counts .computed-few)
+mul-out c = omega (arith, place-left (c .before .before .before .before .before .before))
 
 element-write-out : tie.Need-element-write-out Inv-loop μ-loop
-element-write-out c =
-    let f = c .before .before .before .before .before .before .before in
-    let g = f .before .before in
-    let l = g .before .before in
-    let o = l .before .before .before .before in
-    let xs = o .args .rules .now in
-    omega (arith, count-turn xs (l .loop .i) _ (g .before .loop-test .taken) (g .rule-at .result) (g .rule-at .ensures) 3 (l .loop .j) _ (l .loop .inv .1) (f .if1 .left), good-rules xs (o .pre .1) .counts .computed-few)
+element-write-out c = omega (arith, place-left (c .before .before .before .before .before .before))
 
 loop-less-4 : tie.Need-loop-less-4 Inv-loop μ-loop
 loop-less-4 c = search needs
@@ -163,25 +167,8 @@ loop-again-4 c =
     let p = c .before .before in
     let q = p .before .before in
     let d = q .before .before in
-    let f = d .before in
-    let g = f .before .before in
-    let h = g .before .loop-test .taken in
-    let l = g .before .before in
-    let o = l .before .before .before .before in
-    let a = o .args in
-    let xs = a .rules .now in
-    let k = flat (a .table) (a .rows .now) in
-    let r = g .rule-at .result in
-    let er = g .rule-at .ensures in
-    let kind = f .if1 .left in
-    let good = good-rule xs (l .loop .i) r (o .pre .1) h er in
-    let day = rule-day-at kathmandu k (a .year) r _ _ good kind (l .before .lunar-months .ensures) (d .rule-day .ensures) in
-    let w = l .loop .out .days in (
-      omega arith,
-      count-turn xs (l .loop .i) _ h r er 3 (l .loop .j) _ (l .loop .inv .1) kind,
-      fill-next xs (l .loop .i) _ h r er kathmandu k (a .year) w _ (l .loop .j) kind _
-          (entry-here kathmandu k (a .year) r w (l .loop .j) _ _ (day ∙ ap dayIs (q .k .given .1)) (inside k (o .pre .0) _ (p .place .result) (p .place .ensures) _ (c .enum-told2 .given .1))) (l .loop .inv .2),
-    )
+    let o = d .before .before .before .before .before .before .before .before .before in
+    turned d _ (entry-here kathmandu _ _ _ _ _ _ _ (met-day d ∙ ap dayIs (q .k .given .1)) (inside _ (o .pre .0) _ (p .place .result) (p .place .ensures) _ (c .enum-told2 .given .1)))
 
 returns : tie.Need-returns Inv-loop μ-loop
 returns c =

@@ -8,7 +8,8 @@ use lib.Seq.{sets}
 use Rattle.rules.specs.declared.lists.Day.{Day}
 use Rattle.rules.specs.Festivals.{numbers}
 use Rattle.grid.specs.Cells.{dayCell}
-use Rattle.grid.specs.Inner.{readingOn, listFor}
+use Rattle.grid.specs.Kathmandu.{readingOn}
+use Rattle.grid.specs.Inner.{listFor}
 use Rattle.grid.proofs.Marks.{shown, cell-of, cell-length, sets-same}
 use Rattle.grid.proofs.page.put_cell.Statement.{statement}
 use Rattle.grid.proofs.page.put_cell.Tie as tie

@@ -7,7 +7,7 @@ use Rattle.rules.proofs.lists.put_before.Tie as tie
 
 returns : tie.Need-returns
 unfolding storePairs
-returns c = (rw (lt-leb _ _ (c .if1 .taken)), search needs)
+returns c = (rw (lt-leb _ 2 (c .if1 .taken)), search needs)
 
 put-resolved-requires : tie.Need-put-resolved-requires
 put-resolved-requires c κs = search needs
@@ -18,7 +18,7 @@ same-length c = search needs
 returns-2 : tie.Need-returns-2
 returns-2 c =
     let p = c .before .before .put-resolved .ensures in
-    (rw (le-leb _ _ (c .before .before .before .before .if1 .left)) (p .0), p .1)
+    (rw (le-leb _ 2 (c .before .before .before .before .if1 .left)) (p .0), p .1)
 
 pub put-before-spec : {M : Type 1} → statement M
 put-before-spec = tie.close (tie.spec returns put-resolved-requires same-length returns-2)

@@ -1,0 +1,39 @@
+-- A buffer's length is one that the array has. Assumes nothing.
+use mathlib.Core.Path.{sym}
+use lib.Seq.{length-take-le}
+use borrow.Author.Needs.{needs}
+use Rattle.answers.proofs.heavens.starts.Statement.{statement}
+use Rattle.answers.proofs.heavens.starts.Tie as tie
+
+small-requires : tie.Need-small-requires
+small-requires c κs = search needs
+
+cast-n : tie.Need-cast-n
+cast-n c = search needs
+
+array-borrow-prefix-buffer : tie.Need-array-borrow-prefix-buffer
+array-borrow-prefix-buffer c = search needs
+
+slice-aggregate-search : tie.Need-slice-aggregate-search
+slice-aggregate-search c = sym (length-take-le (c .before .before .small .result) _ (search needs))
+
+search-requires : tie.Need-search-requires
+search-requires c κs = search needs
+
+same-length : tie.Need-same-length
+same-length c = search needs
+
+returns : tie.Need-returns
+returns c = search needs
+
+pub starts-spec : {M : Type 1} → statement M
+starts-spec =
+    tie.close
+    (tie.spec
+    small-requires
+    cast-n
+    array-borrow-prefix-buffer
+    slice-aggregate-search
+    search-requires
+    same-length
+    returns)

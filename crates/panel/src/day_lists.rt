@@ -1,0 +1,98 @@
+// Festival rules, and a day's festivals from a lent year table and lent rules.
+ghost use mathlib.Core.Path.{_≡_};
+ghost use Rattle.rules.specs.Rules.{acceptedRules};
+ghost use Rattle.festivals.specs.Answers.{listSays, onBs, onAd};
+ghost use Rattle.panel.specs.Boundary.{code, left, table, accepting};
+use conversion::Table;
+use festivals::ListAnswer;
+
+// The number of festivals where it is asked for.
+fn give_count(answer: ListAnswer, count: &mut usize) -> u16
+    ensures code { λ r. ⌜ r ≡ code (listSays answer) ⌝ }
+    ensures count { λ r. ⌜ now (count .exit) ≡ left (listSays answer) (λ n. n) (now (count .entry)) ⌝ }
+{
+    match answer {
+        ListAnswer::Count(n) => {
+            *count = n;
+            0
+        }
+        ListAnswer::BadTable => 1,
+        ListAnswer::BadRules => 2,
+        ListAnswer::NoSuchDate => 3,
+        ListAnswer::NoYear => 4,
+        ListAnswer::NoMonth => 5,
+        ListAnswer::NoDay => 6,
+        ListAnswer::Outside => 7,
+        ListAnswer::NoRoom => 9,
+    }
+}
+
+// Whether lent rules are accepted: 2.
+#[no_mangle]
+pub extern "C" fn panel_check_rules(rules: &[u16]) -> u16
+    ensures { λ r. ⌜ r ≡ code (accepting (acceptedRules (now (rules .entry))) 2) ⌝ }
+{
+    if rules::accepts_rules(rules) { 0 } else { 2 }
+}
+
+// The festivals of a BS date, as name, holiday, at the front of a lent buffer, and how many: 1, 2, 4, 5, 6, 9.
+#[no_mangle]
+pub extern "C" fn panel_festivals_on(
+    first_year: u16,
+    first_ad_year: u16,
+    first_ad_month: u16,
+    first_ad_day: u16,
+    rows: &[u16],
+    rules: &[u16],
+    year: u16,
+    month: u16,
+    day: u16,
+    festivals: &mut [u16],
+    count: &mut usize,
+) -> u16
+    ensures festivals { λ r. ⌜ now (festivals .exit) ≡ onBs (table «first_year» «first_ad_year» «first_ad_month» «first_ad_day») (now (rows .entry)) (now (rules .entry)) year month day (now (festivals .entry)) .buffer ⌝ }
+    ensures code { λ r. ⌜ r ≡ code (onBs (table «first_year» «first_ad_year» «first_ad_month» «first_ad_day») (now (rows .entry)) (now (rules .entry)) year month day (now (festivals .entry)) .answer) ⌝ }
+    ensures count { λ r. ⌜ now (count .exit) ≡ left (onBs (table «first_year» «first_ad_year» «first_ad_month» «first_ad_day») (now (rows .entry)) (now (rules .entry)) year month day (now (festivals .entry)) .answer) (λ n. n) (now (count .entry)) ⌝ }
+{
+    let table = Table {
+        first_year,
+        year: first_ad_year,
+        month: first_ad_month,
+        day: first_ad_day,
+    };
+    give_count(
+        festivals::festivals_on(table, rows, rules, year, month, day, festivals),
+        count,
+    )
+}
+
+// The festivals of a Gregorian date, as name, holiday, at the front of a lent buffer, and how many: 1, 2, 3, 7, 9.
+#[no_mangle]
+pub extern "C" fn panel_festivals_on_ad(
+    first_year: u16,
+    first_ad_year: u16,
+    first_ad_month: u16,
+    first_ad_day: u16,
+    rows: &[u16],
+    rules: &[u16],
+    year: u16,
+    month: u16,
+    day: u16,
+    festivals: &mut [u16],
+    count: &mut usize,
+) -> u16
+    ensures festivals { λ r. ⌜ now (festivals .exit) ≡ onAd (table «first_year» «first_ad_year» «first_ad_month» «first_ad_day») (now (rows .entry)) (now (rules .entry)) year month day (now (festivals .entry)) .buffer ⌝ }
+    ensures code { λ r. ⌜ r ≡ code (onAd (table «first_year» «first_ad_year» «first_ad_month» «first_ad_day») (now (rows .entry)) (now (rules .entry)) year month day (now (festivals .entry)) .answer) ⌝ }
+    ensures count { λ r. ⌜ now (count .exit) ≡ left (onAd (table «first_year» «first_ad_year» «first_ad_month» «first_ad_day») (now (rows .entry)) (now (rules .entry)) year month day (now (festivals .entry)) .answer) (λ n. n) (now (count .entry)) ⌝ }
+{
+    let table = Table {
+        first_year,
+        year: first_ad_year,
+        month: first_ad_month,
+        day: first_ad_day,
+    };
+    give_count(
+        festivals::festivals_on_ad(table, rows, rules, year, month, day, festivals),
+        count,
+    )
+}

@@ -1,0 +1,169 @@
+// Months: stepping from one to another, and the cells of one.
+ghost use mathlib.Core.Path.{_≡_};
+ghost use Rattle.grid.specs.Step.{stepMonth, stepSays};
+ghost use Rattle.grid.specs.Month.{gridSays};
+ghost use Rattle.grid.specs.Kathmandu.{monthShown};
+ghost use Rattle.panel.specs.Boundary.{code, left, date, table, lent};
+use conversion::Table;
+use gregorian::Date;
+use grid::GridAnswer;
+use grid::StepAnswer;
+
+// A month's two numbers where they are asked for.
+fn give_month(answer: StepAnswer, year: &mut u16, month: &mut u8) -> u16
+    ensures code { λ r. ⌜ r ≡ code (stepSays answer) ⌝ }
+    ensures year { λ r. ⌜ now (year .exit) ≡ left (stepSays answer) (λ x. x .year) (now (year .entry)) ⌝ }
+    ensures month { λ r. ⌜ now (month .exit) ≡ left (stepSays answer) (λ x. x .month) (now (month .entry)) ⌝ }
+{
+    match answer {
+        StepAnswer::Month(stepped) => {
+            *year = stepped.year;
+            *month = stepped.month;
+            0
+        }
+        StepAnswer::BadTable => 1,
+        StepAnswer::OffTable => 10,
+    }
+}
+
+// A month's days, its first and last Gregorian date and its counts where they are asked for.
+fn give_grid(
+    answer: GridAnswer,
+    days: &mut u16,
+    from_year: &mut u16,
+    from_month: &mut u16,
+    from_day: &mut u16,
+    to_year: &mut u16,
+    to_month: &mut u16,
+    to_day: &mut u16,
+    cell_count: &mut usize,
+    festival_count: &mut usize,
+) -> u16
+    ensures code { λ r. ⌜ r ≡ code (gridSays answer) ⌝ }
+    ensures days { λ r. ⌜ now (days .exit) ≡ left (gridSays answer) (λ x. x .days) (now (days .entry)) ⌝ }
+    ensures from_year { λ r. ⌜ now («from_year» .exit) ≡ left (gridSays answer) (λ x. x .first .year) (now («from_year» .entry)) ⌝ }
+    ensures from_month { λ r. ⌜ now («from_month» .exit) ≡ left (gridSays answer) (λ x. x .first .month) (now («from_month» .entry)) ⌝ }
+    ensures from_day { λ r. ⌜ now («from_day» .exit) ≡ left (gridSays answer) (λ x. x .first .day) (now («from_day» .entry)) ⌝ }
+    ensures to_year { λ r. ⌜ now («to_year» .exit) ≡ left (gridSays answer) (λ x. x .last .year) (now («to_year» .entry)) ⌝ }
+    ensures to_month { λ r. ⌜ now («to_month» .exit) ≡ left (gridSays answer) (λ x. x .last .month) (now («to_month» .entry)) ⌝ }
+    ensures to_day { λ r. ⌜ now («to_day» .exit) ≡ left (gridSays answer) (λ x. x .last .day) (now («to_day» .entry)) ⌝ }
+    ensures cell_count { λ r. ⌜ now («cell_count» .exit) ≡ left (gridSays answer) (λ x. x .cells) (now («cell_count» .entry)) ⌝ }
+    ensures festival_count { λ r. ⌜ now («festival_count» .exit) ≡ left (gridSays answer) (λ x. x .festivals) (now («festival_count» .entry)) ⌝ }
+{
+    match answer {
+        GridAnswer::Is(shown) => {
+            *days = shown.days;
+            *from_year = shown.first.year;
+            *from_month = shown.first.month;
+            *from_day = shown.first.day;
+            *to_year = shown.last.year;
+            *to_month = shown.last.month;
+            *to_day = shown.last.day;
+            *cell_count = shown.cells;
+            *festival_count = shown.festivals;
+            0
+        }
+        GridAnswer::BadTable => 1,
+        GridAnswer::BadRules => 2,
+        GridAnswer::NoSuchDate => 3,
+        GridAnswer::NoYear => 4,
+        GridAnswer::NoMonth => 5,
+        GridAnswer::NoRoom => 9,
+    }
+}
+
+// A month stepped by a number of months: 1, 10.
+#[no_mangle]
+pub extern "C" fn panel_step_month(
+    first_year: u16,
+    first_ad_year: u16,
+    first_ad_month: u16,
+    first_ad_day: u16,
+    rows: &[u16],
+    year: u16,
+    month: u8,
+    step: i32,
+    to_year: &mut u16,
+    to_month: &mut u8,
+) -> u16
+    ensures code { λ r. ⌜ r ≡ code (stepMonth (lent «first_year» «first_ad_year» «first_ad_month» «first_ad_day» (now (rows .entry))) year month step) ⌝ }
+    ensures year { λ r. ⌜ now («to_year» .exit) ≡ left (stepMonth (lent «first_year» «first_ad_year» «first_ad_month» «first_ad_day» (now (rows .entry))) year month step) (λ x. x .year) (now («to_year» .entry)) ⌝ }
+    ensures month { λ r. ⌜ now («to_month» .exit) ≡ left (stepMonth (lent «first_year» «first_ad_year» «first_ad_month» «first_ad_day» (now (rows .entry))) year month step) (λ x. x .month) (now («to_month» .entry)) ⌝ }
+{
+    let table = Table {
+        first_year,
+        year: first_ad_year,
+        month: first_ad_month,
+        day: first_ad_day,
+    };
+    give_month(
+        grid::step_month(table, rows, year, month, step),
+        to_year,
+        to_month,
+    )
+}
+
+// A month in cells of twelve numbers, in weeks from Sunday, and its days' festivals as name, holiday, each at the front of a lent buffer; its days, its first
+// and last Gregorian date, and how many cells and festivals: 1, 2, 3 (today), 4, 5, 9.
+#[no_mangle]
+pub extern "C" fn panel_month_grid(
+    first_year: u16,
+    first_ad_year: u16,
+    first_ad_month: u16,
+    first_ad_day: u16,
+    rows: &[u16],
+    rules: &[u16],
+    today_year: u16,
+    today_month: u16,
+    today_day: u16,
+    year: u16,
+    month: u16,
+    cells: &mut [u16],
+    festivals: &mut [u16],
+    days: &mut u16,
+    from_year: &mut u16,
+    from_month: &mut u16,
+    from_day: &mut u16,
+    to_year: &mut u16,
+    to_month: &mut u16,
+    to_day: &mut u16,
+    cell_count: &mut usize,
+    festival_count: &mut usize,
+) -> u16
+    ensures cells { λ r. ⌜ now (cells .exit) ≡ monthShown (table «first_year» «first_ad_year» «first_ad_month» «first_ad_day») (now (rows .entry)) (now (rules .entry)) (date «today_year» «today_month» «today_day») year month (now (cells .entry)) (now (festivals .entry)) .cells ⌝ }
+    ensures festivals { λ r. ⌜ now (festivals .exit) ≡ monthShown (table «first_year» «first_ad_year» «first_ad_month» «first_ad_day») (now (rows .entry)) (now (rules .entry)) (date «today_year» «today_month» «today_day») year month (now (cells .entry)) (now (festivals .entry)) .festivals ⌝ }
+    ensures code { λ r. ⌜ r ≡ code (monthShown (table «first_year» «first_ad_year» «first_ad_month» «first_ad_day») (now (rows .entry)) (now (rules .entry)) (date «today_year» «today_month» «today_day») year month (now (cells .entry)) (now (festivals .entry)) .answer) ⌝ }
+    ensures days { λ r. ⌜ now (days .exit) ≡ left (monthShown (table «first_year» «first_ad_year» «first_ad_month» «first_ad_day») (now (rows .entry)) (now (rules .entry)) (date «today_year» «today_month» «today_day») year month (now (cells .entry)) (now (festivals .entry)) .answer) (λ x. x .days) (now (days .entry)) ⌝ }
+    ensures from_year { λ r. ⌜ now («from_year» .exit) ≡ left (monthShown (table «first_year» «first_ad_year» «first_ad_month» «first_ad_day») (now (rows .entry)) (now (rules .entry)) (date «today_year» «today_month» «today_day») year month (now (cells .entry)) (now (festivals .entry)) .answer) (λ x. x .first .year) (now («from_year» .entry)) ⌝ }
+    ensures from_month { λ r. ⌜ now («from_month» .exit) ≡ left (monthShown (table «first_year» «first_ad_year» «first_ad_month» «first_ad_day») (now (rows .entry)) (now (rules .entry)) (date «today_year» «today_month» «today_day») year month (now (cells .entry)) (now (festivals .entry)) .answer) (λ x. x .first .month) (now («from_month» .entry)) ⌝ }
+    ensures from_day { λ r. ⌜ now («from_day» .exit) ≡ left (monthShown (table «first_year» «first_ad_year» «first_ad_month» «first_ad_day») (now (rows .entry)) (now (rules .entry)) (date «today_year» «today_month» «today_day») year month (now (cells .entry)) (now (festivals .entry)) .answer) (λ x. x .first .day) (now («from_day» .entry)) ⌝ }
+    ensures to_year { λ r. ⌜ now («to_year» .exit) ≡ left (monthShown (table «first_year» «first_ad_year» «first_ad_month» «first_ad_day») (now (rows .entry)) (now (rules .entry)) (date «today_year» «today_month» «today_day») year month (now (cells .entry)) (now (festivals .entry)) .answer) (λ x. x .last .year) (now («to_year» .entry)) ⌝ }
+    ensures to_month { λ r. ⌜ now («to_month» .exit) ≡ left (monthShown (table «first_year» «first_ad_year» «first_ad_month» «first_ad_day») (now (rows .entry)) (now (rules .entry)) (date «today_year» «today_month» «today_day») year month (now (cells .entry)) (now (festivals .entry)) .answer) (λ x. x .last .month) (now («to_month» .entry)) ⌝ }
+    ensures to_day { λ r. ⌜ now («to_day» .exit) ≡ left (monthShown (table «first_year» «first_ad_year» «first_ad_month» «first_ad_day») (now (rows .entry)) (now (rules .entry)) (date «today_year» «today_month» «today_day») year month (now (cells .entry)) (now (festivals .entry)) .answer) (λ x. x .last .day) (now («to_day» .entry)) ⌝ }
+    ensures cell_count { λ r. ⌜ now («cell_count» .exit) ≡ left (monthShown (table «first_year» «first_ad_year» «first_ad_month» «first_ad_day») (now (rows .entry)) (now (rules .entry)) (date «today_year» «today_month» «today_day») year month (now (cells .entry)) (now (festivals .entry)) .answer) (λ x. x .cells) (now («cell_count» .entry)) ⌝ }
+    ensures festival_count { λ r. ⌜ now («festival_count» .exit) ≡ left (monthShown (table «first_year» «first_ad_year» «first_ad_month» «first_ad_day») (now (rows .entry)) (now (rules .entry)) (date «today_year» «today_month» «today_day») year month (now (cells .entry)) (now (festivals .entry)) .answer) (λ x. x .festivals) (now («festival_count» .entry)) ⌝ }
+{
+    let table = Table {
+        first_year,
+        year: first_ad_year,
+        month: first_ad_month,
+        day: first_ad_day,
+    };
+    let today = Date {
+        year: today_year,
+        month: today_month,
+        day: today_day,
+    };
+    give_grid(
+        grid::month_grid(table, rows, rules, today, year, month, cells, festivals),
+        days,
+        from_year,
+        from_month,
+        from_day,
+        to_year,
+        to_month,
+        to_day,
+        cell_count,
+        festival_count,
+    )
+}

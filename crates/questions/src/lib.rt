@@ -1,0 +1,112 @@
+// The answers to the line language: what lines lend, and what each question is answered over it.
+ghost use Prim.Native.Nat.{_-_, _≤_};
+
+mod lending;
+mod lists;
+mod months;
+
+use conversion::Table;
+pub use lending::Lent;
+pub use lending::nothing;
+use replay::Out;
+use replay::Turn;
+use replay::Words;
+use replay::tags;
+
+// The turn after a line, and what is lent after it.
+struct Stepped {
+    turn: Turn,
+    lent: Lent,
+}
+
+// The answer to a question, by its tag.
+fn answer_over(o: Out, out: &mut [u8], w: Words, table: Table, rows: &[u16], rules: &[u16]) -> Out {
+    let tag = w.tag;
+    match tag {
+        tags::DAY | tags::DATE | tags::JD | tags::NPT => answers::days::answer(o, out, w),
+        tags::CHECK | tags::BS | tags::AD | tags::LEN | tags::VALID => {
+            answers::conversions::answer(o, out, w, table, rows)
+        }
+        tags::SIN | tags::COS | tags::ASIN | tags::ACOS | tags::TAN => {
+            answers::trigonometry::answer(o, out, w)
+        }
+        tags::EVENTS | tags::RISE | tags::SET | tags::KALA | tags::NISHITA | tags::READ => {
+            answers::almanac::answer(o, out, w)
+        }
+        tags::CHECKRULES | tags::LISTBS | tags::LISTAD => {
+            lists::answer(o, out, w, table, rows, rules)
+        }
+        tags::STEP => months::step(o, out, w, table, rows),
+        tags::GRID => months::month(o, out, w, table, rows, rules),
+        _ => answers::heavens::answer(o, out, w),
+    }
+}
+
+// The answer to a line that asks, nothing to one that lends, or a question mark.
+fn answer(o: Out, out: &mut [u8], w: Words, lent: Lent, rows: &[u16], rules: &[u16]) -> Out {
+    if lending::is_lending(w) {
+        return o;
+    }
+    let cells = lent.cells;
+    let numbers = lent.numbers;
+    let table = lent.table;
+    if cells <= rows.len() {
+        if numbers <= rules.len() {
+            return answer_over(o, out, w, table, &rows[..cells], &rules[..numbers]);
+        }
+    }
+    o.word(out, b"?")
+}
+
+fn step(
+    t: Turn,
+    lent: Lent,
+    rows: &mut [u16],
+    rules: &mut [u16],
+    piece: &mut [u8],
+    line: &mut [u8],
+    out: &mut [u8],
+) -> Stepped
+    ensures { λ r. ⌜ r .turn .left ≤ t .left - 1 ⌝ }
+{
+    let w = replay::split(line, t.len);
+    let o = t.out;
+    let after = lending::lend(lent, rows, rules, w);
+    let answered = answer(o, out, w, after, rows, rules);
+    Stepped {
+        turn: replay::next(t, answered, piece, line, out),
+        lent: after,
+    }
+}
+
+fn run(
+    first: Lent,
+    rows: &mut [u16],
+    rules: &mut [u16],
+    piece: &mut [u8],
+    line: &mut [u8],
+    out: &mut [u8],
+) {
+    let mut t = replay::begin(piece, line, out);
+    let mut lent = first;
+    while 0 < t.left {
+        let s = step(t, lent, rows, rules, piece, line, out);
+        t = s.turn;
+        lent = s.lent;
+    }
+}
+
+// Answers every line of standard input on standard output, over what is lent at first and what lines lend in its place.
+pub fn answer_from(first: Lent, rows: &mut [u16], rules: &mut [u16]) {
+    let mut piece = [0u8; 4096];
+    let mut line = [0u8; 4096];
+    let mut out = [0u8; 8192];
+    run(first, rows, rules, &mut piece, &mut line, &mut out);
+}
+
+// The same where nothing is lent at first.
+pub fn answer_all() {
+    let mut rows = [0u16; 1700];
+    let mut rules = [0u16; 2600];
+    answer_from(lending::nothing(), &mut rows, &mut rules);
+}

@@ -1,0 +1,113 @@
+// Questions about months: `step` and `grid`.
+use answers::parts;
+use conversion::Table;
+use grid::GridAnswer;
+use grid::StepAnswer;
+use replay::Out;
+use replay::Whole;
+use replay::Words;
+
+fn put_stepped(o: Out, out: &mut [u8], a: StepAnswer) -> Out {
+    match a {
+        StepAnswer::Month(m) => parts::put_number(o, out, m.year as u64).number(
+            out,
+            m.month as u64,
+        ),
+        StepAnswer::BadTable => o.number(out, 1),
+        StepAnswer::OffTable => o.number(out, 10),
+    }
+}
+
+// A month step. A month past 255 and a step that is no i32 are out of form.
+fn stepped(o: Out, out: &mut [u8], w: Words, minus: bool, table: Table, rows: &[u16]) -> Out {
+    let month = w.small(2);
+    if month <= 255 {
+        if let Whole::Is(by) = w.whole(3, minus) {
+            return put_stepped(
+                o,
+                out,
+                grid::step_month(table, rows, w.small(1), month as u8, by),
+            );
+        }
+    }
+    o.word(out, b"?")
+}
+
+// The answer to a line `step` in form, or a question mark.
+pub fn step(o: Out, out: &mut [u8], w: Words, table: Table, rows: &[u16]) -> Out {
+    let form = w.form;
+    match form {
+        111 | 112 => stepped(o, out, w, false, table, rows),
+        113 => stepped(o, out, w, true, table, rows),
+        _ => o.word(out, b"?"),
+    }
+}
+
+// The month's days, its first and last date and both counts, or the refusal.
+fn put_month(o: Out, out: &mut [u8], a: GridAnswer) -> Out {
+    match a {
+        GridAnswer::Is(m) => {
+            let first = m.first;
+            let last = m.last;
+            let days = parts::put_number(o, out, m.days as u64);
+            let from = parts::put_date(days, out, first.year, first.month, first.day);
+            let to = parts::put_date(from, out, last.year, last.month, last.day);
+            to.number(out, m.cells as u64)
+                .number(out, m.festivals as u64)
+        }
+        GridAnswer::BadTable => o.number(out, 1),
+        GridAnswer::BadRules => o.number(out, 2),
+        GridAnswer::NoSuchDate => o.number(out, 3),
+        GridAnswer::NoYear => o.number(out, 4),
+        GridAnswer::NoMonth => o.number(out, 5),
+        GridAnswer::NoRoom => o.number(out, 9),
+    }
+}
+
+// A month with both buffers as they stand after the call.
+fn put_asked(
+    o: Out,
+    out: &mut [u8],
+    w: Words,
+    table: Table,
+    rows: &[u16],
+    rules: &[u16],
+    cells: &mut [u16],
+    list: &mut [u16],
+) -> Out {
+    let today = parts::date_of(w);
+    let a = grid::month_grid(
+        table,
+        rows,
+        rules,
+        today,
+        w.small(4),
+        w.small(5),
+        cells,
+        list,
+    );
+    let told = put_month(o, out, a);
+    let shown = parts::put_list(told, out, cells);
+    parts::put_list(shown, out, list)
+}
+
+// The answer to a line `grid` in form, whose buffers hold 7 before, or a question mark.
+pub fn month(o: Out, out: &mut [u8], w: Words, table: Table, rows: &[u16], rules: &[u16]) -> Out {
+    if w.form == 1111111 {
+        let mut cells = [7u16; 65535];
+        let mut list = [7u16; 65535];
+        let n = w.small(6) as usize;
+        let k = w.small(7) as usize;
+        return put_asked(
+            o,
+            out,
+            w,
+            table,
+            rows,
+            rules,
+            &mut cells[..n],
+            &mut list[..k],
+        );
+    }
+    o.word(out, b"?")
+}
