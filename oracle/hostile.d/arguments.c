@@ -149,6 +149,15 @@ static void prepare_lists(void)
     for (size_t i = 0; i < COUNT(broken_lists); i++)
         broken_lists[i] = lasting(rules, break_rules(rules, random_rules(rules, 1 + below(8), below(9), below(9), below(9)), i % 8));
     broken_lists[0] = (struct slice){ zeros((size_t)1 << 31), (size_t)1 << 30 };
+    broken_lists[1] = (struct slice){ zeros((size_t)1 << 21), (size_t)1 << 20 };
+}
+
+/* Rules. The longest list of all is read to its end in a second, so it comes seldom. */
+static struct slice draw_list(int odd)
+{
+    size_t broken = below(COUNT(broken_lists));
+    if (!odd) return good_lists[below(COUNT(good_lists))];
+    return broken_lists[broken == 0 && below(2000) > 0 ? 1 : broken];
 }
 
 void prepare(uint64_t seed)
@@ -275,7 +284,7 @@ void draw(struct arguments *arguments, const char *letters, int tame, const size
         case 'M': draw_number(&to, odd, 1, 12, 65535); break;
         case 'D': draw_number(&to, odd, 1, 29, 65535); break;
         case 'g': draw_in_table(&to, table, tame); break;
-        case 'R': *to.slice++ = odd ? broken_lists[below(COUNT(broken_lists))] : good_lists[below(COUNT(good_lists))]; break;
+        case 'R': *to.slice++ = draw_list(odd); break;
         case 'b': draw_number(&to, odd, 1, 12, 255); break;
         case 's': arguments->step = (int32_t)(odd ? odd_number(4294967295u) : below(24 * table->years)) - (int32_t)(odd ? 0 : 12 * table->years); break;
         case 'i': draw_real(&to, odd, 2400000.0, 110000.0); break;

@@ -16,11 +16,12 @@
 static struct arguments a;
 static struct lent places[16], buffers[2];
 
-/* What is passed: a number, a real, a lent slice, a table; a place to write a u16, u32, size_t or double to; a buffer. */
+/* What is passed: a number, a real, a lent slice, a table; a place to write a u8, u16, u32, size_t or double to; a buffer. */
 #define N(i) ((uint16_t)a.number[i])
 #define X(i) (a.real[i])
 #define S(i) a.slice[i].at, a.slice[i].len
 #define TABLE N(0), N(1), N(2), N(3), S(0)
+#define C(i) ((uint8_t *)places[i].at)
 #define H(i) ((uint16_t *)places[i].at)
 #define W(i) ((uint32_t *)places[i].at)
 #define Z(i) ((size_t *)places[i].at)
@@ -33,9 +34,10 @@ struct buffer {
     size_t width, most, place, each;
 };
 
-static const struct buffer no_buffer[2], starts[2] = { { sizeof(double), 40, 0, 1 } };
+static const struct buffer no_buffer[2], starts[2] = { { sizeof(double), 40, 0, 1 } }, lists[2] = { { sizeof(uint16_t), 768, 0, 2 } },
+                           grids[2] = { { sizeof(uint16_t), 504, 7, 12 }, { sizeof(uint16_t), 768, 8, 2 } };
 
-/* The name; the letters of its arguments (arguments.h); the letters of its places: h a u16, w a u32, z a size_t, f a double, o a u16 that is 1 where the
+/* The name; the letters of its arguments (arguments.h); the letters of its places: c a u8, h a u16, w a u32, z a size_t, f a double, o a u16 that is 1 where the
    places behind it are written and 0 where they stay; its buffers; the refusals that document 01 allows; one in how many calls is tame; the call. */
 #define FUNCTIONS(f) \
     f(panel_date_new, "ymd", "hhh", no_buffer, "3", 2, (N(0), N(1), N(2), H(0), H(1), H(2))) \
@@ -45,6 +47,7 @@ static const struct buffer no_buffer[2], starts[2] = { { sizeof(double), 40, 0, 
     f(panel_date_from_day_number, "n", "hhh", no_buffer, "3", 2, (a.number[0], H(0), H(1), H(2))) \
     f(panel_julian_day, "ymdr", "f", no_buffer, "3 8", 2, (N(0), N(1), N(2), X(0), F(0))) \
     f(panel_npt_date, "i", "hhh", no_buffer, "8 3", 2, (X(0), H(0), H(1), H(2))) \
+    f(panel_check_table, "T", "", no_buffer, "1", 4, (TABLE)) \
     f(panel_bs_month_len, "TYM", "h", no_buffer, "1 4 5", 4, (TABLE, N(4), N(5), H(0))) \
     f(panel_validate_bs_date, "TYMD", "", no_buffer, "1 4 5 6", 4, (TABLE, N(4), N(5), N(6))) \
     f(panel_bs_to_ad, "TYMD", "hhh", no_buffer, "1 4 5 6", 4, (TABLE, N(4), N(5), N(6), H(0), H(1), H(2))) \
@@ -67,9 +70,16 @@ static const struct buffer no_buffer[2], starts[2] = { { sizeof(double), 40, 0, 
     f(panel_sunrise, "ymd", "of", no_buffer, "3", 2, (N(0), N(1), N(2), H(0), F(1))) \
     f(panel_sunset, "ymd", "of", no_buffer, "3", 2, (N(0), N(1), N(2), H(0), F(1))) \
     f(panel_nishita_window, "ymd", "off", no_buffer, "3", 2, (N(0), N(1), N(2), H(0), F(1), F(2))) \
+    f(panel_kala_instant, "ymdq", "of", no_buffer, "2 3", 2, (N(0), N(1), N(2), N(3), H(0), F(1))) \
     f(panel_npt_clock, "i", "h", no_buffer, "8", 2, (X(0), H(0))) \
     f(panel_minutes_of, "r", "h", no_buffer, "", 2, (X(0), H(0))) \
-    f(panel_reading, "ymd", "hhhh", no_buffer, "3", 10, (N(0), N(1), N(2), H(0), H(1), H(2), H(3)))
+    f(panel_reading, "ymd", "hhhh", no_buffer, "3", 10, (N(0), N(1), N(2), H(0), H(1), H(2), H(3))) \
+    f(panel_check_rules, "R", "", no_buffer, "2", 4, (S(0))) \
+    f(panel_festivals_on, "TRYMDB", "z", lists, "1 2 4 5 6 9", 200, (TABLE, S(1), N(4), N(5), N(6), HB(0), Z(0))) \
+    f(panel_festivals_on_ad, "TRgB", "z", lists, "1 2 3 7 9", 200, (TABLE, S(1), N(4), N(5), N(6), HB(0), Z(0))) \
+    f(panel_step_month, "TYbs", "hc", no_buffer, "1 10", 4, (TABLE, N(4), (uint8_t)a.number[5], a.step, H(0), C(1))) \
+    f(panel_month_grid, "TRymdYMBB", "hhhhhhhzz", grids, "1 2 3 4 5 9", 500, \
+      (TABLE, S(1), N(4), N(5), N(6), N(7), N(8), HB(0), HB(1), H(0), H(1), H(2), H(3), H(4), H(5), H(6), Z(7), Z(8)))
 
 struct function {
     const char *name, *letters, *places;
@@ -187,11 +197,14 @@ static void fault(int number)
 
 static size_t width_of(char place)
 {
-    return place == 'w' ? sizeof(uint32_t) : place == 'z' ? sizeof(size_t) : place == 'f' ? sizeof(double) : sizeof(uint16_t);
+    return place == 'c' ? sizeof(uint8_t) : place == 'w' ? sizeof(uint32_t) : place == 'z' ? sizeof(size_t) : place == 'f' ? sizeof(double) : sizeof(uint16_t);
 }
+
+static unsigned long made; /* calls in all */
 
 static uint16_t call(unsigned char fill)
 {
+    made++;
     for (size_t i = 0; function->places[i]; i++) lend(&places[i], width_of(function->places[i]), (int)below(2), fill);
     for (size_t i = 0; i < 2 && function->buffers[i].width > 0; i++) lend(&buffers[i], a.room[i] * function->buffers[i].width, (int)below(2), fill);
     return function->call();
@@ -351,6 +364,6 @@ int main(int count, char **names)
         function = &functions[i];
         drive(setting("HOSTILE_CALLS", 1000000));
     }
-    printf("hostile: no fault, no write past an answer or on a refusal, no refusal that is not allowed\n");
+    printf("hostile: %lu calls, with those made again; no fault, no write past an answer or on a refusal, no refusal that is not allowed\n", made);
     return 0;
 }

@@ -3,8 +3,11 @@ mod port;
 mod timing;
 
 use chrono::{Datelike, NaiveDate};
+use parameterised::Answer;
 use parameterised::conversion::{self, BsDate, Table};
+use parameterised::festivals;
 use parameterised::gregorian::Date;
+use parameterised::grid;
 use parameterised::panchanga::{self, Ut};
 use parameterised::trig;
 use std::cell::RefCell;
@@ -12,6 +15,7 @@ use timing::{Ask, Timed};
 use untouched_nepal as untouched;
 
 const ROUNDS: usize = 41;
+const COLD_ROUNDS: usize = 9;
 
 /// Marsaglia's xorshift, from a fixed seed: each run has the same inputs.
 struct Dice(u64);
@@ -87,16 +91,29 @@ impl Report {
         println!("| {name} | {} | {} | {untouched} |", shown(rust.port), ratio(rust));
     }
 
-    /// Times a question over inputs, after it has seen that port and parameterised Rust answer alike.
-    fn compared(&mut self, name: &str, inputs: usize, mut port: Ask, mut rust: Ask, untouched: Option<Ask>) {
+    /// Whether port and parameterised Rust answer alike.
+    fn alike(&mut self, name: &str, inputs: usize, port: &mut Ask, rust: &mut Ask) {
         let differing = (0..inputs).filter(|&i| port(i) != rust(i)).count();
         if differing > 0 {
             println!("| {name}: {differing} of {inputs} answers differ | | | | | |");
             self.good = false;
         }
+    }
+
+    /// Times a question over inputs, after it has seen that port and parameterised Rust answer alike.
+    fn compared(&mut self, name: &str, inputs: usize, mut port: Ask, mut rust: Ask, untouched: Option<Ask>) {
+        self.alike(name, inputs, &mut port, &mut rust);
         let timed = timing::rounds(ROUNDS, inputs, &mut port, &mut rust);
         let untouched = untouched.map(|mut ask| timing::rounds(ROUNDS, inputs, &mut port, &mut ask));
         self.row(name, timed, untouched);
+    }
+
+    /// The same for what the Rust untouched keeps from call to call: each of its inputs is asked once, and each must be of another year.
+    fn cold(&mut self, name: &str, inputs: usize, mut port: Ask, mut rust: Ask, mut untouched: Ask) {
+        self.alike(name, inputs, &mut port, &mut rust);
+        let timed = timing::rounds(COLD_ROUNDS, inputs, &mut port, &mut rust);
+        let untouched = timing::once(inputs, &mut port, &mut untouched);
+        self.row(name, timed, Some(untouched));
     }
 }
 
@@ -196,6 +213,79 @@ fn searches(report: &mut Report, dice: &mut Dice) {
     );
 }
 
+/// The list of rules that the Rust untouched was built with.
+fn nepal_rules() -> Vec<u16> {
+    include_str!("../../../oracle/rules/nepal.rules")
+        .lines()
+        .flat_map(|line| line.split('#').next().unwrap_or("").split_whitespace())
+        .map(|word| word.parse().expect("a number"))
+        .collect()
+}
+
+/// Days of the months 3 to 12, which need one lunar year, each of another BS year: every second year of the table from `from` on.
+fn days_of_years(dice: &mut Dice, table: &Table, from: u16) -> Vec<BsDate> {
+    (0..40)
+        .map(|i| BsDate {
+            year: table.first_year + from + 2 * i,
+            month: dice.below(10) as u16 + 3,
+            day: dice.below(29) as u16 + 1,
+        })
+        .collect()
+}
+
+type List = fn(&Table, &[u16], BsDate, &mut [u16]) -> Answer<usize>;
+type Grid = fn(&Table, &[u16], Date, u16, u16, &mut [u16], &mut [u16]) -> Answer<grid::Month>;
+
+fn day_lists(report: &mut Report, dice: &mut Dice, table: &Table) {
+    let rules = nepal_rules();
+    let days = days_of_years(dice, table, 0);
+    let out = RefCell::new([0u16; 768]);
+    let asked = |bs: BsDate, list: List| list(table, &rules, bs, &mut *out.borrow_mut()).expect("a list");
+    let entries = |count: usize| {
+        let numbers: Vec<u64> = out.borrow()[..2 * count].iter().map(|&n| n.into()).collect();
+        fold(&numbers) ^ count as u64
+    };
+    let computed = festivals::records(&rules).filter(|rule| rule.kind == 3).count();
+    report.cold(
+        &format!("cold day list, {computed} computed rules"),
+        days.len(),
+        Box::new(|i| entries(asked(days[i], port::festivals_on))),
+        Box::new(|i| entries(asked(days[i], festivals::day_list_bs))),
+        Box::new(|i| {
+            let bs = narrow(days[i]);
+            untouched::festivals::festivals_on(bs, untouched::bs_to_ad(bs).expect("a date")).len() as u64
+        }),
+    );
+}
+
+fn month_grids(report: &mut Report, dice: &mut Dice, table: &Table) {
+    let rules = nepal_rules();
+    let days = days_of_years(dice, table, 1);
+    let today = Date { year: 2026, month: 1, day: 1 };
+    let out = RefCell::new(([0u16; 504], [0u16; 768]));
+    let asked = |bs: BsDate, grid: Grid| {
+        let (cells, festivals) = &mut *out.borrow_mut();
+        grid(table, &rules, today, bs.year, bs.month, cells, festivals).expect("a month")
+    };
+    let shown = |month: grid::Month| {
+        let (cells, festivals) = *out.borrow();
+        let written = cells[..12 * month.cells].iter().chain(&festivals[..2 * month.festivals]);
+        let numbers: Vec<u64> = written.map(|&n| n.into()).collect();
+        fold(&numbers) ^ fold(&[month.days.into(), of_date(month.first), of_date(month.last)])
+    };
+    report.cold(
+        "cold month grid, the same rules",
+        days.len(),
+        Box::new(|i| shown(asked(days[i], port::month_grid))),
+        Box::new(|i| shown(asked(days[i], grid::month_grid))),
+        Box::new(|i| {
+            let bs = narrow(days[i]);
+            let month = untouched::grid::month_grid(bs.year, bs.month, naive(today)).expect("a month");
+            month.weeks.len() as u64
+        }),
+    );
+}
+
 fn main() {
     let mut dice = Dice(88172645463325252);
     let mut report = Report { good: true };
@@ -207,5 +297,7 @@ fn main() {
     elongations(&mut report, &mut dice);
     readings(&mut report, &mut dice);
     searches(&mut report, &mut dice);
+    day_lists(&mut report, &mut dice, &table);
+    month_grids(&mut report, &mut dice, &table);
     std::process::exit(!report.good as i32);
 }

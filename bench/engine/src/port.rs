@@ -2,6 +2,7 @@
 use parameterised::Answer;
 use parameterised::conversion::{BsDate, Table};
 use parameterised::gregorian::Date;
+use parameterised::grid::Month;
 
 unsafe extern "C" {
     fn panel_sine(x: f64, value: &mut f64) -> u16;
@@ -51,6 +52,50 @@ unsafe extern "C" {
         bs_year: &mut u16,
         bs_month: &mut u16,
         bs_day: &mut u16,
+    ) -> u16;
+    fn panel_festivals_on(
+        first_year: u16,
+        first_ad_year: u16,
+        first_ad_month: u16,
+        first_ad_day: u16,
+        rows: *const u16,
+        rows_len: usize,
+        rules: *const u16,
+        rules_len: usize,
+        year: u16,
+        month: u16,
+        day: u16,
+        festivals: *mut u16,
+        festivals_len: usize,
+        count: &mut usize,
+    ) -> u16;
+    fn panel_month_grid(
+        first_year: u16,
+        first_ad_year: u16,
+        first_ad_month: u16,
+        first_ad_day: u16,
+        rows: *const u16,
+        rows_len: usize,
+        rules: *const u16,
+        rules_len: usize,
+        today_year: u16,
+        today_month: u16,
+        today_day: u16,
+        year: u16,
+        month: u16,
+        cells: *mut u16,
+        cells_len: usize,
+        festivals: *mut u16,
+        festivals_len: usize,
+        days: &mut u16,
+        from_year: &mut u16,
+        from_month: &mut u16,
+        from_day: &mut u16,
+        to_year: &mut u16,
+        to_month: &mut u16,
+        to_day: &mut u16,
+        cell_count: &mut usize,
+        festival_count: &mut usize,
     ) -> u16;
 }
 
@@ -128,4 +173,73 @@ pub fn ad_to_bs(table: &Table, ad: Date) -> Answer<BsDate> {
         )
     };
     answered(code, bs)
+}
+
+pub fn festivals_on(table: &Table, rules: &[u16], bs: BsDate, out: &mut [u16]) -> Answer<usize> {
+    let mut count = 0;
+    let first = table.first_day;
+    let code = unsafe {
+        panel_festivals_on(
+            table.first_year,
+            first.year,
+            first.month,
+            first.day,
+            table.rows.as_ptr(),
+            table.rows.len(),
+            rules.as_ptr(),
+            rules.len(),
+            bs.year,
+            bs.month,
+            bs.day,
+            out.as_mut_ptr(),
+            out.len(),
+            &mut count,
+        )
+    };
+    answered(code, count)
+}
+
+pub fn month_grid(
+    table: &Table,
+    rules: &[u16],
+    today: Date,
+    year: u16,
+    month: u16,
+    cells: &mut [u16],
+    festivals: &mut [u16],
+) -> Answer<Month> {
+    let none = Date { year: 0, month: 0, day: 0 };
+    let mut shown = Month { days: 0, first: none, last: none, cells: 0, festivals: 0 };
+    let first = table.first_day;
+    let code = unsafe {
+        panel_month_grid(
+            table.first_year,
+            first.year,
+            first.month,
+            first.day,
+            table.rows.as_ptr(),
+            table.rows.len(),
+            rules.as_ptr(),
+            rules.len(),
+            today.year,
+            today.month,
+            today.day,
+            year,
+            month,
+            cells.as_mut_ptr(),
+            cells.len(),
+            festivals.as_mut_ptr(),
+            festivals.len(),
+            &mut shown.days,
+            &mut shown.first.year,
+            &mut shown.first.month,
+            &mut shown.first.day,
+            &mut shown.last.year,
+            &mut shown.last.month,
+            &mut shown.last.day,
+            &mut shown.cells,
+            &mut shown.festivals,
+        )
+    };
+    answered(code, shown)
 }

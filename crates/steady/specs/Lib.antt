@@ -2,3 +2,4 @@
 pub mod Own
 pub mod Examples
 pub mod Once
+pub mod Steady

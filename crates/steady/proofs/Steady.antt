@@ -1,0 +1,71 @@
+-- DEMAND 3 holds, for every accepted table and the same with more rows where that is accepted too. Assumes nothing.
+use Prim.Native.Nat.{ℕ}
+use mathlib.Core.Path.{_≡_, refl, sym, ap, _∙_}
+use mathlib.Core.Bool.{true}
+use mathlib.Core.List.{List, _++_}
+use Rattle.paper.specs.Answers.{Answer, answered, refused}
+use Rattle.paper.proofs.Answers.{refused-answered}
+use Rattle.gregorian.specs.declared.Date.{Date}
+use Rattle.conversion.specs.declared.Table.{Table}
+use Rattle.conversion.specs.Flat.{accepted}
+use Rattle.conversion.specs.Claims.{RefusedIf}
+use Rattle.conversion.proofs.Longer.{extends}
+use Rattle.conversion.proofs.Theorems as Conversion
+use Rattle.rules.specs.Rules.{rulesOf, acceptedRules}
+use Rattle.rules.specs.Festivals.{Pair, listed}
+use Rattle.rules.proofs.Theorems as Lists
+use Rattle.festivals.specs.Kathmandu.{kathmandu}
+use Rattle.grid.specs.Month.{Grid, shown}
+use Rattle.grid.proofs.Longer as Grids
+use Rattle.steady.specs.Steady.{Stays, AnswerStays, Steady}
+use Rattle.steady.proofs.Stepping.{step-longer, step-added}
+
+-- an answer alone
+stays : {A : Type 0} {a b : Answer A} {k : ℕ} {P : A → Type 0} → ((x : A) → a ≡ answered x → b ≡ answered x) → ((x : A) → b ≡ answered x → RefusedIf a k (P x)) → AnswerStays a b k P
+stays longer added = record { same = λ x h. longer x h ∙ sym h; added = added }
+
+-- an answer from which w makes all that is told, a refusal of a refusal
+module _ {X W A : Type 0} (w : Answer X → W) (answer : W → Answer A) (refuses : (k : ℕ) → answer (w (refused k)) ≡ refused k) where
+  tells : (u : Answer X) (v : A) → answer (w u) ≡ answered v → (x : X) × (u ≡ answered x)
+  tells (answered x) v h = (x, refl)
+  tells (refused j) v h = absurd (refused-answered (refuses j) h)
+
+  told-stays : {a b : Answer X} {k : ℕ} {P : Type 0} → ((x : X) → a ≡ answered x → b ≡ answered x) → ((x : X) → b ≡ answered x → RefusedIf a k P) → Stays answer (w a) (w b) k (λ v. P)
+  told-stays {a} {b} {k} {P} longer added =
+      record {
+        same = λ v h. let x = tells a v h in ap w (longer (x .0) (x .1) ∙ sym (x .1));
+        added = λ v h.
+            let x = tells b v h in
+            let r = added (x .0) (x .1) in
+            record { when = λ p. ap (λ (z : Answer X). answer (w z)) (r .when p) ∙ refuses k; only = λ j q. go v h r j q a refl };
+      }
+    where
+      go : (v : A) → answer (w b) ≡ answered v → RefusedIf a k P → (j : ℕ) → answer (w a) ≡ refused j → (c : Answer X) → a ≡ c → P
+      go v h r j q (answered z) p = absurd (refused-answered q (ap (λ (u : Answer X). answer (w u)) (p ∙ sym (longer z p)) ∙ h))
+      go v h r j q (refused i) p = r .only i p
+
+listed-refused : (out : List ℕ) (k : ℕ) → listed (refused k) out .answer ≡ refused k
+unfolding listed
+listed-refused out k = refl
+
+shown-refused : (cells festivals : List ℕ) (k : ℕ) → shown (refused k) cells festivals .answer ≡ refused k
+unfolding shown
+shown-refused cells festivals k = refl
+
+-- DEMAND 3
+pub steady : (t : Table) (rows more rules : List ℕ) (today : Date) → accepted t rows ≡ true → accepted t (rows ++ more) ≡ true → Steady t rows more rules today
+steady t rows more rules today a b =
+    let c = Conversion.steady t rows more a b in
+    let l = Lists.steady kathmandu (rulesOf rules) (acceptedRules rules) in
+    let g = Grids.steady rules today t rows more a b in
+    let x = extends t rows more a b in
+    record {
+      month-len = λ y m. stays (c .len y m) (c .len-added y m);
+      valid = λ y m d. stays (λ u. c .valid y m d) (λ u. c .valid-added y m d);
+      to-ad = λ y m d. stays (c .to y m d) (c .to-added y m d);
+      to-bs = λ y m d. stays (c .from y m d) (c .from-added y m d);
+      step = λ y m s. stays (step-longer _ _ x y m s) (step-added _ _ x y m s);
+      list = λ y m d out. let s = l out t rows more a b in told-stays (λ (z : Answer (List Pair)). listed z out) (λ w. w .answer) (listed-refused out) (λ v h. s .on-bs y m d v h .answer) (s .on-bs-added y m d);
+      list-ad = λ y m d out. let s = l out t rows more a b in told-stays (λ (z : Answer (List Pair)). listed z out) (λ w. w .answer) (listed-refused out) (λ v h. s .on-ad y m d v h .answer) (s .on-ad-added y m d);
+      month = λ y m cells festivals. told-stays (λ (z : Answer Grid). shown z cells festivals) (λ w. w .answer) (shown-refused cells festivals) (g .month y m _ _) (g .month-added y m _ _);
+    }
