@@ -200,8 +200,11 @@ static size_t width_of(char place)
     return place == 'c' ? sizeof(uint8_t) : place == 'w' ? sizeof(uint32_t) : place == 'z' ? sizeof(size_t) : place == 'f' ? sizeof(double) : sizeof(uint16_t);
 }
 
+static unsigned long made; /* calls in all */
+
 static uint16_t call(unsigned char fill)
 {
+    made++;
     for (size_t i = 0; function->places[i]; i++) lend(&places[i], width_of(function->places[i]), (int)below(2), fill);
     for (size_t i = 0; i < 2 && function->buffers[i].width > 0; i++) lend(&buffers[i], a.room[i] * function->buffers[i].width, (int)below(2), fill);
     return function->call();
@@ -361,6 +364,6 @@ int main(int count, char **names)
         function = &functions[i];
         drive(setting("HOSTILE_CALLS", 1000000));
     }
-    printf("hostile: no fault, no write past an answer or on a refusal, no refusal that is not allowed\n");
+    printf("hostile: %lu calls, with those made again; no fault, no write past an answer or on a refusal, no refusal that is not allowed\n", made);
     return 0;
 }

@@ -1,9 +1,9 @@
--- `replay::input::fill_on` is proved. Assumes nothing.
+-- `lines::fill_on` is proved. Assumes nothing.
 use mathlib.Core.Path.{sym}
 use lib.Seq.{length-take-le}
 use borrow.Author.Needs.{needs}
-use Rattle.replay.proofs.input.fill_on.Statement.{statement}
-use Rattle.replay.proofs.input.fill_on.Tie as tie
+use Rattle.lines.proofs.fill_on.Statement.{statement}
+use Rattle.lines.proofs.fill_on.Tie as tie
 
 slice-aggregate-fill : tie.Need-slice-aggregate-fill
 slice-aggregate-fill c = sym (length-take-le (c .before .before .before .before .args .to) (c .before .before .before .before .args .piece .now) (c .before .if1 .taken))

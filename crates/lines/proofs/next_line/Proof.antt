@@ -1,17 +1,17 @@
--- `replay::input::next_line` meets its contract: the steps fall. Assumes nothing.
+-- `lines::next_line` meets its contract: the steps fall. Assumes nothing.
 use Prim.Native.Nat.{_≤_}
 use mathlib.Core.Path.{_≡_, refl, _∙_}
 use native.Mathlib.Omega.{arith}
 use lib.ListN.{length}
 use borrow.Author.Needs.{needs}
-use Rattle.replay.proofs.input.next_line.Statement.{statement}
-use Rattle.replay.proofs.input.next_line.Tie as tie
+use Rattle.lines.proofs.next_line.Statement.{statement}
+use Rattle.lines.proofs.next_line.Tie as tie
 
 abbrev Inv-loop : tie.InvT-loop
-Inv-loop piece₀ line₀ held₀ left₀ from₀ to₀ piece line held left from to = (length piece ≡ length piece₀) × (length line ≡ length line₀) × (left ≤ left₀)
+Inv-loop fd piece₀ line₀ held₀ left₀ from₀ to₀ piece line held left from to = (length piece ≡ length piece₀) × (length line ≡ length line₀) × (left ≤ left₀)
 
 abbrev μ-loop : tie.MeasureT-loop
-μ-loop piece₀ line₀ held₀ left₀ from₀ to₀ piece line held left from to = left
+μ-loop fd piece₀ line₀ held₀ left₀ from₀ to₀ piece line held left from to = left
 
 nothing-requires : tie.Need-nothing-requires Inv-loop μ-loop
 nothing-requires c κs = search needs
@@ -53,7 +53,7 @@ loop-less : tie.Need-loop-less Inv-loop μ-loop
 loop-less c = search needs
 
 loop-again : tie.Need-loop-again Inv-loop μ-loop
-loop-again c = let l = c .before .before .before .before .before .before .before .before .before .before .before .before .before .before .before .before .loop in (c .before .before .before .before .before .read-piece .kept .0 ∙ l .inv .0, c .before .before .before .before .before .before .before .before .before .before .before .before .fill-on .kept .1 .1 .1 .0 ∙ l .inv .1, omega arith)
+loop-again c = let l = c .before .before .before .before .before .before .before .before .before .before .before .before .before .before .before .before .loop in (c .before .before .before .before .before .read-piece .kept .1 .0 ∙ l .inv .0, c .before .before .before .before .before .before .before .before .before .before .before .before .fill-on .kept .1 .1 .1 .0 ∙ l .inv .1, omega arith)
 
 enum-told : tie.Need-enum-told Inv-loop μ-loop
 enum-told c = search needs
@@ -62,7 +62,7 @@ last-requires : tie.Need-last-requires Inv-loop μ-loop
 last-requires c κs = search needs
 
 same-length-3 : tie.Need-same-length-3 Inv-loop μ-loop
-same-length-3 c = c .before .before .before .before .before .read-piece .kept .0 ∙ c .before .before .before .before .before .before .before .before .before .before .before .before .before .before .before .before .loop .inv .0
+same-length-3 c = c .before .before .before .before .before .read-piece .kept .1 .0 ∙ c .before .before .before .before .before .before .before .before .before .before .before .before .before .before .before .before .loop .inv .0
 
 same-length-4 : tie.Need-same-length-4 Inv-loop μ-loop
 same-length-4 c = c .before .before .before .before .before .before .before .before .before .before .before .before .fill-on .kept .1 .1 .1 .0 ∙ c .before .before .before .before .before .before .before .before .before .before .before .before .before .before .before .before .loop .inv .1
@@ -77,7 +77,7 @@ over-requires : tie.Need-over-requires Inv-loop μ-loop
 over-requires c κs = search needs
 
 same-length-5 : tie.Need-same-length-5 Inv-loop μ-loop
-same-length-5 c = c .before .before .before .before .before .read-piece .kept .0 ∙ c .before .before .before .before .before .before .before .before .before .before .before .before .before .before .before .before .loop .inv .0
+same-length-5 c = c .before .before .before .before .before .read-piece .kept .1 .0 ∙ c .before .before .before .before .before .before .before .before .before .before .before .before .before .before .before .before .loop .inv .0
 
 same-length-6 : tie.Need-same-length-6 Inv-loop μ-loop
 same-length-6 c = c .before .before .before .before .before .before .before .before .before .before .before .before .fill-on .kept .1 .1 .1 .0 ∙ c .before .before .before .before .before .before .before .before .before .before .before .before .before .before .before .before .loop .inv .1
