@@ -7,7 +7,6 @@ mod months;
 
 use conversion::Table;
 pub use lending::Lent;
-pub use lending::nothing;
 use replay::Out;
 use replay::Turn;
 use replay::Words;
@@ -19,7 +18,7 @@ struct Stepped {
     lent: Lent,
 }
 
-// The answer to a question, by its tag.
+// The answer to a question, by its tag. A tag that is none falls to the heavens, which know it not either: a question mark.
 fn answer_over(o: Out, out: &mut [u8], w: Words, table: Table, rows: &[u16], rules: &[u16]) -> Out {
     let tag = w.tag;
     match tag {
@@ -58,6 +57,7 @@ fn answer(o: Out, out: &mut [u8], w: Words, lent: Lent, rows: &[u16], rules: &[u
     o.word(out, b"?")
 }
 
+// A turn: the line lends or is answered, and the next line is read.
 fn step(
     t: Turn,
     lent: Lent,
@@ -79,6 +79,7 @@ fn step(
     }
 }
 
+// All turns, to the end of the input.
 fn run(
     first: Lent,
     rows: &mut [u16],

@@ -6,6 +6,7 @@ use replay::Out;
 use replay::Words;
 use replay::tags;
 
+// Whether the rules are accepted: 0 or 2.
 fn check_rules(o: Out, out: &mut [u8], numbers: &[u16]) -> Out {
     if rules::accepts_rules(numbers) {
         return o.number(out, 0);
@@ -44,6 +45,7 @@ fn asked(table: Table, rows: &[u16], rules: &[u16], w: Words, list: &mut [u16]) 
     festivals::festivals_on_ad(table, rows, rules, w.small(1), w.small(2), w.small(3), list)
 }
 
+// The answer and the buffer after it.
 fn put_asked(
     o: Out,
     out: &mut [u8],
@@ -57,7 +59,7 @@ fn put_asked(
     parts::put_list(counted, out, list)
 }
 
-// A day's list with its buffer, which holds 7 before.
+// A day's list, whose buffer has the asked length and holds 7 before. A line can ask for any length up to 65,535.
 fn list(o: Out, out: &mut [u8], w: Words, table: Table, rows: &[u16], rules: &[u16]) -> Out {
     let mut buffer = [7u16; 65535];
     let n = w.small(4) as usize;

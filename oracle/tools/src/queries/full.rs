@@ -171,3 +171,40 @@ pub fn lists(maker: &mut Maker) {
         maker.line("checkrules");
     }
 }
+
+const TAGS: [&str; 40] = [
+    "check", "checkrules", "bs", "ad", "len", "valid", "step", "day", "date", "jd", "npt", "deltat", "tt",
+    "sun", "moon", "elong", "tithi", "tithiof", "end", "starts", "events", "rise", "set", "kala", "nishita",
+    "clock", "minutes", "read", "listbs", "listad", "grid", "sin", "cos", "asin", "acos", "tan", "table",
+    "cells", "rules", "rule",
+];
+
+/// Words that no line takes, or few do.
+const ODD_WORDS: [&str; 10] =
+    ["01", "-0", "+1", "x", "", "4294967295", "4294967296", "0x41", "0X4142b42c80000000", "1.0"];
+
+fn some_word(maker: &mut Maker) -> String {
+    match maker.random.below(9) {
+        0 | 1 => maker.random.whole(0, 40).to_string(),
+        2 | 3 => maker.random.whole(1900, 2150).to_string(),
+        4 => maker.random.whole(-70_000, 70_000).to_string(),
+        5 => maker.random.one_of(&["0", "1", "65535", "65536"]).into(),
+        6 => bits_word(maker.random_instant()),
+        7 => bits_word(f64::from_bits(maker.random.bits())),
+        _ => maker.random.one_of(&ODD_WORDS).into(),
+    }
+}
+
+/// 60,000 lines of a tag and words of every kind, most of them out of form.
+pub fn words(maker: &mut Maker) {
+    for i in 0..60_000 {
+        if i % 500 == 0 {
+            maker.table(&owner_table());
+            maker.rules(&nepal_rules());
+        }
+        let tag = maker.random.one_of(&TAGS);
+        let count = maker.random.one_of(&[0, 1, 1, 2, 3, 3, 3, 4, 4, 4, 5, 7, 8, 13, 14, 16]);
+        let words: String = (0..count).map(|_| format!(" {}", some_word(maker))).collect();
+        maker.line(format_args!("{tag}{words}"));
+    }
+}

@@ -38,7 +38,7 @@ pub const SAMPLES: [Set; 8] = [
 ];
 
 /// The sets at full scale.
-pub const FULL: [Set; 9] = [
+pub const FULL: [Set; 10] = [
     ("dates", full::dates),
     ("instants", full::instants),
     ("angles", full::angles),
@@ -48,6 +48,7 @@ pub const FULL: [Set; 9] = [
     ("grids", full::grids),
     ("days", full::days),
     ("lists", full::lists),
+    ("words", full::words),
 ];
 
 /// The maker of a set, by `sample NAME` or `full NAME`.
