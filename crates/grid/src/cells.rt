@@ -1,44 +1,26 @@
 // A day's cell: twelve numbers.
 ghost use mathlib.Core.Path.{_≡_};
 ghost use Prim.Native.Nat.{_+_, _<_};
-ghost use Rattle.gregorian.specs.Calendar.{dateOf};
 ghost use Rattle.grid.specs.Cells.{one, same, cellWith};
 ghost use Rattle.grid.specs.Month.{dayOn};
 ghost use Rattle.grid.specs.Inner.{Dated};
 use conversion::BsDate;
+use festivals::day_numbered;
 use gregorian::Date;
-use gregorian::DateAnswer;
 use panchanga::lunar::Reading;
 use rules::lists::Day;
-
-// The Gregorian date of a day number that has one.
-pub fn ad_of(n: u32) -> Date
-    requires { ⌜ Dated n ⌝ }
-    ensures { λ r. ⌜ r ≡ dateOf n ⌝ }
-{
-    match Date::from_day_number(n) {
-        DateAnswer::Is(ad) => ad,
-        DateAnswer::NoSuchDate => Date {
-            year: 0,
-            month: 0,
-            day: 0,
-        },
-    }
-}
 
 // Day d, from 0, of a month whose first day has the number first.
 pub fn day_on(year: u16, month: u16, first: u32, d: u16) -> Day
     requires { ⌜ Dated (first + d) × (d < 32) ⌝ }
     ensures { λ r. ⌜ r ≡ dayOn year month first d ⌝ }
 {
-    let n = first + d as u32;
     let bs = BsDate {
         year,
         month,
         day: d + 1,
     };
-    let ad = ad_of(n);
-    Day { bs, ad, number: n }
+    day_numbered(bs, first + d as u32)
 }
 
 // Whether two records are the same date.

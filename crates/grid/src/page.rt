@@ -12,7 +12,6 @@ ghost use Rattle.grid.specs.Month.{gridSays};
 ghost use Rattle.grid.specs.Inner.{Planned, Roomy, anyMark, listAt, cellAt, shownBy, cellsOf, monthOf};
 use crate::GridAnswer;
 use crate::Month;
-use crate::cells::ad_of;
 use crate::cells::day_cell;
 use crate::cells::day_on;
 use gregorian::Date;
@@ -132,8 +131,10 @@ fn month_of(plan: Plan, cells: usize, festivals: usize) -> Month
     ensures { λ r. ⌜ r ≡ monthOf plan cells festivals ⌝ }
 {
     let days = plan.days;
-    let first = ad_of(plan.first);
-    let last = ad_of(plan.first + (days as u32 - 1));
+    let first_day = day_on(plan.year, plan.month, plan.first, 0);
+    let last_day = day_on(plan.year, plan.month, plan.first, days - 1);
+    let first = first_day.ad;
+    let last = last_day.ad;
     Month {
         days,
         first,

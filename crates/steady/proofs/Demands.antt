@@ -1,6 +1,6 @@
 -- The demands, each by the name under which it is proved. docs/PROMISES.md says them in words. Assumes nothing.
 
--- DEMAND 1: each public call of the engine meets its contract, on every input. A contract cites its definition; a refusal leaves every lent buffer as it was.
+-- DEMAND 1: each public call of the engine meets its contract, on every input, and a refusal leaves every lent buffer as it was
 pub use Rattle.gregorian.proofs.Date.new.Met.{met as date-new}
 pub use Rattle.gregorian.proofs.Date.day_number.Met.{met as day-number}
 pub use Rattle.gregorian.proofs.Date.weekday.Met.{met as weekday}
@@ -41,6 +41,7 @@ pub use Rattle.festivals.proofs.festivals_on.Met.{met as festivals-on}
 pub use Rattle.festivals.proofs.festivals_on_ad.Met.{met as festivals-on-ad}
 pub use Rattle.grid.proofs.step_month.Met.{met as step-month}
 pub use Rattle.grid.proofs.month_grid.Met.{met as month-grid}
+pub use Rattle.steady.proofs.Refusals.{list-left, month-left, starts-left}
 -- DEMAND 2: for every accepted table the BS dates and the table days match one to one, in order, and all else is refused with its number; a table that
 -- is not accepted answers nothing
 pub use Rattle.conversion.proofs.Theorems.{OneToOne, NoTable, one-to-one, no-table}

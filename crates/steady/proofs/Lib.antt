@@ -2,4 +2,5 @@ pub mod Stepping
 pub mod Steady
 pub mod Examples
 pub mod Once
+pub mod Refusals
 pub mod Demands

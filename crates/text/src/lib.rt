@@ -12,6 +12,7 @@ pub use reading::Cursor;
 pub use reading::Passed;
 pub use reading::Read;
 pub use reading::Signed;
+pub use reading::stands;
 pub use reading::start;
 pub use writing::put;
 pub use writing::put_decimal;

@@ -56,7 +56,7 @@ fn worth(b: u8) -> u64
 }
 
 // Whether the byte b stands at a place.
-fn stands(s: &[u8], at: usize, b: u8) -> bool
+pub fn stands(s: &[u8], at: usize, b: u8) -> bool
     ensures { λ r. ⌜ r ≡ starts b (drop at (now (s .entry))) ⌝ }
 {
     if at < s.len() { s[at] == b } else { false }

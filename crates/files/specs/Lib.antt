@@ -1,0 +1,2 @@
+-- What the contracts of `files` are written in.
+pub mod Line

@@ -1,0 +1,91 @@
+// The two data files of the engine, read into lent buffers: a year table and a list of rules. A line is judged as specs/Line.antt says. What the
+// system brings is outside every contract: the reading is safe and ends.
+mod names;
+mod problems;
+mod reading;
+mod row;
+
+use conversion::Table;
+pub use names::put_name;
+pub use problems::Problem;
+pub use problems::put_problem;
+pub use problems::report;
+use reading::Fault;
+use reading::Reading;
+
+// A table's first line and how many numbers its rows have, from the front of the lent buffer; or what is wrong.
+pub enum TableRead {
+    Is(Table, usize),
+    Not(Problem),
+}
+
+// How many numbers the rules have, from the front of the lent buffer; or what is wrong.
+pub enum RulesRead {
+    Are(usize),
+    Not(Problem),
+}
+
+// What is wrong with a file that was read, where something is.
+enum Wrong {
+    Is(Problem),
+    Nothing,
+}
+
+fn wrong_with(r: Reading, width: usize) -> Wrong {
+    let fault = r.fault;
+    let line = r.line;
+    match fault {
+        Fault::LongLine => Wrong::Is(Problem::LongLine(line)),
+        Fault::NoNumber => Wrong::Is(Problem::NoNumber(line)),
+        Fault::OtherCount => {
+            if r.awaits {
+                return Wrong::Is(Problem::NotFour(line));
+            }
+            if width == 13 {
+                return Wrong::Is(Problem::NotThirteen(line));
+            }
+            Wrong::Is(Problem::NotEight(line))
+        }
+        Fault::TooMany => Wrong::Is(Problem::TooMany(line)),
+        Fault::NotRead => Wrong::Is(Problem::NotRead),
+        Fault::Nothing => {
+            if r.awaits {
+                return Wrong::Is(Problem::NoLine);
+            }
+            Wrong::Nothing
+        }
+    }
+}
+
+// Reads the year table in a file: at most as many rows as the lent buffer has room for.
+pub fn read_table(path: &[u8], rows: &mut [u16]) -> TableRead {
+    let fd = os::open_read(path);
+    if fd < 0 {
+        return TableRead::Not(Problem::NotOpened);
+    }
+    let mut names = [0u8; 1];
+    let r = reading::read_all(fd, reading::first(true), 13, rows, &mut names);
+    libc::close(fd);
+    match wrong_with(r, 13) {
+        Wrong::Is(p) => TableRead::Not(p),
+        Wrong::Nothing => {
+            let table = r.table;
+            TableRead::Is(table, r.count)
+        }
+    }
+}
+
+// Reads the rules in a file, at most as many as the lent buffer has room for, and the name behind each: 64 bytes of `names` for a rule, and a shorter
+// name ends with a 0 where the buffer held zeros.
+pub fn read_rules(path: &[u8], rules: &mut [u16], names: &mut [u8]) -> RulesRead {
+    let fd = os::open_read(path);
+    if fd < 0 {
+        return RulesRead::Not(Problem::NotOpened);
+    }
+    let r = reading::read_all(fd, reading::first(false), 8, rules, names);
+    libc::close(fd);
+    match wrong_with(r, 8) {
+        Wrong::Is(p) => RulesRead::Not(p),
+        Wrong::Nothing => RulesRead::Are(r.count),
+    }
+}

@@ -1,0 +1,25 @@
+-- `lines::fill_on` is proved. Assumes nothing.
+use mathlib.Core.Path.{sym}
+use lib.Seq.{length-take-le}
+use borrow.Author.Needs.{needs}
+use Rattle.lines.proofs.fill_on.Statement.{statement}
+use Rattle.lines.proofs.fill_on.Tie as tie
+
+slice-aggregate-fill : tie.Need-slice-aggregate-fill
+slice-aggregate-fill c = sym (length-take-le (c .before .before .before .before .args .to) (c .before .before .before .before .args .piece .now) (c .before .if1 .taken))
+
+fill-requires : tie.Need-fill-requires
+fill-requires c κs = search needs
+
+same-length : tie.Need-same-length
+same-length c = search needs
+
+returns : tie.Need-returns
+returns c = search needs
+
+returns-2 : tie.Need-returns-2
+returns-2 c = search needs
+
+pub fill-on-spec : {M : Type 1} → statement M
+fill-on-spec =
+    tie.close (tie.spec slice-aggregate-fill fill-requires same-length returns returns-2)

@@ -1,0 +1,133 @@
+-- `lines::next_line` meets its contract: the steps fall. Assumes nothing.
+use Prim.Native.Nat.{_≤_}
+use mathlib.Core.Path.{_≡_, refl, _∙_}
+use native.Mathlib.Omega.{arith}
+use lib.ListN.{length}
+use borrow.Author.Needs.{needs}
+use Rattle.lines.proofs.next_line.Statement.{statement}
+use Rattle.lines.proofs.next_line.Tie as tie
+
+abbrev Inv-loop : tie.InvT-loop
+Inv-loop fd piece₀ line₀ held₀ left₀ from₀ to₀ piece line held left from to = (length piece ≡ length piece₀) × (length line ≡ length line₀) × (left ≤ left₀)
+
+abbrev μ-loop : tie.MeasureT-loop
+μ-loop fd piece₀ line₀ held₀ left₀ from₀ to₀ piece line held left from to = left
+
+nothing-requires : tie.Need-nothing-requires Inv-loop μ-loop
+nothing-requires c κs = search needs
+
+loop-holds : tie.Need-loop-holds Inv-loop μ-loop
+loop-holds c = (refl, refl, omega arith)
+
+sub-left : tie.Need-sub-left Inv-loop μ-loop
+sub-left c = search needs
+
+fill-on-requires : tie.Need-fill-on-requires Inv-loop μ-loop
+fill-on-requires c κs = search needs
+
+enum-known-h : tie.Need-enum-known-h Inv-loop μ-loop
+enum-known-h c = search needs
+
+handed-requires : tie.Need-handed-requires Inv-loop μ-loop
+handed-requires c κs = search needs
+
+same-length : tie.Need-same-length Inv-loop μ-loop
+same-length c = c .before .before .before .before .before .before .before .before .before .before .loop .inv .0
+
+same-length-2 : tie.Need-same-length-2 Inv-loop μ-loop
+same-length-2 c = c .before .before .before .before .before .before .fill-on .kept .1 .1 .1 .0 ∙ c .before .before .before .before .before .before .before .before .before .before .loop .inv .1
+
+returns : tie.Need-returns Inv-loop μ-loop
+returns c = search needs
+
+enum-known-h-2 : tie.Need-enum-known-h-2 Inv-loop μ-loop
+enum-known-h-2 c = search needs
+
+read-piece-requires : tie.Need-read-piece-requires Inv-loop μ-loop
+read-piece-requires c κs = search needs
+
+enum-known-n : tie.Need-enum-known-n Inv-loop μ-loop
+enum-known-n c = search needs
+
+loop-less : tie.Need-loop-less Inv-loop μ-loop
+loop-less c = search needs
+
+loop-again : tie.Need-loop-again Inv-loop μ-loop
+loop-again c = let l = c .before .before .before .before .before .before .before .before .before .before .before .before .before .before .before .before .loop in (c .before .before .before .before .before .read-piece .kept .1 .0 ∙ l .inv .0, c .before .before .before .before .before .before .before .before .before .before .before .before .fill-on .kept .1 .1 .1 .0 ∙ l .inv .1, omega arith)
+
+enum-told : tie.Need-enum-told Inv-loop μ-loop
+enum-told c = search needs
+
+last-requires : tie.Need-last-requires Inv-loop μ-loop
+last-requires c κs = search needs
+
+same-length-3 : tie.Need-same-length-3 Inv-loop μ-loop
+same-length-3 c = c .before .before .before .before .before .read-piece .kept .1 .0 ∙ c .before .before .before .before .before .before .before .before .before .before .before .before .before .before .before .before .loop .inv .0
+
+same-length-4 : tie.Need-same-length-4 Inv-loop μ-loop
+same-length-4 c = c .before .before .before .before .before .before .before .before .before .before .before .before .fill-on .kept .1 .1 .1 .0 ∙ c .before .before .before .before .before .before .before .before .before .before .before .before .before .before .before .before .loop .inv .1
+
+returns-2 : tie.Need-returns-2 Inv-loop μ-loop
+returns-2 c = search needs
+
+enum-told-2 : tie.Need-enum-told-2 Inv-loop μ-loop
+enum-told-2 c = search needs
+
+over-requires : tie.Need-over-requires Inv-loop μ-loop
+over-requires c κs = search needs
+
+same-length-5 : tie.Need-same-length-5 Inv-loop μ-loop
+same-length-5 c = c .before .before .before .before .before .read-piece .kept .1 .0 ∙ c .before .before .before .before .before .before .before .before .before .before .before .before .before .before .before .before .loop .inv .0
+
+same-length-6 : tie.Need-same-length-6 Inv-loop μ-loop
+same-length-6 c = c .before .before .before .before .before .before .before .before .before .before .before .before .fill-on .kept .1 .1 .1 .0 ∙ c .before .before .before .before .before .before .before .before .before .before .before .before .before .before .before .before .loop .inv .1
+
+returns-3 : tie.Need-returns-3 Inv-loop μ-loop
+returns-3 c = search needs
+
+over-requires-2 : tie.Need-over-requires-2 Inv-loop μ-loop
+over-requires-2 c κs = search needs
+
+same-length-7 : tie.Need-same-length-7 Inv-loop μ-loop
+same-length-7 c = c .before .before .loop .inv .0
+
+same-length-8 : tie.Need-same-length-8 Inv-loop μ-loop
+same-length-8 c = c .before .before .loop .inv .1
+
+returns-4 : tie.Need-returns-4 Inv-loop μ-loop
+returns-4 c = search needs
+
+pub next-line-spec : {M : Type 1} → statement M
+next-line-spec =
+    tie.close
+    (tie.spec
+    Inv-loop
+    μ-loop
+    nothing-requires
+    loop-holds
+    sub-left
+    fill-on-requires
+    enum-known-h
+    handed-requires
+    same-length
+    same-length-2
+    returns
+    enum-known-h-2
+    read-piece-requires
+    enum-known-n
+    loop-less
+    loop-again
+    enum-told
+    last-requires
+    same-length-3
+    same-length-4
+    returns-2
+    enum-told-2
+    over-requires
+    same-length-5
+    same-length-6
+    returns-3
+    over-requires-2
+    same-length-7
+    same-length-8
+    returns-4)

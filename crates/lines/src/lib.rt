@@ -1,0 +1,144 @@
+// What a descriptor brings, a line at a time: each line stands at the start of a lent buffer.
+ghost use mathlib.Core.Path.{_≡_};
+ghost use Prim.Native.Nat.{_-_, _≤_};
+use text::Filled;
+use text::Held;
+
+// How many steps are left, 0 where there is no line any more; the length of the line, and whether it was too long for the buffer, when its length
+// is 0; whether a read failed, or the steps were used up, before the input was over; and which bytes of the piece that was read last are still to
+// be taken in. A proved loop has to end, and nothing says that an input does: so the steps are counted down.
+pub struct Input {
+    pub left: u64,
+    pub len: usize,
+    pub long: bool,
+    pub failed: bool,
+    pub from: usize,
+    pub to: usize,
+}
+
+// What a read brought: bytes at the start of the piece, or nothing, since the input is over or the read failed.
+enum Came {
+    Bytes(usize),
+    Over,
+    Failed,
+}
+
+// Before the first line, with so many steps to go.
+pub fn start(steps: u64) -> Input
+    ensures { λ r. ⌜ r .left ≡ steps ⌝ }
+{
+    Input {
+        left: steps,
+        len: 0,
+        long: false,
+        failed: false,
+        from: 0,
+        to: 0,
+    }
+}
+
+fn read_piece(fd: i32, piece: &mut [u8]) -> Came {
+    let got = libc::read(fd, piece);
+    if got < 0 {
+        return Came::Failed;
+    }
+    if got == 0 {
+        return Came::Over;
+    }
+    Came::Bytes(io::count(got, piece))
+}
+
+// No line any more, at the input's end or before it.
+fn over(failed: bool) -> Input
+    ensures { λ r. ⌜ r .left ≤ 0 ⌝ }
+{
+    Input {
+        left: 0,
+        len: 0,
+        long: false,
+        failed,
+        from: 0,
+        to: 0,
+    }
+}
+
+// The line that is held. One that was too long for the buffer is handed over empty.
+fn handed(held: Held, left: u64, from: usize, to: usize) -> Input
+    ensures { λ r. ⌜ r .left ≤ left ⌝ }
+{
+    let long = held.skipping;
+    if long {
+        return Input {
+            left,
+            len: 0,
+            long,
+            failed: left == 0,
+            from,
+            to,
+        };
+    }
+    Input {
+        left,
+        len: held.kept,
+        long,
+        failed: left == 0,
+        from,
+        to,
+    }
+}
+
+// What is held at the end of the input: a last line needs no line feed.
+fn last(held: Held, left: u64) -> Input
+    ensures { λ r. ⌜ r .left ≤ left ⌝ }
+{
+    let skipping = held.skipping;
+    if skipping {
+        return handed(held, left, 0, 0);
+    }
+    if held.kept == 0 {
+        return over(false);
+    }
+    handed(held, left, 0, 0)
+}
+
+// More of a line from what is left of the piece.
+fn fill_on(piece: &[u8], from: usize, to: usize, line: &mut [u8], held: Held) -> Filled {
+    if to <= piece.len() {
+        return text::fill(&piece[..to], from, line, held);
+    }
+    Filled::Open(held)
+}
+
+// The next line of the input. Pieces and line are kept in the lent buffers. A read that fails ends the input.
+pub fn next_line(fd: i32, input: Input, piece: &mut [u8], line: &mut [u8]) -> Input
+    ensures { λ r. ⌜ r .left ≤ input .left - 1 ⌝ }
+{
+    let mut held = text::nothing();
+    let mut left = input.left;
+    let mut from = input.from;
+    let mut to = input.to;
+    while 0 < left {
+        left -= 1;
+        match fill_on(piece, from, to, line, held) {
+            Filled::Feed(h, next) => {
+                return handed(h, left, next, to);
+            }
+            Filled::Open(h) => {
+                held = h;
+            }
+        }
+        match read_piece(fd, piece) {
+            Came::Bytes(n) => {
+                from = 0;
+                to = n;
+            }
+            Came::Over => {
+                return last(held, left);
+            }
+            Came::Failed => {
+                return over(true);
+            }
+        }
+    }
+    over(true)
+}

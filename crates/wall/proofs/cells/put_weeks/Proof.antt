@@ -1,0 +1,56 @@
+-- `wall::cells::put_weeks` meets its contract: the weeks from the place reached are still to be written. Assumes nothing.
+use Prim.Native.Nat.{_+_, _*_, _≤_}
+use mathlib.Core.Path.{_≡_, refl, _∙_}
+use native.Mathlib.Omega.{arith}
+use lib.ListN.{length}
+use Rattle.wall.specs.Cells.{weeksFrom}
+use Rattle.wall.proofs.Going.{Going, stopped, written}
+use Rattle.wall.proofs.Weeks.{weeks-turn, weeks-end}
+use borrow.Author.Needs.{needs}
+use Rattle.wall.proofs.cells.put_weeks.Statement.{statement}
+use Rattle.wall.proofs.cells.put_weeks.Tie as tie
+
+abbrev Inv-loop : tie.InvT-loop
+Inv-loop out₀ at cells weeks next₀ i₀ left₀ out next i left = (length out ≡ length out₀) × (i + 7 * left ≤ 1785) × Going out₀ at (weeksFrom cells 0 weeks) out next (weeksFrom cells i left)
+
+abbrev μ-loop : tie.MeasureT-loop
+μ-loop out₀ at cells weeks next₀ i₀ left₀ out next i left = left
+
+loop-holds : tie.Need-loop-holds Inv-loop μ-loop
+loop-holds c = (refl, search needs, λ after end w. w)
+
+put-week-requires : tie.Need-put-week-requires Inv-loop μ-loop
+put-week-requires c κs = search needs
+
+add-i : tie.Need-add-i Inv-loop μ-loop
+add-i c = search needs
+
+sub-left : tie.Need-sub-left Inv-loop μ-loop
+sub-left c = search needs
+
+loop-less : tie.Need-loop-less Inv-loop μ-loop
+loop-less c = search needs
+
+loop-again : tie.Need-loop-again Inv-loop μ-loop
+loop-again c = let l = c .before .before .before .before .before .loop in (c .before .before .put-week .kept .0 ∙ l .inv .0, omega arith, written (l .inv .2) (c .before .before .put-week .ensures) _ (weeks-turn (c .before .before .before .before .before .before .before .before .args .cells .now) (l .i) (l .left) (c .before .before .before .before .loop-test .taken)))
+
+same-length : tie.Need-same-length Inv-loop μ-loop
+same-length c = c .before .loop .inv .0
+
+returns : tie.Need-returns Inv-loop μ-loop
+returns c = let l = c .before .loop in stopped (l .inv .2) (weeks-end (c .before .before .before .before .args .cells .now) (l .i) (l .left) (c .loop-test .left))
+
+pub put-weeks-spec : {M : Type 1} → statement M
+put-weeks-spec =
+    tie.close
+    (tie.spec
+    Inv-loop
+    μ-loop
+    loop-holds
+    put-week-requires
+    add-i
+    sub-left
+    loop-less
+    loop-again
+    same-length
+    returns)

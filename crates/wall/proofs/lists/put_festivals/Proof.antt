@@ -1,0 +1,56 @@
+-- `wall::lists::put_festivals` meets its contract: the cells from the place reached are still to be written. Assumes nothing.
+use Prim.Native.Nat.{_+_, _≤_}
+use mathlib.Core.Path.{_≡_, refl, _∙_}
+use native.Mathlib.Omega.{arith}
+use lib.ListN.{length}
+use Rattle.wall.specs.Lists.{festivalsFrom}
+use Rattle.wall.proofs.Going.{Going, stopped, written}
+use Rattle.wall.proofs.Counts.{festivals-turn, festivals-end}
+use borrow.Author.Needs.{needs}
+use Rattle.wall.proofs.lists.put_festivals.Statement.{statement}
+use Rattle.wall.proofs.lists.put_festivals.Tie as tie
+
+abbrev Inv-loop : tie.InvT-loop
+Inv-loop out₀ at rules names cells festivals n next₀ i₀ left₀ out next i left = (length out ≡ length out₀) × (i + left ≤ 4096) × Going out₀ at (festivalsFrom rules names cells festivals 0 n) out next (festivalsFrom rules names cells festivals i left)
+
+abbrev μ-loop : tie.MeasureT-loop
+μ-loop out₀ at rules names cells festivals n next₀ i₀ left₀ out next i left = left
+
+loop-holds : tie.Need-loop-holds Inv-loop μ-loop
+loop-holds c = (refl, search needs, λ after end w. w)
+
+put-festivals-on-requires : tie.Need-put-festivals-on-requires Inv-loop μ-loop
+put-festivals-on-requires c κs = search needs
+
+add-i : tie.Need-add-i Inv-loop μ-loop
+add-i c = search needs
+
+sub-left : tie.Need-sub-left Inv-loop μ-loop
+sub-left c = search needs
+
+loop-less : tie.Need-loop-less Inv-loop μ-loop
+loop-less c = search needs
+
+loop-again : tie.Need-loop-again Inv-loop μ-loop
+loop-again c = let a = c .before .before .before .before .before .before .before .before .before .before .before .args in let l = c .before .before .before .before .before .loop in (c .before .before .put-festivals-on .kept .0 ∙ l .inv .0, omega arith, written (l .inv .2) (c .before .before .put-festivals-on .ensures) _ (festivals-turn (a .rules .now) (a .names .now) (a .cells .now) (a .festivals .now) (l .i) (l .left) (c .before .before .before .before .loop-test .taken)))
+
+same-length : tie.Need-same-length Inv-loop μ-loop
+same-length c = c .before .loop .inv .0
+
+returns : tie.Need-returns Inv-loop μ-loop
+returns c = let a = c .before .before .before .before .before .before .before .args in let l = c .before .loop in stopped (l .inv .2) (festivals-end (a .rules .now) (a .names .now) (a .cells .now) (a .festivals .now) (l .i) (l .left) (c .loop-test .left))
+
+pub put-festivals-spec : {M : Type 1} → statement M
+put-festivals-spec =
+    tie.close
+    (tie.spec
+    Inv-loop
+    μ-loop
+    loop-holds
+    put-festivals-on-requires
+    add-i
+    sub-left
+    loop-less
+    loop-again
+    same-length
+    returns)

@@ -1,0 +1,61 @@
+-- `wall::lists::put_lines` meets its contract: the festivals from the place reached are still to be written. Assumes nothing.
+use Prim.Native.Nat.{_+_, _≤_}
+use mathlib.Core.Path.{_≡_, refl, _∙_}
+use native.Mathlib.Omega.{arith}
+use lib.ListN.{length}
+use Rattle.text.proofs.Writes.{then}
+use Rattle.wall.specs.Lists.{linesFrom}
+use Rattle.wall.proofs.Going.{Going, stopped, written}
+use Rattle.wall.proofs.Counts.{lines-turn, lines-end}
+use borrow.Author.Needs.{needs}
+use Rattle.wall.proofs.lists.put_lines.Statement.{statement}
+use Rattle.wall.proofs.lists.put_lines.Tie as tie
+
+abbrev Inv-loop : tie.InvT-loop
+Inv-loop out₀ at rules names cells festivals i from n next₀ f₀ left₀ out next f left = (length out ≡ length out₀) × (f + left ≤ 299065535) × Going out₀ at (linesFrom rules names cells festivals i from n) out next (linesFrom rules names cells festivals i f left)
+
+abbrev μ-loop : tie.MeasureT-loop
+μ-loop out₀ at rules names cells festivals i from n next₀ f₀ left₀ out next f left = left
+
+loop-holds : tie.Need-loop-holds Inv-loop μ-loop
+loop-holds c = (refl, search needs, λ after end w. w)
+
+put-day-of-requires : tie.Need-put-day-of-requires Inv-loop μ-loop
+put-day-of-requires c κs = search needs
+
+put-festival-requires : tie.Need-put-festival-requires Inv-loop μ-loop
+put-festival-requires c κs = search needs
+
+add-f : tie.Need-add-f Inv-loop μ-loop
+add-f c = search needs
+
+sub-left : tie.Need-sub-left Inv-loop μ-loop
+sub-left c = search needs
+
+loop-less : tie.Need-loop-less Inv-loop μ-loop
+loop-less c = search needs
+
+loop-again : tie.Need-loop-again Inv-loop μ-loop
+loop-again c = let a = c .before .before .before .before .before .before .before .before .before .before .before .before .before .before .before .args in let l = c .before .before .before .before .before .before .before .before .before .loop in (c .before .before .put-festival .kept .0 ∙ c .before .before .before .before .before .before .put-day-of .kept .0 ∙ l .inv .0, omega arith, written (l .inv .2) (then (c .before .before .before .before .before .before .put-day-of .ensures) (c .before .before .put-festival .ensures)) _ (lines-turn (a .rules .now) (a .names .now) (a .cells .now) (a .festivals .now) (a .i) (l .f) (l .left) (c .before .before .before .before .before .before .before .before .loop-test .taken)))
+
+same-length : tie.Need-same-length Inv-loop μ-loop
+same-length c = c .before .loop .inv .0
+
+returns : tie.Need-returns Inv-loop μ-loop
+returns c = let a = c .before .before .before .before .before .before .before .args in let l = c .before .loop in stopped (l .inv .2) (lines-end (a .rules .now) (a .names .now) (a .cells .now) (a .festivals .now) (a .i) (l .f) (l .left) (c .loop-test .left))
+
+pub put-lines-spec : {M : Type 1} → statement M
+put-lines-spec =
+    tie.close
+    (tie.spec
+    Inv-loop
+    μ-loop
+    loop-holds
+    put-day-of-requires
+    put-festival-requires
+    add-f
+    sub-left
+    loop-less
+    loop-again
+    same-length
+    returns)

@@ -1,0 +1,64 @@
+-- A month's cells of twelve numbers in weeks from Sunday, each ten columns wide and four lines high. Assumes nothing.
+use Prim.Native.Nat.{ℕ, zero, suc, _+_, _*_}
+use mathlib.Core.Bool.{cond}
+use mathlib.Core.List.{List, [], _∷_, _++_}
+use lib.Dec.{eqb}
+use lib.ListN.{getD, replicate}
+use Rattle.wall.specs.Columns.{two, clock, shortDate}
+
+-- number k of cell i: BS day; Gregorian year, month, day; weekday; today; holiday; tithi; tithi end; sunrise; sunset; festival count
+abbrev pub num : List ℕ → ℕ → ℕ → ℕ
+num cells i k = getD cells (i * 12 + k) 0
+
+-- a text where a number is not 0, another where it is
+unfoldable pub marked : ℕ → List ℕ → List ℕ → List ℕ
+marked n mark blank = cond (eqb n 0) blank mark
+
+-- ---- the four lines of a day's cell
+
+-- 29* Nov 15: the BS day, the mark of a holiday, the Gregorian day
+unfoldable pub dayLine : List ℕ → ℕ → List ℕ
+dayLine cells i = two (num cells i 0) ++ (marked (num cells i 6) (42 ∷ 32 ∷ []) (32 ∷ 32 ∷ []) ++ shortDate (num cells i 2) (num cells i 3))
+
+-- tithi  6<<: the tithi, the mark of today
+unfoldable pub tithiLine : List ℕ → ℕ → List ℕ
+tithiLine cells i =
+    (116 ∷ 105 ∷ 116 ∷ 104 ∷ 105 ∷ 32 ∷ [])
+    ++ (two (num cells i 7) ++ marked (num cells i 5) (60 ∷ 60 ∷ []) (32 ∷ 32 ∷ []))
+
+-- rise 06:26 and set  17:12: a minute of the day behind a word
+unfoldable pub sunLine : List ℕ → ℕ → List ℕ
+sunLine label minute = label ++ clock minute
+
+-- line k of a cell, counted from 0; padding, whose BS day is 0, is blank
+unfoldable pub piece : ℕ → List ℕ → ℕ → List ℕ
+piece k cells i =
+    cond (eqb (num cells i 0) 0) (replicate 10 32)
+    (cond (eqb k 0) (dayLine cells i)
+    (cond (eqb k 1) (tithiLine cells i)
+    (cond (eqb k 2) (sunLine (114 ∷ 105 ∷ 115 ∷ 101 ∷ 32 ∷ []) (num cells i 9))
+    (sunLine (115 ∷ 101 ∷ 116 ∷ 32 ∷ 32 ∷ []) (num cells i 10)))))
+
+-- ---- weeks
+
+-- line k of n cells from i on, with a bar (124) before each and at the end
+unfoldable pub rowFrom : ℕ → List ℕ → ℕ → ℕ → List ℕ
+rowFrom k cells i zero = 124 ∷ 10 ∷ []
+rowFrom k cells i (suc n) = ((124 ∷ []) ++ piece k cells i) ++ rowFrom k cells (i + 1) n
+
+-- +----------+ seven times over
+abbrev pub borderFrom : ℕ → List ℕ
+borderFrom zero = 43 ∷ 10 ∷ []
+borderFrom (suc n) = (43 ∷ replicate 10 45) ++ borderFrom n
+
+unfoldable pub border : List ℕ
+border = borderFrom 7
+
+-- the four lines of the seven cells from i on, and the line below them
+unfoldable pub week : List ℕ → ℕ → List ℕ
+week cells i = rowFrom 0 cells i 7 ++ (rowFrom 1 cells i 7 ++ (rowFrom 2 cells i 7 ++ (rowFrom 3 cells i 7 ++ border)))
+
+-- so many weeks
+unfoldable pub weeksFrom : List ℕ → ℕ → ℕ → List ℕ
+weeksFrom cells i zero = []
+weeksFrom cells i (suc n) = week cells i ++ weeksFrom cells (i + 7) n

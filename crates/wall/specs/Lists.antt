@@ -1,0 +1,40 @@
+-- A line for each festival of a day, and of a month. Assumes nothing.
+use Prim.Native.Nat.{ℕ, zero, suc, _+_, _*_}
+use mathlib.Core.List.{List, [], _∷_, _++_}
+use lib.ListN.{getD}
+use Rattle.paper.specs.Sums.{sum}
+use Rattle.wall.specs.Words.{word, weekdays}
+use Rattle.wall.specs.Names.{nameText}
+use Rattle.wall.specs.Columns.{space, two, shortDate}
+use Rattle.wall.specs.Cells.{num, marked}
+
+-- 29  Sun Nov 15 and two spaces: the day of a cell
+unfoldable pub dayOf : List ℕ → ℕ → List ℕ
+dayOf cells i =
+    two (num cells i 0) ++ ((32 ∷ 32 ∷ []) ++ (word 3 (num cells i 4) weekdays
+    ++ (space ++ (shortDate (num cells i 2) (num cells i 3) ++ (32 ∷ 32 ∷ [])))))
+
+-- how many festivals the cells before cell i have: there the festivals of its day begin
+unfoldable pub before : List ℕ → ℕ → ℕ
+before cells i = sum (λ k. num cells k 11) i
+
+-- the name of festival f, and whether it is a holiday: (holiday)
+unfoldable pub festivalText : List ℕ → List ℕ → List ℕ → ℕ → List ℕ
+festivalText rules names festivals f =
+    nameText 50 (getD festivals (f * 2) 0) rules names
+    ++ marked (getD festivals (f * 2 + 1) 0) (32 ∷ 40 ∷ 104 ∷ 111 ∷ 108 ∷ 105 ∷ 100 ∷ 97 ∷ 121 ∷ 41 ∷ 10 ∷ []) (10 ∷ [])
+
+module _ (rules names cells festivals : List ℕ) where
+  -- a line for each of n festivals of cell i, from festival f on
+  unfoldable pub linesFrom : ℕ → ℕ → ℕ → List ℕ
+  linesFrom i f zero = []
+  linesFrom i f (suc n) = (dayOf cells i ++ festivalText rules names festivals f) ++ linesFrom i (f + 1) n
+
+  -- the festivals of cell i
+  unfoldable pub festivalsOn : ℕ → List ℕ
+  festivalsOn i = linesFrom i (before cells i) (num cells i 11)
+
+  -- of n cells from i on
+  unfoldable pub festivalsFrom : ℕ → ℕ → List ℕ
+  festivalsFrom i zero = []
+  festivalsFrom i (suc n) = festivalsOn i ++ festivalsFrom (i + 1) n
