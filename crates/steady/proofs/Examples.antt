@@ -1,4 +1,4 @@
--- The examples of document 01 that are marked P hold; and its month 100/2 in weeks. Assumes nothing.
+-- The examples of document 01 that are marked P hold; demand 3 holds of its table; and its month 100/2 in weeks. Assumes nothing.
 use Prim.Native.Nat.{ℕ, _-_}
 use mathlib.Core.Path.{_≡_, refl, ap, _∙_}
 use mathlib.Core.Bool.{true}
@@ -23,8 +23,10 @@ use Rattle.grid.specs.Month.{Grid, gridOf}
 use Rattle.grid.specs.Kathmandu.{monthUnder}
 use Rattle.grid.specs.Step.{absolute, wholeYears, monthsLeft, monthAt, stepMonth}
 use Rattle.grid.proofs.Theorems.{InWeeks, laid-out, month-weeks}
-use Rattle.steady.specs.Own.{ownTable, ownRows, own}
+use Rattle.steady.specs.Own.{ownTable, firstRow, secondRow, ownRows, own}
 use Rattle.steady.specs.Examples.{Says, AllSay, is, examples}
+use Rattle.steady.specs.Steady.{Steady}
+use Rattle.steady.proofs.Steady.{steady}
 
 good : own .good ≡ true
 unfolding accepted rowOk all sum isDate dayNumber
@@ -59,6 +61,15 @@ checked = (
     ),
   ),
 )
+
+-- ---- the own table and its first row alone: both are accepted, so demand 3 holds of them
+
+first-good : accepted ownTable firstRow ≡ true
+unfolding accepted rowOk all sum isDate dayNumber
+first-good = refl
+
+pub own-steady : (rules : List ℕ) (today : Date) → Steady ownTable firstRow secondRow rules today
+own-steady rules today = steady ownTable firstRow secondRow rules today first-good good
 
 -- ---- month 100/2 of the own table, whatever its lists and readings are
 

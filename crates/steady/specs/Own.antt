@@ -8,10 +8,14 @@ use Rattle.conversion.specs.Flat.{flat}
 abbrev pub ownTable : Table
 ownTable = record { «first_year» = 100; year = 1950; month = 1; day = 1 }
 
+abbrev pub firstRow : List ℕ
+firstRow = 31 ∷ 31 ∷ 32 ∷ 31 ∷ 31 ∷ 31 ∷ 30 ∷ 29 ∷ 30 ∷ 29 ∷ 30 ∷ 30 ∷ 365 ∷ []
+
+abbrev pub secondRow : List ℕ
+secondRow = 31 ∷ 31 ∷ 32 ∷ 32 ∷ 31 ∷ 30 ∷ 30 ∷ 29 ∷ 30 ∷ 29 ∷ 30 ∷ 31 ∷ 366 ∷ []
+
 abbrev pub ownRows : List ℕ
-ownRows =
-    (31 ∷ 31 ∷ 32 ∷ 31 ∷ 31 ∷ 31 ∷ 30 ∷ 29 ∷ 30 ∷ 29 ∷ 30 ∷ 30 ∷ 365 ∷ [])
-    ++ (31 ∷ 31 ∷ 32 ∷ 32 ∷ 31 ∷ 30 ∷ 30 ∷ 29 ∷ 30 ∷ 29 ∷ 30 ∷ 31 ∷ 366 ∷ [])
+ownRows = firstRow ++ secondRow
 
 abbrev pub own : Calendar
 own = flat ownTable ownRows

@@ -1,6 +1,7 @@
 -- Each refusal in its order, and the month by its plan. Assumes nothing.
 use borrow.Author.Needs.{needs}
 use borrow.Author.Tests.{not-true, not-false}
+use Prim.Native.Nat.{ℕ}
 use mathlib.Core.Path.{_≡_, sym, ap, _∙_}
 use mathlib.Core.Bool.{true}
 use denote.Ref.{now}
@@ -8,7 +9,7 @@ use lib.ListN.{length}
 use Rattle.paper.specs.Answers.{Answer, refused}
 use Rattle.paper.proofs.Answers.{said}
 use Rattle.gregorian.specs.Answers.{numberSays, real}
-use Rattle.conversion.specs.Calendar.{Calendar}
+use Rattle.conversion.specs.Calendar.{Calendar, monthLen}
 use Rattle.conversion.specs.Flat.{flat}
 use Rattle.conversion.specs.Answers.{daysSays}
 use Rattle.rules.specs.Rules.{acceptedRules}
@@ -30,8 +31,11 @@ asked s =
     let a = s .args in
     monthUnder (cal s) (now (a .rules)) (a .today) (a .year) (a .month) (length (now (a .cells))) (length (now (a .festivals)))
 
--- a refusal that is the one asked for
-refuses : (s : tie.Start) (k : _) → asked s ≡ refused k → Says (asked s) (now (s .args .cells)) (now (s .args .festivals)) (refused k) (now (s .args .cells)) (now (s .args .festivals))
+-- a refusal is said, and both buffers stay
+abbrev Refuses : tie.Start → ℕ → Type 0
+Refuses s k = Says (asked s) (now (s .args .cells)) (now (s .args .festivals)) (refused k) (now (s .args .cells)) (now (s .args .festivals))
+
+refuses : (s : tie.Start) (k : ℕ) → asked s ≡ refused k → Refuses s k
 refuses s k e = says-refused (asked s) k _ _ e
 
 abbrev start : tie.After-accepts → tie.Start
@@ -46,6 +50,15 @@ ok c = sym (c .before .accepts-rules .ensures) ∙ not-false (c .before .accepts
 is-date : (c : tie.After-enum-told) → real (start (c .before .before .before .before .before .before) .args .today) ≡ true
 is-date c =
     its-number _ _ (said numberSays (c .enum-told .given .1) (c .before .before .day-number .ensures)) .0
+
+-- the month has no length
+no-month : (l : tie.After-month-days) (k : ℕ)
+    → let s = start (l .before .before .before .before .before .before .before) in
+    refused k ≡ monthLen (cal s) (s .args .year) (s .args .month) → Refuses s k
+no-month l k e =
+    let j = l .before .before .before .before in
+    let s = start (j .before .before .before) in
+    refuses s k (no-length (cal s) _ _ _ _ _ _ _ _ (ok j) (is-date (l .before)) k e)
 
 -- ---- the needs
 
@@ -114,22 +127,12 @@ write-month-requires c κs =
 
 returns-4 : tie.Need-returns-4
 returns-4 c =
-    let l = c .before .before in
-    let t = l .before in
-    let j = t .before .before .before in
-    let i = j .before .before in
-    let s = start (i .before) in
-    let r = refuses s 4 (no-length (cal s) _ _ _ _ _ _ _ _ (ok j) (is-date t) 4 (said daysSays (c .enum-told3 .given .1) (l .month-days .ensures))) in
+    let r = no-month (c .before .before) 4 (said daysSays (c .enum-told3 .given .1) (c .before .before .month-days .ensures)) in
     (r .answer, (r .first, r .second))
 
 returns-5 : tie.Need-returns-5
 returns-5 c =
-    let l = c .before .before in
-    let t = l .before in
-    let j = t .before .before .before in
-    let i = j .before .before in
-    let s = start (i .before) in
-    let r = refuses s 5 (no-length (cal s) _ _ _ _ _ _ _ _ (ok j) (is-date t) 5 (said daysSays (c .enum-told4 .given .1) (l .month-days .ensures))) in
+    let r = no-month (c .before .before) 5 (said daysSays (c .enum-told4 .given .1) (c .before .before .month-days .ensures)) in
     (r .answer, (r .first, r .second))
 
 same-length : tie.Need-same-length

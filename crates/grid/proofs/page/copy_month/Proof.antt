@@ -38,9 +38,10 @@ same-length-2 c = search needs
 
 returns-2 : tie.Need-returns-2
 returns-2 c =
-    let a = c .before .before .before .before .before .before .before .before .before .before .before .before .before .before .before .args in
+    let filled = c .before .before .before .before .before in
+    let a = filled .before .before .before .before .before .before .before .before .before .before .args in
     let g = gridBy (a .rules .now) (a .plan) in
-    let n = c .before .before .before .before .before .fill .ensures .1 .1 .0 ∙ ap length (sym (festivals-are (a .rules .now) (a .plan))) in
+    let n = filled .fill .ensures .1 .1 .0 ∙ ap length (sym (festivals-are (a .rules .now) (a .plan))) in
     let h = no-festivals g (length (a .cells .now)) (length (a .festivals .now)) (omega (arith, c .if2 .taken, n, festival-numbers-length (a .rules .now) (a .plan))) in
     let r = says-refused _ 9 (a .cells .now) (a .festivals .now) h in
     (r .answer, (r .first, r .second))
@@ -74,22 +75,29 @@ same-length-6 c = search needs
 
 returns-3 : tie.Need-returns-3
 returns-3 c =
-    let s = c .before .before .before .before .before .before .before .before .before .before .before .before .before .before .before .before .before .before .before .before .before .before .before .before .before .before in
+    let second = c .before .before .before in
+    let first = second .before .before .before .before .before in
+    let roomy = first .before .before .before in
+    let filled = roomy .before .before .before .before .before in
+    let wide = filled .before .before .before in
+    let counted = wide .before in
+    let s = counted .before .before .before .before .before .before in
     let a = s .args in
     let rules = a .rules .now in
     let p = a .plan in
     let g = gridBy rules p in
-    let e = c .before .before .before .before .before .before .before .before .before .before .before .before .before .before .before .before .before .before .before .before .cell-count .ensures in
-    let f = c .before .before .before .before .before .before .before .before .before .before .before .before .before .before .before .before .fill .ensures in
+    let e = counted .cell-count .ensures in
+    let f = filled .fill .ensures in
     let n = f .1 .1 .0 ∙ ap length (sym (festivals-are rules p)) in
-    let room : length (cellNumbers g) ≤ length (a .cells .now) = omega (arith, c .before .before .before .before .before .before .before .before .before .before .before .before .before .before .before .before .before .before .before .if1 .left, e, cell-numbers-length rules p) in
-    let space : length (festivalNumbers g) ≤ length (a .festivals .now) = omega (arith, c .before .before .before .before .before .before .before .before .before .before .before .if2 .left, n, festival-numbers-length rules p) in
+    let room : length (cellNumbers g) ≤ length (a .cells .now) = omega (arith, wide .if1 .left, e, cell-numbers-length rules p) in
+    let space : length (festivalNumbers g) ≤ length (a .festivals .now) = omega (arith, roomy .if2 .left, n, festival-numbers-length rules p) in
     let h = fits g (length (a .cells .now)) (length (a .festivals .now)) room space in
-    let page = c .before .before .before .before .before .before .before .before .before .before .before .before .before .before .before .before .fill .last .1 .1 .0 in
+    let page = filled .fill .last .1 .1 .0 in
+    let lists = filled .fill .last .1 .1 .1 .0 in
     let cells-front = ap (λ (k : ℕ). take (k * 12) page) e ∙ page-front rules p (a .page .now) page (s .pre .1 .1) (f .0) (omega (arith, s .pre .1 .0)) in
-    let festivals-front = lists-front rules p (a .lists .now) (c .before .before .before .before .before .before .before .before .before .before .before .before .before .before .before .before .fill .last .1 .1 .1 .0) (c .before .before .before .before .before .before .before .before .before .before .before .before .before .before .before .before .fill .result) (f .1 .0) (f .1 .1 .0) (omega (arith, f .1 .1 .1, s .pre .1 .0 .1 .festivals)) in
+    let festivals-front = lists-front rules p (a .lists .now) lists (filled .fill .result) (f .1 .0) (f .1 .1 .0) (omega (arith, f .1 .1 .1, s .pre .1 .0 .1 .festivals)) in
     let r = says-grid _ g (a .cells .now) (a .festivals .now) _ _ (c .month-of .result) h (month-is rules p _ _ _ (c .month-of .ensures) e n) cells-front festivals-front room space in
-    (r .answer, (c .before .before .before .before .before .before .before .before .put-front .ensures ∙ r .first, c .before .before .before .put-front2 .ensures ∙ r .second))
+    (r .answer, (first .put-front .ensures ∙ r .first, second .put-front2 .ensures ∙ r .second))
 
 pub copy-month-spec : {M : Type 1} → statement M
 copy-month-spec =

@@ -34,9 +34,9 @@ cast-day-cell c = search needs
 
 day-cell-requires : tie.Need-day-cell-requires
 day-cell-requires c κs =
-    let s = c .before .before .before .before .before .before .before .before .before .before .before in
-    let p = s .pre .1 .0 in
-    let e = ap (λ (q : Day). q .number) (c .before .before .before .before .before .before .before .day-on .ensures) in
+    let day = c .before .before .before .before .before .before .before in
+    let p = day .before .before .before .before .pre .1 .0 in
+    let e = ap (λ (q : Day). q .number) (day .day-on .ensures) in
     record { from = omega (arith, e, p .0 .from); to = omega (arith, e, p) }
 
 lead-of-requires : tie.Need-lead-of-requires
@@ -64,17 +64,24 @@ same-length-2 c = search needs
 
 returns : tie.Need-returns
 returns c =
-    let s = c .before .before .before .before .before .before .before .before .before .before .before .before .before .before .before .before .before .before in
+    let stored = c .before .before in
+    let led = stored .before .before in
+    let made = led .before .before in
+    let read = made .before in
+    let marked = read .before in
+    let listed = marked .before .before .before .before in
+    let day = listed .before .before in
+    let s = day .before .before .before .before in
     let a = s .args in
     let list = listFor (a .rules .now) (a .plan) in
-    let q = c .before .before .before .before .before .before .before .before .before .before .before .before .before .before .day-on .result in
-    let e = c .before .before .before .before .before .before .before .before .before .before .before .before .before .before .day-on .ensures in
-    let p = c .before .before .before .before .before .before .before .before .before .before .before .before .put-day in
+    let q = day .day-on .result in
+    let e = day .day-on .ensures in
+    let p = listed .put-day in
     let t = shown (list q) (a .lists .now) (p .last .1 .1 .1 .1 .0) (a .at) (p .result) (p .ensures .0) (p .ensures .1 .0) (omega (arith, p .ensures .1 .1, s .pre .1)) in
-    let k = cell-of (a .plan .today) q (list q) (readingOn q) (c .before .before .before .before .before .before .before .reading-of .result) _ _ (t .0) (c .before .before .before .before .before .before .before .before .any-holiday .ensures ∙ t .1) (c .before .before .before .before .before .before .before .reading-of .ensures) in (
-      c .before .before .put .ensures
-          ∙ sets-same (a .page .now) _ _ _ _ (ap (λ (z : ℕ). (z + a .d) * 12) (c .before .before .before .before .lead-of .ensures))
-          (c .before .before .before .before .before .before .day-cell .ensures ∙ k ∙ ap (λ (x : Day). dayCell (a .plan .today) x (list x) (readingOn x)) e),
+    let k = cell-of (a .plan .today) q (list q) (readingOn q) (read .reading-of .result) _ _ (t .0) (marked .any-holiday .ensures ∙ t .1) (read .reading-of .ensures) in (
+      stored .put .ensures
+          ∙ sets-same (a .page .now) _ _ _ _ (ap (λ (z : ℕ). (z + a .d) * 12) (led .lead-of .ensures))
+          (made .day-cell .ensures ∙ k ∙ ap (λ (x : Day). dayCell (a .plan .today) x (list x) (readingOn x)) e),
       (
         p .ensures .0 ∙ ap (λ (x : Day). sets (a .lists .now) (a .at * 2) (numbers (list x))) e,
         (p .ensures .1 .0 ∙ ap (λ (x : Day). a .at + length (list x)) e, p .ensures .1 .1),

@@ -1,0 +1,311 @@
+/*
+ * Answers the line language of oracle/README.md by the calls of panel.h: a table and rules are lent by lines, each question is a line and so is each answer.
+ * So the calls from C can be held against the two Rust oracles. examples/lines builds it and asks the stored questions.
+ */
+#define _POSIX_C_SOURCE 200809L
+#include "panel.h"
+
+#include <inttypes.h>
+#include <stdio.h>
+#include <stdlib.h>
+#include <string.h>
+
+/* ---- what lines have lent */
+
+enum { MOST = 65535, FILL = 7 };
+
+static uint16_t head[4], rows[MOST], rules[MOST];
+static size_t rows_len, rules_len;
+
+#define TABLE head[0], head[1], head[2], head[3], rows, rows_len
+#define RULES rules, rules_len
+
+/* ---- the words of a question */
+
+struct question {
+    const char *rest, *end; /* what is still to be read; past the end where that is nothing */
+    uint32_t number[16];
+    double real[2];
+    int32_t step;
+};
+
+/* The next word, of no letter where there is none. */
+static size_t next_word(struct question *q, const char **from)
+{
+    const char *space;
+    *from = q->rest;
+    if (q->rest > q->end) return 0;
+    space = memchr(q->rest, ' ', (size_t)(q->end - q->rest));
+    if (!space) space = q->end;
+    q->rest = space + 1;
+    return (size_t)(space - *from);
+}
+
+/* A decimal number without leading zeros, from 0 to most, or -1. */
+static int64_t natural(const char *digits, size_t length, int64_t most)
+{
+    int64_t value = 0;
+    if (length < 1 || length > 10 || (length > 1 && digits[0] == '0')) return -1;
+    for (size_t i = 0; i < length; i++) {
+        if (digits[i] < '0' || digits[i] > '9') return -1;
+        value = 10 * value + (digits[i] - '0');
+    }
+    return value <= most ? value : -1;
+}
+
+static int read_number(struct question *q, uint32_t *to, int64_t most)
+{
+    const char *from;
+    size_t length = next_word(q, &from);
+    int64_t value = natural(from, length, most);
+    *to = (uint32_t)value;
+    return value >= 0;
+}
+
+static int read_step(struct question *q)
+{
+    const char *from;
+    size_t length = next_word(q, &from);
+    int minus = length > 0 && *from == '-';
+    int64_t value = natural(from + minus, length - (size_t)minus, minus ? 2147483648 : 2147483647);
+    q->step = (int32_t)(minus ? -value : value);
+    return value >= 0;
+}
+
+/* A float by its bits: 0x and sixteen digits. */
+static int read_real(struct question *q, double *to)
+{
+    static const char digits[] = "0123456789abcdef";
+    const char *from, *digit;
+    uint64_t bits = 0;
+    if (next_word(q, &from) != 18 || memcmp(from, "0x", 2) != 0) return 0;
+    for (int i = 2; i < 18; i++) {
+        digit = memchr(digits, from[i], 16);
+        if (!digit) return 0;
+        bits = 16 * bits + (uint64_t)(digit - digits);
+    }
+    memcpy(to, &bits, sizeof bits);
+    return 1;
+}
+
+/* The words that letters ask for, to the line's end: n a number of 16 bits, b of 8, w of 32, k a kala, s a step, f a float. */
+static int read_words(struct question *q, const char *letters)
+{
+    uint32_t *number = q->number;
+    double *real = q->real;
+    for (; *letters; letters++) {
+        int good = *letters == 'f'   ? read_real(q, real++)
+                   : *letters == 's' ? read_step(q)
+                   : *letters == 'b' ? read_number(q, number++, 255)
+                   : *letters == 'w' ? read_number(q, number++, 4294967295)
+                   : *letters == 'k' ? read_number(q, number++, 5)
+                                     : read_number(q, number++, 65535);
+        if (!good) return 0;
+    }
+    return q->rest > q->end;
+}
+
+/* One number or more, at most so many, to the line's end, added to a list. */
+static int read_list(struct question *q, size_t most, uint16_t *list, size_t *len)
+{
+    size_t count = 0;
+    while (q->rest <= q->end)
+        if (count == most || !read_number(q, &q->number[count++], 65535)) return 0;
+    if (*len + count > MOST) exit(2);
+    for (size_t i = 0; i < count; i++) list[(*len)++] = (uint16_t)q->number[i];
+    return count > 0;
+}
+
+/* ---- the words of an answer */
+
+/* The refusal or 0; whether it was answered. */
+static int told(uint16_t refusal)
+{
+    printf("%u", (unsigned)refusal);
+    return refusal == 0;
+}
+
+static void put_number(size_t number)
+{
+    printf(" %zu", number);
+}
+
+static void put_real(double real)
+{
+    uint64_t bits;
+    memcpy(&bits, &real, sizeof bits);
+    if (real != real) printf(" nan");
+    else printf(" 0x%016" PRIx64, bits);
+}
+
+static void put_date(const uint16_t date[3])
+{
+    for (int i = 0; i < 3; i++) put_number(date[i]);
+}
+
+/* One instant or two, or none. */
+static void put_found(uint16_t found, const double *real, int count)
+{
+    if (!found) printf(" none");
+    for (int i = 0; found && i < count; i++) put_real(real[i]);
+}
+
+static void put_buffer(const uint16_t *buffer, size_t length)
+{
+    printf(" |");
+    for (size_t i = 0; i < length; i++) put_number(buffer[i]);
+}
+
+static void fill(uint16_t *buffer, size_t length)
+{
+    for (size_t i = 0; i < length; i++) buffer[i] = FILL;
+}
+
+/* ---- the questions */
+
+#define N(i) ((uint16_t)q->number[i])
+#define DATE N(0), N(1), N(2)
+#define PLACES(date) &(date)[0], &(date)[1], &(date)[2]
+
+static void ask_day(const struct question *q)
+{
+    uint16_t same[3], next[3];
+    uint32_t number, weekday;
+    if (!told(panel_date_new(DATE, PLACES(same)))) return;
+    if (panel_date_day_number(same[0], same[1], same[2], &number) || panel_date_weekday(same[0], same[1], same[2], &weekday)) exit(2);
+    put_number(number);
+    put_number(weekday);
+    if (panel_date_next(DATE, PLACES(next)) == 0) put_date(next);
+    else printf(" none");
+}
+
+static void ask_starts(const struct question *q)
+{
+    static double starts[MOST];
+    size_t count, steps, length = N(1);
+    for (size_t i = 0; i < length; i++) starts[i] = FILL;
+    if (told(panel_tithi_starts_between(N(0), q->real[0], q->real[1], starts, length, &count, &steps))) {
+        put_number(count);
+        put_number(steps);
+    }
+    printf(" |");
+    for (size_t i = 0; i < length; i++) put_real(starts[i]);
+}
+
+static void ask_grid(const struct question *q)
+{
+    static uint16_t cells[MOST], festivals[MOST];
+    uint16_t days, first[3], last[3];
+    size_t cell_count, festival_count;
+    fill(cells, N(5));
+    fill(festivals, N(6));
+    if (told(panel_month_grid(TABLE, RULES, DATE, N(3), N(4), cells, N(5), festivals, N(6), &days, PLACES(first), PLACES(last), &cell_count,
+                              &festival_count))) {
+        put_number(days);
+        put_date(first);
+        put_date(last);
+        put_number(cell_count);
+        put_number(festival_count);
+    }
+    put_buffer(cells, N(5));
+    put_buffer(festivals, N(6));
+}
+
+static uint16_t number, numbers[4], list[MOST];
+static uint8_t byte;
+static double real, reals[2];
+static size_t count;
+
+/* What is asked by a tag: the letters of its words, the call, what is printed where it answers, and what is printed after either. */
+#define QUESTIONS(f) \
+    f(check, "", panel_check_table(TABLE), , ) \
+    f(checkrules, "", panel_check_rules(RULES), , ) \
+    f(bs, "nnn", panel_bs_to_ad(TABLE, DATE, PLACES(numbers)), put_date(numbers), ) \
+    f(ad, "nnn", panel_ad_to_bs(TABLE, DATE, PLACES(numbers)), put_date(numbers), ) \
+    f(len, "nn", panel_bs_month_len(TABLE, N(0), N(1), &number), put_number(number), ) \
+    f(valid, "nnn", panel_validate_bs_date(TABLE, DATE), , ) \
+    f(step, "nbs", panel_step_month(TABLE, N(0), (uint8_t)N(1), q->step, &number, &byte), put_number(number); put_number(byte), ) \
+    f(date, "w", panel_date_from_day_number(q->number[0], PLACES(numbers)), put_date(numbers), ) \
+    f(jd, "nnnf", panel_julian_day(DATE, q->real[0], &real), put_real(real), ) \
+    f(npt, "f", panel_npt_date(q->real[0], PLACES(numbers)), put_date(numbers), ) \
+    f(deltat, "f", panel_delta_t(q->real[0], &real), put_real(real), ) \
+    f(tt, "f", panel_tt_from_ut(q->real[0], &real), put_real(real), ) \
+    f(sun, "f", panel_sun_longitude(q->real[0], &real), put_real(real), ) \
+    f(moon, "f", panel_moon_longitude(q->real[0], &real), put_real(real), ) \
+    f(elong, "f", panel_elongation(q->real[0], &real), put_real(real), ) \
+    f(tithi, "f", panel_tithi_at(q->real[0], &number), put_number(number), ) \
+    f(tithiof, "f", panel_tithi_of(q->real[0], &number), put_number(number), ) \
+    f(end, "f", panel_tithi_end(q->real[0], &number, reals), put_found(number, reals, 1), ) \
+    f(events, "nnn", panel_sun_events(DATE, &number, &reals[0], &reals[1]), put_found(number, reals, 2), ) \
+    f(rise, "nnn", panel_sunrise(DATE, &number, reals), put_found(number, reals, 1), ) \
+    f(set, "nnn", panel_sunset(DATE, &number, reals), put_found(number, reals, 1), ) \
+    f(kala, "nnnk", panel_kala_instant(DATE, N(3), &number, reals), put_found(number, reals, 1), ) \
+    f(nishita, "nnn", panel_nishita_window(DATE, &number, &reals[0], &reals[1]), put_found(number, reals, 2), ) \
+    f(clock, "f", panel_npt_clock(q->real[0], &number), put_number(number), ) \
+    f(minutes, "f", panel_minutes_of(q->real[0], &number), put_number(number), ) \
+    f(read, "nnn", panel_reading(DATE, PLACES(numbers), &numbers[3]), put_date(numbers); put_number(numbers[3]), ) \
+    f(listbs, "nnnn", (fill(list, N(3)), panel_festivals_on(TABLE, RULES, DATE, list, N(3), &count)), put_number(count), put_buffer(list, N(3))) \
+    f(listad, "nnnn", (fill(list, N(3)), panel_festivals_on_ad(TABLE, RULES, DATE, list, N(3), &count)), put_number(count), put_buffer(list, N(3))) \
+    f(sin, "f", panel_sine(q->real[0], &real), put_real(real), ) \
+    f(cos, "f", panel_cosine(q->real[0], &real), put_real(real), ) \
+    f(asin, "f", panel_arcsine(q->real[0], &real), put_real(real), ) \
+    f(acos, "f", panel_arccosine(q->real[0], &real), put_real(real), ) \
+    f(tan, "f", panel_tangent(q->real[0], &real), put_real(real), )
+
+#define DEFINED(tag, letters, call, answer, after) \
+    static void ask_##tag(const struct question *q) \
+    { \
+        (void)q; \
+        if (told(call)) { answer; } \
+        after; \
+    }
+#define LISTED(tag, letters, call, answer, after) { #tag, letters, ask_##tag },
+
+QUESTIONS(DEFINED)
+
+static const struct {
+    const char *tag, *letters;
+    void (*ask)(const struct question *q);
+} questions[] = { QUESTIONS(LISTED) { "day", "nnn", ask_day }, { "starts", "nffn", ask_starts }, { "grid", "nnnnnnn", ask_grid } };
+
+/* A line that lends, or a question; whether it is in form. */
+static int take(struct question *q)
+{
+    const char *from;
+    size_t length = next_word(q, &from);
+#define IS(text) (length == strlen(text) && memcmp(from, text, length) == 0)
+    if (IS("cells")) return read_list(q, 13, rows, &rows_len);
+    if (IS("rule")) return read_list(q, 8, rules, &rules_len);
+    if (IS("rules")) {
+        if (q->rest <= q->end) return 0;
+        rules_len = 0;
+        return 1;
+    }
+    if (IS("table")) {
+        if (!read_words(q, "nnnn")) return 0;
+        for (int i = 0; i < 4; i++) head[i] = N(i);
+        rows_len = 0;
+        return 1;
+    }
+    for (size_t i = 0; i < sizeof questions / sizeof *questions; i++)
+        if (IS(questions[i].tag)) {
+            if (!read_words(q, questions[i].letters)) return 0;
+            questions[i].ask(q);
+            printf("\n");
+            return 1;
+        }
+    return 0;
+}
+
+int main(void)
+{
+    char *line = NULL;
+    size_t room = 0;
+    ssize_t length;
+    while ((length = getline(&line, &room, stdin)) > 0) {
+        struct question q = { line, line + length - (line[length - 1] == '\n'), { 0 }, { 0.0 }, 0 };
+        if (!take(&q)) printf("?\n");
+    }
+    free(line);
+    return 0;
+}
