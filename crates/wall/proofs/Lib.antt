@@ -1,5 +1,5 @@
 pub mod Going
 pub mod Parts
 pub mod Rules
-pub mod Weeks
 pub mod Counts
+pub mod Aligned

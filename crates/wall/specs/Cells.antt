@@ -1,10 +1,10 @@
 -- A month's cells of twelve numbers in weeks from Sunday, each ten columns wide and four lines high. Assumes nothing.
-use Prim.Native.Nat.{ℕ, zero, suc, _+_, _*_}
+use Prim.Native.Nat.{ℕ, _+_, _*_}
 use mathlib.Core.Bool.{cond}
 use mathlib.Core.List.{List, [], _∷_, _++_}
 use lib.Dec.{eqb}
 use lib.ListN.{getD, replicate}
-use Rattle.wall.specs.Columns.{two, clock, shortDate}
+use Rattle.wall.specs.Columns.{repeated, two, clock, shortDate}
 
 -- number k of cell i: BS day; Gregorian year, month, day; weekday; today; holiday; tithi; tithi end; sunrise; sunset; festival count
 abbrev pub num : List ℕ → ℕ → ℕ → ℕ
@@ -41,24 +41,22 @@ piece k cells i =
 
 -- ---- weeks
 
--- line k of n cells from i on, with a bar (124) before each and at the end
-unfoldable pub rowFrom : ℕ → List ℕ → ℕ → ℕ → List ℕ
-rowFrom k cells i zero = 124 ∷ 10 ∷ []
-rowFrom k cells i (suc n) = ((124 ∷ []) ++ piece k cells i) ++ rowFrom k cells (i + 1) n
+-- line k of a cell behind a bar (124)
+abbrev pub barred : ℕ → List ℕ → ℕ → List ℕ
+barred k cells i = (124 ∷ []) ++ piece k cells i
 
--- +----------+ seven times over
-abbrev pub borderFrom : ℕ → List ℕ
-borderFrom zero = 43 ∷ 10 ∷ []
-borderFrom (suc n) = (43 ∷ replicate 10 45) ++ borderFrom n
+-- line k of the seven cells from i on, with a bar at the end
+unfoldable pub row : ℕ → List ℕ → ℕ → List ℕ
+row k cells i = repeated (barred k cells) 1 i 7 ++ (124 ∷ 10 ∷ [])
 
+-- +---------- seven times and + at the end
 unfoldable pub border : List ℕ
-border = borderFrom 7
+border = repeated (λ i. 43 ∷ replicate 10 45) 1 0 7 ++ (43 ∷ 10 ∷ [])
 
 -- the four lines of the seven cells from i on, and the line below them
 unfoldable pub week : List ℕ → ℕ → List ℕ
-week cells i = rowFrom 0 cells i 7 ++ (rowFrom 1 cells i 7 ++ (rowFrom 2 cells i 7 ++ (rowFrom 3 cells i 7 ++ border)))
+week cells i = row 0 cells i ++ (row 1 cells i ++ (row 2 cells i ++ (row 3 cells i ++ border)))
 
 -- so many weeks
-unfoldable pub weeksFrom : List ℕ → ℕ → ℕ → List ℕ
-weeksFrom cells i zero = []
-weeksFrom cells i (suc n) = week cells i ++ weeksFrom cells (i + 7) n
+abbrev pub weeksOf : List ℕ → ℕ → List ℕ
+weeksOf cells n = repeated (week cells) 7 0 n

@@ -1,5 +1,5 @@
 -- Numbers in columns. Assumes nothing.
-use Prim.Native.Nat.{ℕ, _/_, _%_}
+use Prim.Native.Nat.{ℕ, zero, suc, _+_, _/_, _%_}
 use mathlib.Core.Bool.{cond}
 use mathlib.Core.List.{List, [], _∷_, _++_}
 use lib.Dec.{ltb}
@@ -8,6 +8,11 @@ use Rattle.wall.specs.Words.{word, gregorianMonths}
 
 abbrev pub space : List ℕ
 space = 32 ∷ []
+
+-- f i, f (i + step), .., n of them one after the other
+unfoldable pub repeated : (ℕ → List ℕ) → ℕ → ℕ → ℕ → List ℕ
+repeated f step i zero = []
+repeated f step i (suc n) = f i ++ repeated f step (i + step) n
 
 -- a number of one or two digits in two columns, a space before one digit
 unfoldable pub two : ℕ → List ℕ

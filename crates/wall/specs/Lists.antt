@@ -1,11 +1,11 @@
 -- A line for each festival of a day, and of a month. Assumes nothing.
-use Prim.Native.Nat.{ℕ, zero, suc, _+_, _*_}
+use Prim.Native.Nat.{ℕ, _+_, _*_}
 use mathlib.Core.List.{List, [], _∷_, _++_}
 use lib.ListN.{getD}
 use Rattle.paper.specs.Sums.{sum}
 use Rattle.wall.specs.Words.{word, weekdays}
 use Rattle.wall.specs.Names.{nameText}
-use Rattle.wall.specs.Columns.{space, two, shortDate}
+use Rattle.wall.specs.Columns.{space, repeated, two, shortDate}
 use Rattle.wall.specs.Cells.{num, marked}
 
 -- 29  Sun Nov 15 and two spaces: the day of a cell
@@ -25,16 +25,14 @@ festivalText rules names festivals f =
     ++ marked (getD festivals (f * 2 + 1) 0) (32 ∷ 40 ∷ 104 ∷ 111 ∷ 108 ∷ 105 ∷ 100 ∷ 97 ∷ 121 ∷ 41 ∷ 10 ∷ []) (10 ∷ [])
 
 module _ (rules names cells festivals : List ℕ) where
-  -- a line for each of n festivals of cell i, from festival f on
-  unfoldable pub linesFrom : ℕ → ℕ → ℕ → List ℕ
-  linesFrom i f zero = []
-  linesFrom i f (suc n) = (dayOf cells i ++ festivalText rules names festivals f) ++ linesFrom i (f + 1) n
+  -- the line of festival f, a festival of cell i
+  abbrev pub lineOf : ℕ → ℕ → List ℕ
+  lineOf i f = dayOf cells i ++ festivalText rules names festivals f
 
   -- the festivals of cell i
   unfoldable pub festivalsOn : ℕ → List ℕ
-  festivalsOn i = linesFrom i (before cells i) (num cells i 11)
+  festivalsOn i = repeated (lineOf i) 1 (before cells i) (num cells i 11)
 
-  -- of n cells from i on
-  unfoldable pub festivalsFrom : ℕ → ℕ → List ℕ
-  festivalsFrom i zero = []
-  festivalsFrom i (suc n) = festivalsOn i ++ festivalsFrom (i + 1) n
+  -- of the first n cells
+  abbrev pub festivalsOf : ℕ → List ℕ
+  festivalsOf n = repeated festivalsOn 1 0 n

@@ -1,5 +1,5 @@
 -- The page of a month and the page of a day. Assumes nothing.
-use Prim.Native.Nat.{ℕ, zero, suc, _+_, _-_, _*_}
+use Prim.Native.Nat.{ℕ, _-_, _*_}
 use mathlib.Core.Bool.{cond}
 use mathlib.Core.List.{List, [], _∷_, _++_}
 use lib.Dec.{ltb}
@@ -8,9 +8,9 @@ use Rattle.text.specs.Digits.{digits}
 use Rattle.gregorian.specs.declared.Date.{Date}
 use Rattle.wall.specs.declared.Page.{Page}
 use Rattle.wall.specs.Words.{word, weekdays, bsMonths}
-use Rattle.wall.specs.Columns.{space, clock, fullDate}
-use Rattle.wall.specs.Cells.{num, marked, border, weeksFrom}
-use Rattle.wall.specs.Lists.{festivalsOn, festivalsFrom}
+use Rattle.wall.specs.Columns.{space, repeated, clock, fullDate}
+use Rattle.wall.specs.Cells.{num, marked, border, weeksOf}
+use Rattle.wall.specs.Lists.{festivalsOn, festivalsOf}
 
 abbrev pub feed : List ℕ
 feed = 10 ∷ []
@@ -29,14 +29,13 @@ unfoldable pub title : Page → List ℕ
 title p =
     bsMonth (p .year) (p .month) ++ ((32 ∷ 66 ∷ 83 ∷ 44 ∷ 32 ∷ []) ++ (dateText (p .first) ++ ((32 ∷ 116 ∷ 111 ∷ 32 ∷ []) ++ (dateText (p .last) ++ (10 ∷ 10 ∷ [])))))
 
--- three letters of n weekdays from d on, each over its column
-abbrev pub headsFrom : ℕ → ℕ → List ℕ
-headsFrom d zero = 124 ∷ 10 ∷ []
-headsFrom d (suc n) = (124 ∷ replicate 3 32) ++ (word 3 d weekdays ++ (replicate 4 32 ++ headsFrom (d + 1) n))
+-- three letters of a weekday over its column
+abbrev pub head : ℕ → List ℕ
+head d = (124 ∷ replicate 3 32) ++ (word 3 d weekdays ++ replicate 4 32)
 
 -- the weekdays between two borders
 unfoldable pub heads : List ℕ
-heads = border ++ (headsFrom 0 7 ++ border)
+heads = border ++ ((repeated head 1 0 7 ++ (124 ∷ 10 ∷ [])) ++ border)
 
 -- * holiday, << today; tithi 1 to 15 waxing, 16 to 30 waning half; Nepal time, and an empty line
 unfoldable pub legend : List ℕ
@@ -48,7 +47,7 @@ legend =
 
 unfoldable pub monthPage : Page → List ℕ → List ℕ → List ℕ → List ℕ → List ℕ
 monthPage p rules names cells festivals =
-    title p ++ (heads ++ (weeksFrom cells 0 (p .weeks) ++ (legend ++ festivalsFrom rules names cells festivals 0 (p .weeks * 7))))
+    title p ++ (heads ++ (weeksOf cells (p .weeks) ++ (legend ++ festivalsOf rules names cells festivals (p .weeks * 7))))
 
 -- ---- a day
 

@@ -1,7 +1,7 @@
 // A month's cells in weeks from Sunday: each ten columns wide and four lines high.
 ghost use Prim.Native.Nat.{_≤_};
 ghost use Rattle.text.specs.Written.{Wrote};
-ghost use Rattle.wall.specs.Cells.{marked, dayLine, tithiLine, sunLine, piece, rowFrom, border, week, weeksFrom};
+ghost use Rattle.wall.specs.Cells.{marked, dayLine, tithiLine, sunLine, piece, row, border, week, weeksOf};
 use crate::columns::number;
 use crate::columns::put_clock;
 use crate::columns::put_short_date;
@@ -68,7 +68,7 @@ fn put_piece(out: &mut [u8], at: usize, k: u8, cells: &[u16], i: usize) -> usize
 // Writes line k of the seven cells from i on, between bars.
 fn put_row(out: &mut [u8], at: usize, k: u8, cells: &[u16], i: usize) -> usize
     requires { ⌜ i ≤ 4089 ⌝ }
-    ensures { λ r. ⌜ Wrote (now (out .entry)) at (rowFrom k (now (cells .entry)) i 7) (now (out .exit)) r ⌝ }
+    ensures { λ r. ⌜ Wrote (now (out .entry)) at (row k (now (cells .entry)) i) (now (out .exit)) r ⌝ }
 {
     let mut next = at;
     let mut j = i;
@@ -107,7 +107,7 @@ fn put_week(out: &mut [u8], at: usize, cells: &[u16], i: usize) -> usize
 
 // Writes so many weeks.
 pub fn put_weeks(out: &mut [u8], at: usize, cells: &[u16], weeks: u8) -> usize
-    ensures { λ r. ⌜ Wrote (now (out .entry)) at (weeksFrom (now (cells .entry)) 0 weeks) (now (out .exit)) r ⌝ }
+    ensures { λ r. ⌜ Wrote (now (out .entry)) at (weeksOf (now (cells .entry)) weeks) (now (out .exit)) r ⌝ }
 {
     let mut next = at;
     let mut i = 0;

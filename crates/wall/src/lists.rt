@@ -2,8 +2,9 @@
 ghost use mathlib.Core.Path.{_≡_};
 ghost use Prim.Native.Nat.{_*_, _≤_};
 ghost use Rattle.text.specs.Written.{Wrote};
+ghost use Rattle.wall.specs.Columns.{repeated};
 ghost use Rattle.wall.specs.Lists as Lists;
-ghost use Rattle.wall.specs.Lists.{dayOf, festivalText, linesFrom, festivalsOn, festivalsFrom};
+ghost use Rattle.wall.specs.Lists.{dayOf, festivalText, lineOf, festivalsOn, festivalsOf};
 use crate::cells::put_mark;
 use crate::columns::get;
 use crate::columns::number;
@@ -54,7 +55,7 @@ fn put_lines(
     n: u16,
 ) -> usize
     requires { ⌜ (i ≤ 4096) × (from ≤ 299000000) ⌝ }
-    ensures { λ r. ⌜ Wrote (now (out .entry)) at (linesFrom (now (rules .entry)) (now (names .entry)) (now (cells .entry)) (now (festivals .entry)) i from n) (now (out .exit)) r ⌝ }
+    ensures { λ r. ⌜ Wrote (now (out .entry)) at (repeated (lineOf (now (rules .entry)) (now (names .entry)) (now (cells .entry)) (now (festivals .entry)) i) 1 from n) (now (out .exit)) r ⌝ }
 {
     let mut next = at;
     let mut f = from;
@@ -120,7 +121,7 @@ pub fn put_festivals(
     n: u16,
 ) -> usize
     requires { ⌜ n ≤ 4096 ⌝ }
-    ensures { λ r. ⌜ Wrote (now (out .entry)) at (festivalsFrom (now (rules .entry)) (now (names .entry)) (now (cells .entry)) (now (festivals .entry)) 0 n) (now (out .exit)) r ⌝ }
+    ensures { λ r. ⌜ Wrote (now (out .entry)) at (festivalsOf (now (rules .entry)) (now (names .entry)) (now (cells .entry)) (now (festivals .entry)) n) (now (out .exit)) r ⌝ }
 {
     let mut next = at;
     let mut i = 0;

@@ -1,4 +1,5 @@
 -- `wall::cells::put_border` meets its contract. Assumes nothing.
+use Rattle.wall.specs.Columns.{repeated}
 use Rattle.wall.specs.Cells.{border}
 use borrow.Author.Needs.{needs}
 use Rattle.wall.proofs.cells.put_border.Statement.{statement}
@@ -14,7 +15,7 @@ same-length : tie.Need-same-length
 same-length c = search needs
 
 returns : tie.Need-returns
-unfolding border
+unfolding border repeated
 returns c = c .before .before .put .ensures
 
 pub put-border-spec : {M : Type 1} → statement M

@@ -1,5 +1,6 @@
 -- `wall::month::put_heads` meets its contract. Assumes nothing.
 use Rattle.text.proofs.Writes.{then}
+use Rattle.wall.specs.Columns.{repeated}
 use Rattle.wall.specs.Words.{word, weekdays}
 use Rattle.wall.specs.Pages.{heads}
 use borrow.Author.Needs.{needs}
@@ -22,7 +23,7 @@ same-length : tie.Need-same-length
 same-length c = search needs
 
 returns : tie.Need-returns
-unfolding heads word weekdays
+unfolding heads word weekdays repeated
 returns c = then (c .before .before .before .before .before .before .before .before .before .before .before .put-border .ensures) (then (c .before .before .before .before .before .before .put .ensures) (c .before .before .put-border2 .ensures))
 
 pub put-heads-spec : {M : Type 1} → statement M
