@@ -32,7 +32,7 @@ pub enum YearDays {
 }
 
 // The first and the last day of a year of an accepted table.
-fn year_days(table: Table, rows: &[u16], year: u16) -> YearDays
+pub fn year_days(table: Table, rows: &[u16], year: u16) -> YearDays
     requires { ⌜ accepted table (now rows) ≡ true ⌝ }
     ensures { λ r. ⌜ daysAre r ≡ yearDays (flat table (now (rows .entry))) year ⌝ }
 {
@@ -59,7 +59,7 @@ fn year_days(table: Table, rows: &[u16], year: u16) -> YearDays
 }
 
 // The new moons from 35 days before 0h of one day to 5 after 0h of another, to the front of `found`; how many they are.
-fn new_moons(first: u32, last: u32, found: &mut [f64; 1024]) -> usize
+pub fn new_moons(first: u32, last: u32, found: &mut [f64; 1024]) -> usize
     requires { ⌜ length (now found) ≡ 1024 ⌝ }
     ensures { λ r. ⌜ (r ≤ 1024) × (length (now (found .exit)) ≡ 1024) ⌝ }
     ensures { λ r. ⌜ take r (now (found .exit)) ≡ moonsAround first last ⌝ }

@@ -6,7 +6,7 @@ ghost use Rattle.panchanga.specs.Clock.{rounded, minutesOf, fraction, cl
 const NPT_OFFSET: f64 = 5.75 / 24.0;
 
 // The nearest whole number, half upward; 0 below 0.0 or for no number.
-fn rounded(x: f64) -> u32
+pub fn rounded(x: f64) -> u32
     ensures { λ r. ⌜ r ≡ rounded x ⌝ }
 {
     if 0.0 <= x {

@@ -1,0 +1,52 @@
+-- `doubt::put_years` is proved: the years left fall. Assumes nothing.
+use Prim.Native.Nat.{_-_}
+use mathlib.Core.Path.{_≡_}
+use lib.ListN.{length}
+use borrow.Author.Needs.{needs}
+use Rattle.doubt.proofs.put_years.Statement.{statement}
+use Rattle.doubt.proofs.put_years.Tie as tie
+
+abbrev Inv-loop : tie.InvT-loop
+Inv-loop out₀ table rows first last rules names q₀ year₀ out q year = length out ≡ length out₀
+
+abbrev μ-loop : tie.MeasureT-loop
+μ-loop out₀ table rows first last rules names q₀ year₀ out q year = last - year
+
+loop-holds : tie.Need-loop-holds Inv-loop μ-loop
+loop-holds c = search needs
+
+put-year-requires : tie.Need-put-year-requires Inv-loop μ-loop
+put-year-requires c κs = search needs
+
+add-year : tie.Need-add-year Inv-loop μ-loop
+add-year c = search needs
+
+loop-less : tie.Need-loop-less Inv-loop μ-loop
+loop-less c = search needs
+
+loop-again : tie.Need-loop-again Inv-loop μ-loop
+loop-again c = search needs
+
+put-year-requires-2 : tie.Need-put-year-requires-2 Inv-loop μ-loop
+put-year-requires-2 c κs = search needs
+
+same-length : tie.Need-same-length Inv-loop μ-loop
+same-length c = search needs
+
+returns : tie.Need-returns Inv-loop μ-loop
+returns c = search needs
+
+pub put-years-spec : {M : Type 1} → statement M
+put-years-spec =
+    tie.close
+    (tie.spec
+    Inv-loop
+    μ-loop
+    loop-holds
+    put-year-requires
+    add-year
+    loop-less
+    loop-again
+    put-year-requires-2
+    same-length
+    returns)

@@ -1,0 +1,185 @@
+// Which new moons of BS years to check against the gazette: those near the beginning of a solar month.
+use conversion::MonthDays;
+use conversion::Table;
+use doubtful::Page;
+use doubtful::asked;
+use doubtful::asked::Asked;
+use files::RulesRead;
+use files::TableRead;
+use replay::Out;
+ghost use mathlib.Core.Path.{_≡_};
+ghost use mathlib.Core.Bool.{true};
+ghost use Rattle.conversion.specs.Flat.{accepted};
+
+// Whether a year is one of an accepted table.
+fn is_year(table: Table, rows: &[u16], year: u16) -> bool
+    requires { ⌜ accepted table (now rows) ≡ true ⌝ }
+{
+    match conversion::month_days(table, rows, year, 1) {
+        MonthDays::Days(_) => true,
+        MonthDays::NoYear => false,
+        MonthDays::NoMonth => false,
+    }
+}
+
+// The years from the first on, so many of them.
+fn put_years(
+    p: Page,
+    out: &mut [u8],
+    table: Table,
+    rows: &[u16],
+    first: u16,
+    last: u16,
+    rules: &[u16],
+    names: &[u8],
+) -> Page
+    requires { ⌜ accepted table (now rows) ≡ true ⌝ }
+{
+    let mut q = p;
+    let mut year = first;
+    while year < last {
+        q = doubtful::put_year(q, out, table, rows, year, rules, names);
+        year += 1;
+    }
+    doubtful::put_year(q, out, table, rows, year, rules, names)
+}
+
+// Which years were asked.
+fn put_range(o: Out, out: &mut [u8], first: u16, last: u16) -> Out {
+    let a = doubtful::put_labelled(o, out, b"BS ", first as u64);
+    let b = doubtful::put_labelled(a, out, b" to ", last as u64);
+    doubtful::put_text(b, out, b": ")
+}
+
+// The page over an accepted table.
+fn put_page(
+    table: Table,
+    rows: &[u16],
+    first: u16,
+    last: u16,
+    rules: &[u16],
+    names: &[u8],
+    out: &mut [u8],
+)
+    requires { ⌜ accepted table (now rows) ≡ true ⌝ }
+{
+    let p = put_years(
+        doubtful::begin(),
+        out,
+        table,
+        rows,
+        first,
+        last,
+        rules,
+        names,
+    );
+    let o = p.out;
+    let q = put_range(o, out, first, last);
+    let r = doubtful::put_counts(p, q, out);
+    doubtful::finish(r, out);
+}
+
+// Tests the rules and the years, and writes the page or one line on standard error.
+fn answer_over(
+    table: Table,
+    rows: &[u16],
+    first: u16,
+    last: u16,
+    rules: &[u16],
+    names: &[u8],
+    out: &mut [u8],
+)
+    requires { ⌜ accepted table (now rows) ≡ true ⌝ }
+{
+    if !rules::accepts_rules(rules) {
+        asked::complain(b"RULES: refused with 2\n");
+        return;
+    }
+    if last < first {
+        asked::complain(b"LAST: expected a year not before FIRST\n");
+        return;
+    }
+    if !is_year(table, rows, first) {
+        asked::complain(b"FIRST: expected a BS year of the table\n");
+        return;
+    }
+    if !is_year(table, rows, last) {
+        asked::complain(b"LAST: expected a BS year of the table\n");
+        return;
+    }
+    put_page(table, rows, first, last, rules, names, out);
+}
+
+// Tests the table first.
+fn answer(
+    table: Table,
+    rows: &[u16],
+    first: u16,
+    last: u16,
+    rules: &[u16],
+    names: &[u8],
+    out: &mut [u8],
+) {
+    if conversion::accepts(table, rows) {
+        answer_over(table, rows, first, last, rules, names, out);
+        return;
+    }
+    asked::complain(b"TABLE: refused with 1; ./spring TABLE TABLE says where it breaks a rule\n");
+}
+
+// The same with the parts of the lent buffers that were read.
+fn answer_parts(
+    table: Table,
+    rows: &[u16],
+    n: usize,
+    first: u16,
+    last: u16,
+    rules: &[u16],
+    k: usize,
+    names: &[u8],
+    out: &mut [u8],
+) {
+    if n <= rows.len() {
+        if k <= rules.len() {
+            answer(table, &rows[..n], first, last, &rules[..k], names, out);
+        }
+    }
+}
+
+// The number that argument i is; a longer one than a buffer of eight bytes holds is none.
+fn year_in(i: usize) -> Asked {
+    let mut buffer = [0u8; 8];
+    asked::number_in(i, &mut buffer)
+}
+
+fn run(rows: &mut [u16], rules: &mut [u16], names: &mut [u8], path: &mut [u8], out: &mut [u8]) {
+    let count = os::arg_count();
+    if (count != 4) & (count != 5) {
+        asked::complain(b"expected arguments: TABLE FIRST LAST [RULES]\n");
+        return;
+    }
+    let Asked::Is(first) = year_in(2) else {
+        asked::complain(b"FIRST: expected a number up to 65535\n");
+        return;
+    };
+    let Asked::Is(last) = year_in(3) else {
+        asked::complain(b"LAST: expected a number up to 65535\n");
+        return;
+    };
+    let TableRead::Is(table, n) = asked::table_in(1, path, rows) else {
+        return;
+    };
+    let RulesRead::Are(k) = asked::rules_asked(4, count, path, rules, names) else {
+        return;
+    };
+    answer_parts(table, rows, n, first, last, rules, k, names, out);
+}
+
+fn main() {
+    let mut rows = [0u16; 1677];
+    let mut rules = [0u16; 2600];
+    let mut names = [0u8; 20800];
+    let mut path = [0u8; 4096];
+    let mut out = [0u8; 8192];
+    run(&mut rows, &mut rules, &mut names, &mut path, &mut out);
+}

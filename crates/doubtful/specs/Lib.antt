@@ -1,0 +1,2 @@
+-- What the contracts of `doubtful` are written in.
+pub mod Near

@@ -1,0 +1,50 @@
+-- `tables::row_of` meets its contract: the rows that are left. Assumes nothing.
+use native.Mathlib.Omega.{arith}
+use Prim.Native.Nat.{_-_, _≤_}
+use mathlib.Core.Path.{_≡_, refl, _∙_}
+use native.Mathlib.Nat.{sub-zero}
+use Rattle.tables.specs.Lines.{rowFrom}
+use Rattle.tables.proofs.Turns.{row-over, row-here, row-turn}
+use Rattle.tables.proofs.row_of.Statement.{statement}
+use Rattle.tables.proofs.row_of.Tie as tie
+
+abbrev Inv-loop : tie.InvT-loop
+Inv-loop rows n i₀ i = (i ≤ n) × (rowFrom rows (n - i) i ≡ rowFrom rows n 0)
+
+abbrev μ-loop : tie.MeasureT-loop
+μ-loop rows n i₀ i = n - i
+
+loop-holds : tie.Need-loop-holds Inv-loop μ-loop
+loop-holds c = (omega arith, rw sub-zero)
+
+column-of-requires : tie.Need-column-of-requires Inv-loop μ-loop
+column-of-requires c κs = omega arith
+
+returns : tie.Need-returns Inv-loop μ-loop
+returns c = let l = c .before .before .before .loop in row-here (c .before .before .before .before .before .args .rows .now) (c .before .before .before .before .before .args .n) (l .i) (c .before .before .loop-test .taken) (c .before .column-of .result) (c .before .column-of .ensures) (c .if1 .taken) ∙ l .inv .1
+
+add-i : tie.Need-add-i Inv-loop μ-loop
+add-i c = omega arith
+
+loop-less : tie.Need-loop-less Inv-loop μ-loop
+loop-less c = omega arith
+
+loop-again : tie.Need-loop-again Inv-loop μ-loop
+loop-again c = let l = c .before .before .before .loop in (omega arith, row-turn (c .before .before .before .before .before .args .rows .now) (c .before .before .before .before .before .args .n) (l .i) (c .before .before .loop-test .taken) (c .before .column-of .result) (c .before .column-of .ensures) (c .if1 .left) ∙ l .inv .1)
+
+returns-2 : tie.Need-returns-2 Inv-loop μ-loop
+returns-2 c = let l = c .before .loop in row-over (c .before .before .before .args .rows .now) (c .before .before .before .args .n) (l .i) (c .loop-test .left) ∙ l .inv .1
+
+pub row-of-spec : {M : Type 1} → statement M
+row-of-spec =
+    tie.close
+    (tie.spec
+    Inv-loop
+    μ-loop
+    loop-holds
+    column-of-requires
+    returns
+    add-i
+    loop-less
+    loop-again
+    returns-2)

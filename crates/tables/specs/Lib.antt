@@ -1,0 +1,2 @@
+-- What the contracts of `tables` are written in.
+pub mod Lines
