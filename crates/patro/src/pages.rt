@@ -15,6 +15,12 @@ enum Worked {
     Refused,
 }
 
+// The whole month, or one of its days.
+enum Shown {
+    Month,
+    Day(u16),
+}
+
 // Writes the first n bytes of a page.
 fn write_page(out: &[u8], n: usize) {
     if out.len() <= n {
@@ -48,43 +54,17 @@ fn weeks_of(month: Month) -> u8 {
     if n < 256 { n as u8 } else { 255 }
 }
 
-// Writes the page of a month.
-fn show_month(
-    today: Date,
-    year: u16,
-    month: u16,
-    table: Table,
-    rows: &[u16],
-    rules: &[u16],
-    names: &[u8],
-) {
-    let mut cells = [0u16; 504];
-    let mut festivals = [0u16; 24576];
-    let answer = grid::month_grid(
-        table,
-        rows,
-        rules,
-        today,
-        year,
-        month,
-        &mut cells,
-        &mut festivals,
-    );
-    let Worked::Out(m) = told(answer) else {
-        return;
-    };
+// What the page of a month says beside its cells.
+fn page_of(year: u16, month: u16, m: Month) -> Page {
     let first = m.first;
     let last = m.last;
-    let page = Page {
+    Page {
         year,
         month,
         first,
         last,
         weeks: weeks_of(m),
-    };
-    let mut out = [0u8; 65536];
-    let n = wall::put_month(&mut out, 0, page, rules, names, &cells, &festivals);
-    write_page(&out, n);
+    }
 }
 
 // The cell of a BS day, or 255 where there is none.
@@ -102,12 +82,12 @@ fn cell_of(cells: &[u16], day: u16) -> u8 {
     255
 }
 
-// Writes the page of a day.
-fn show_day(
+// Writes the page of a month, or of a day of it.
+fn show_page(
     today: Date,
     year: u16,
     month: u16,
-    day: u16,
+    shown: Shown,
     table: Table,
     rows: &[u16],
     rules: &[u16],
@@ -128,36 +108,52 @@ fn show_day(
     let Worked::Out(m) = told(answer) else {
         return;
     };
-    if day == 0 {
-        refusals::no_day();
-        return;
-    }
-    if m.days < day {
-        refusals::no_day();
-        return;
-    }
     let mut out = [0u8; 65536];
-    let cell = cell_of(&cells, day);
-    let n = wall::put_day(
-        &mut out,
-        0,
-        year,
-        month,
-        cell,
-        rules,
-        names,
-        &cells,
-        &festivals,
-    );
-    write_page(&out, n);
+    match shown {
+        Shown::Month => {
+            let page = page_of(year, month, m);
+            let n = wall::put_month(&mut out, 0, page, rules, names, &cells, &festivals);
+            write_page(&out, n);
+        }
+        Shown::Day(day) => {
+            if day == 0 {
+                refusals::no_day();
+                return;
+            }
+            if m.days < day {
+                refusals::no_day();
+                return;
+            }
+            let cell = cell_of(&cells, day);
+            let n = wall::put_day(
+                &mut out,
+                0,
+                year,
+                month,
+                cell,
+                rules,
+                names,
+                &cells,
+                &festivals,
+            );
+            write_page(&out, n);
+        }
+    }
 }
 
 // Writes the page of a Gregorian date.
 fn show_date(today: Date, date: Date, table: Table, rows: &[u16], rules: &[u16], names: &[u8]) {
     match conversion::ad_to_bs(table, rows, date.year, date.month, date.day) {
-        BsAnswer::Is(bs) => {
-            show_day(today, bs.year, bs.month, bs.day, table, rows, rules, names)
-        }
+        BsAnswer::Is(bs) => show_page(
+            today,
+            bs.year,
+            bs.month,
+            Shown::Day(bs.day),
+            table,
+            rows,
+            rules,
+            names,
+        ),
         BsAnswer::BadTable => refusals::bad_table(),
         BsAnswer::NoSuchDate => refusals::no_such_date(),
         BsAnswer::Outside => refusals::outside(),
@@ -167,8 +163,8 @@ fn show_date(today: Date, date: Date, table: Table, rows: &[u16], rules: &[u16],
 // Writes what is asked, or one line on standard error.
 pub fn show(asked: Asked, today: Date, table: Table, rows: &[u16], rules: &[u16], names: &[u8]) {
     match asked {
-        Asked::Month(y, m) => show_month(today, y, m, table, rows, rules, names),
-        Asked::Day(y, m, d) => show_day(today, y, m, d, table, rows, rules, names),
+        Asked::Month(y, m) => show_page(today, y, m, Shown::Month, table, rows, rules, names),
+        Asked::Day(y, m, d) => show_page(today, y, m, Shown::Day(d), table, rows, rules, names),
         Asked::Date(date) => show_date(today, date, table, rows, rules, names),
         Asked::Other => refusals::other_words(),
     }
