@@ -1,6 +1,6 @@
 -- `files::row::read_number` meets its contract. Assumes nothing.
 use native.Mathlib.Omega.{arith}
-use mathlib.Core.Path.{_≡_, sym, ap, _∙_}
+use mathlib.Core.Path.{sym, ap, _∙_}
 use lib.ListN.{drop}
 use Rattle.text.specs.Digits.{got}
 use Rattle.text.proofs.Said.{number-said, number-inside, number-unsaid}
