@@ -1,18 +1,16 @@
 -- The turns of the loops over a table's numbers, over plain variables. Assumes nothing.
-use Prim.Native.Nat.{ℕ, zero, suc, _+_, _-_, _≤_, _<_}
-use mathlib.Core.Path.{_≡_, refl, sym, ap, _∙_}
-use mathlib.Core.Bool.{Bool, true, false, _&&_}
-use mathlib.Core.List.{List, [], _∷_}
+use Prim.Native.Nat.{ℕ, suc, _+_, _-_, _≤_, _<_}
+use mathlib.Core.Path.{_≡_, sym, ap, _∙_}
+use mathlib.Core.Bool.{true, false}
+use mathlib.Core.List.{List}
 use native.Mathlib.Omega.{arith}
 use borrow.Author.Tests.{eq-eqb, ne-eqb, le-leb, lt-leb, lt-ltb, le-ltb}
-use lib.Dec.{leb}
 use lib.ListN.{length, getD, drop}
 use Rattle.paper.specs.Sums.{sum}
 use Rattle.text.proofs.Texts.{cut, over}
 use Rattle.conversion.specs.declared.Table.{Table}
-use Rattle.conversion.specs.Flat.{rowCount, lens, lenOk, accepted}
+use Rattle.conversion.specs.Flat.{rowCount, lens, accepted}
 use Rattle.conversion.specs.Inner.{firstNumber}
-use Rattle.tables.specs.declared.Broken.{Broken}
 use Rattle.tables.specs.declared.Broken.the-variants as B
 use Rattle.tables.specs.Lines.{columnFrom, column, rowFrom, place, firstBroken, shared}
 

@@ -1,9 +1,8 @@
 -- The lines of the paragraph "Year table" one by one, and where a table first breaks one. Assumes nothing.
 use Prim.Native.Nat.{ℕ, zero, suc, _+_}
-use mathlib.Core.Bool.{Bool, true, false, cond, not, _&&_}
+use mathlib.Core.Bool.{cond}
 use mathlib.Core.List.{List, [], _∷_}
-use lib.Dec.{leb, ltb, eqb}
-use lib.ListN.{length}
+use lib.Dec.{ltb, eqb}
 use Rattle.paper.specs.Sums.{sum}
 use Rattle.conversion.specs.declared.Table.{Table}
 use Rattle.conversion.specs.Flat.{rowCount, lens, lenOk, accepted}

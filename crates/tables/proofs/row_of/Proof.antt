@@ -1,7 +1,7 @@
 -- `tables::row_of` meets its contract: the rows that are left. Assumes nothing.
 use native.Mathlib.Omega.{arith}
 use Prim.Native.Nat.{_-_, _≤_}
-use mathlib.Core.Path.{_≡_, refl, _∙_}
+use mathlib.Core.Path.{_≡_, _∙_}
 use native.Mathlib.Nat.{sub-zero}
 use Rattle.tables.specs.Lines.{rowFrom}
 use Rattle.tables.proofs.Turns.{row-over, row-here, row-turn}
