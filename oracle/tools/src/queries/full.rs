@@ -1,4 +1,4 @@
-//! The sets at full scale: what an issue asks to be run beside the oracles.
+//! The sets at full scale, which `oracle/run` sends to the port and to both oracles.
 use super::festivals::{self, Almanac};
 use super::{Maker, conversion, grid, panchanga};
 use crate::lines::bits_word;
