@@ -17,7 +17,7 @@ use Rattle.trig.proofs.Laws.{sine-within}
 use Rattle.sky.specs.Time.{before1920, before1941, before1961, before1986, before2005, before2050, after2050, deltaT, yearOf, ttOf, ttDay, julianCenturies}
 use Rattle.sky.specs.Sun.{meanLongitude, center, sunLongitude}
 use Rattle.sky.specs.MoonTable.{moonTerms}
-use Rattle.sky.specs.Moon.{meanPlace, eccentricity, moonArgs, eccPower, zeroOr, addTerm, termAt, series, moonSum, additive, moonLongitude}
+use Rattle.sky.specs.Moon.{meanPlace, eccentricity, moonArgs, eccPower, zeroOr, addTerm, termAt, added, series, moonSum, additive, moonLongitude}
 use Rattle.sky.specs.Tithi.{elongationOf}
 use Rattle.sky.proofs.Norms.{Upto, norm-number, upto-within}
 
@@ -178,7 +178,7 @@ module _ {t : Float} (p : Within 20 1680000 t) where
   power-number (negsuc (suc n)) = within 1072000 (got eccentricity-number ⊠ got eccentricity-number) tt
 
   series-number : (n : ℕ) → n ≤ 60 → Within 20 (n * most + 1) (series moonTerms (moonArgs t) n)
-  unfolding series addTerm near
+  unfolding series added addTerm near
   series-number zero h = within 1 (lit (dec 0 0)) tt
   series-number (suc n) h =
       let x = termAt moonTerms n in

@@ -1,17 +1,21 @@
 -- The moon's series: a power of the eccentricity by cases, one row's term, one row more. Assumes nothing.
 use mathlib.Core.Path.{_≡_, refl, _∙_}
 use mathlib.Core.List.{List}
-use Prim.Native.Nat.{ℕ, zero, suc, _+_}
+use Prim.Native.Nat.{ℕ, zero, suc, _+_, _<_, _≤_}
+use mathlib.Core.Logic.{⊎-elim}
 use native.Mathlib.Numerals.{add-one}
+use native.Mathlib.Omega.{arith}
 use lib.IntN.{ℤ, pos, negsuc}
-use lib.Ieee.{Float}
+use lib.Ieee.{Float, nan}
+use lib.ListN.{length, getD, set}
+use lib.Seq.{getD-set-same, getD-set-other}
 use mir.Syntax.{w32}
 use mir.Val.{SFits, toZ, ofZ}
 use mir.ValLaws.{toZ-ofZ}
+use Rattle.paper.proofs.Tests.{split}
 use Rattle.paper.specs.Floats.{_⊕_, _⊗_, whole}
-use Rattle.trig.specs.Trig.{sine}
 use Rattle.sky.specs.Angles.{deg}
-use Rattle.sky.specs.Moon.{eccPower, zeroOr, addTerm, termAt, series}
+use Rattle.sky.specs.Moon.{eccPower, angle, zeroOr, addTerm, termAt, added}
 use Rattle.sky.specs.declared.moon.MoonArgs.{MoonArgs}
 use Rattle.sky.specs.declared.moon.Term.{Term}
 
@@ -33,17 +37,40 @@ ecc-else e (negsuc (suc n)) h k l = refl
 abbrev pub back : ℤ → ℤ
 back z = toZ w32 (ofZ w32 z)
 
--- one row more
-pub row-more : (rows : List ℤ) (a : MoonArgs) (i : ℕ) {x : Term} {s r : Float} → s ≡ series rows a i → x ≡ termAt rows i → r ≡ addTerm a x s → r ≡ series rows a (i + 1)
-unfolding series
-row-more rows a i hs hx hr = rw (add-one i) (hr ∙ simp (hs, hx))
+-- the angle of a term, from the parts that the code works out
+pub angle-is : (a : MoonArgs) (x : Term) {w0 w1 w2 w3 : Float} → SFits w32 (x .d) → SFits w32 (x .m) → SFits w32 (x .mp) → SFits w32 (x .f) → w0 ≡ whole (back (x .d)) → w1 ≡ whole (back (x .m)) → w2 ≡ whole (back (x .mp)) → w3 ≡ whole (back (x .f)) → (w0 ⊗ a .d ⊕ w1 ⊗ a .m ⊕ w2 ⊗ a .mp ⊕ w3 ⊗ a .f) ⊗ deg ≡ angle a x
+angle-is a x f0 f1 f2 f3 h0 h1 h2 h3 = simp (h0, h1, h2, h3, toZ-ofZ w32 (x .d) f0, toZ-ofZ w32 (x .m) f1, toZ-ofZ w32 (x .mp) f2, toZ-ofZ w32 (x .f) f3)
 
 -- a term whose coefficient is not 0, from the parts that the code works out
-pub term-is : (a : MoonArgs) (x : Term) (s : Float) {w0 w1 w2 w3 w4 p t y : Float} → SFits w32 (x .d) → SFits w32 (x .m) → SFits w32 (x .mp) → SFits w32 (x .f) → SFits w32 (x .coeff) → (x .coeff ≡ pos 0 → ⊥) → w0 ≡ whole (back (x .d)) → w1 ≡ whole (back (x .m)) → w2 ≡ whole (back (x .mp)) → w3 ≡ whole (back (x .f)) → w4 ≡ whole (back (x .coeff)) → p ≡ eccPower (a .e) (back (x .m)) → y ≡ (w0 ⊗ a .d ⊕ w1 ⊗ a .m ⊕ w2 ⊗ a .mp ⊕ w3 ⊗ a .f) ⊗ deg → t ≡ sine y → s ⊕ w4 ⊗ p ⊗ t ≡ addTerm a x s
+pub term-is : (e : Float) (x : Term) (v s : Float) {w p : Float} → SFits w32 (x .m) → SFits w32 (x .coeff) → (x .coeff ≡ pos 0 → ⊥) → w ≡ whole (back (x .coeff)) → p ≡ eccPower e (back (x .m)) → s ⊕ w ⊗ p ⊗ v ≡ addTerm e x v s
 unfolding addTerm
-term-is a x s f0 f1 f2 f3 f4 h h0 h1 h2 h3 h4 hp hy ht =
-    simp (ht, hy, hp, h0, h1, h2, h3, h4, toZ-ofZ w32 (x .d) f0, toZ-ofZ w32 (x .m) f1, toZ-ofZ w32 (x .mp) f2, toZ-ofZ w32 (x .f) f3, toZ-ofZ w32 (x .coeff) f4) (zero-not (x .coeff) s _ h)
+term-is e x v s f g h hw hp = simp (hw, hp, toZ-ofZ w32 (x .m) f, toZ-ofZ w32 (x .coeff) g) (zero-not (x .coeff) s _ h)
 
-pub term-none : (a : MoonArgs) (x : Term) (s : Float) → x .coeff ≡ pos 0 → s ≡ addTerm a x s
+pub term-none : (e : Float) (x : Term) (v s : Float) → x .coeff ≡ pos 0 → s ≡ addTerm e x v s
 unfolding addTerm zeroOr
-term-none a x s h = rw h
+term-none e x v s h = rw h
+
+-- one row more
+pub row-more : (rows : List ℤ) (e : Float) (f : ℕ → Float) (i : ℕ) {x : Term} {v s r : Float} → s ≡ added rows e f i → x ≡ termAt rows i → v ≡ f i → r ≡ addTerm e x v s → r ≡ added rows e f (i + 1)
+unfolding added
+row-more rows e f i hs hx hv hr = rw (add-one i) (hr ∙ simp (hs, hx, hv))
+
+-- only the sines of the rows that are added matter
+pub added-same : (rows : List ℤ) (e : Float) (f g : ℕ → Float) (n : ℕ) → ((i : ℕ) → i < n → f i ≡ g i) → added rows e f n ≡ added rows e g n
+unfolding added
+added-same rows e f g zero h = refl
+added-same rows e f g (suc n) h = rw (h n (omega arith), added-same rows e f g n (λ i l. h i (omega arith)))
+
+-- the places below i hold the one, the others what the other says
+abbrev pub Filled : List Float → (ℕ → Float) → (ℕ → Float) → ℕ → Type 0
+Filled l f g i = (k : ℕ) → (k < i → getD l k nan ≡ f k) × (i ≤ k → getD l k nan ≡ g k)
+
+-- one place more
+pub filled-more : (l : List Float) (f g : ℕ → Float) (i : ℕ) {v : Float} → i < length l → v ≡ f i → Filled l f g i → Filled (set l i v) f g (i + 1)
+filled-more l f g i {v} h e p k = (
+  λ u. ⊎-elim
+      (λ (q : i ≤ k). let same : k ≡ i = omega arith in rw same (getD-set-same l i v nan h ∙ e))
+      (λ (q : k < i). getD-set-other l i k v nan (λ s. let bad : ⊥ = omega arith in bad) ∙ p k .0 q)
+      (split i k),
+  λ u. getD-set-other l i k v nan (λ s. let bad : ⊥ = omega arith in bad) ∙ p k .1 (omega arith),
+)

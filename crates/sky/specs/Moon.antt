@@ -1,9 +1,10 @@
 -- The moon's longitude at t centuries after J2000.0, Meeus ch. 47, operation by operation, each rounded once. Assumes nothing.
-use Prim.Native.Nat.{ℕ, zero, suc, _+_, _*_}
+use Prim.Native.Nat.{ℕ, zero, suc, _+_, _*_, _<_}
+use mathlib.Core.Path.{_≡_}
 use mathlib.Core.List.{List}
 use lib.IntN.{ℤ, pos, negsuc}
-use lib.ListN.{getD}
-use lib.Ieee.{Float}
+use lib.ListN.{length, getD}
+use lib.Ieee.{Float, nan}
 use Rattle.paper.specs.Floats.{_⊕_, _⊖_, _⊗_, _⊘_, dec, whole}
 use Rattle.trig.specs.Trig.{sine}
 use Rattle.sky.specs.Time.{cube, fourth}
@@ -58,19 +59,27 @@ zeroOr (pos zero) a b = a
 zeroOr (pos (suc n)) a b = b
 zeroOr (negsuc n) a b = b
 
--- one term added to s, none where the coefficient is 0
-unfoldable pub addTerm : MoonArgs → Term → Float → Float
-addTerm a x s = zeroOr (x .coeff) s (s ⊕ whole (x .coeff) ⊗ eccPower (a .e) (x .m) ⊗ sine (angle a x))
+-- a term whose angle has this sine added to s, none where the coefficient is 0
+unfoldable pub addTerm : Float → Term → Float → Float → Float
+addTerm e x v s = zeroOr (x .coeff) s (s ⊕ whole (x .coeff) ⊗ eccPower e (x .m) ⊗ v)
 
 -- row i of a table
 abbrev pub termAt : List ℤ → ℕ → Term
 termAt rows i =
     record { d = getD rows (5 * i) (pos 0); m = getD rows (5 * i + 1) (pos 0); mp = getD rows (5 * i + 2) (pos 0); f = getD rows (5 * i + 3) (pos 0); coeff = getD rows (5 * i + 4) (pos 0) }
 
--- the first n rows of a table, added from 0.0 on, in the order of the table
+-- sixty numbers, each by its place
+abbrev pub Sixty : List Float → (ℕ → Float) → Type 0
+Sixty l f = (length l ≡ 60) × ((i : ℕ) → i < 60 → getD l i nan ≡ f i)
+
+-- the first n rows of a table, whose angles have these sines, added from 0.0 on, in the order of the table
+unfoldable pub added : List ℤ → Float → (ℕ → Float) → ℕ → Float
+added rows e sines zero = dec 0 0
+added rows e sines (suc n) = addTerm e (termAt rows n) (sines n) (added rows e sines n)
+
+-- the same with the sines of the rows' own angles
 unfoldable pub series : List ℤ → MoonArgs → ℕ → Float
-series rows a zero = dec 0 0
-series rows a (suc n) = addTerm a (termAt rows n) (series rows a n)
+series rows a n = added rows (a .e) (λ i. sine (angle a (termAt rows i))) n
 
 -- all sixty
 unfoldable pub moonSum : MoonArgs → Float

@@ -1,8 +1,11 @@
 // The moon's longitude, Meeus ch. 47. Each function serves every f64.
 ghost use mathlib.Core.Path.{_≡_};
 ghost use Prim.Native.Nat.{_<_};
+ghost use lib.Ieee.{nan};
+ghost use lib.ListN.{length, getD};
 ghost use Rattle.paper.specs.Floats.{whole};
-ghost use Rattle.sky.specs.Moon.{moonArgs, eccPower, addTerm, termAt, series, moonSum, additive, moonLongitude};
+ghost use Rattle.trig.specs.Trig.{sine};
+ghost use Rattle.sky.specs.Moon.{moonArgs, eccPower, angle, addTerm, termAt, Sixty, added, series, moonSum, additive, moonLongitude};
 use super::angles::DEG;
 use super::angles::norm360;
 use super::terms::MOON_TERMS;
@@ -65,19 +68,21 @@ fn ecc_power(e: f64, c: i32) -> f64
     e * e
 }
 
-// One term added to a sum, none where the coefficient is 0.
-fn add_term(a: MoonArgs, x: Term, sum: f64) -> f64
-    ensures { λ r. ⌜ r ≡ addTerm a x sum ⌝ }
+// The angle of a term in radians.
+fn angle(a: MoonArgs, x: Term) -> f64
+    ensures { λ r. ⌜ r ≡ angle a x ⌝ }
+{
+    (as_float(x.d) * a.d + as_float(x.m) * a.m + as_float(x.mp) * a.mp + as_float(x.f) * a.f) * DEG
+}
+
+// A term whose angle has this sine added to a sum, none where the coefficient is 0.
+fn add_term(e: f64, x: Term, sine: f64, sum: f64) -> f64
+    ensures { λ r. ⌜ r ≡ addTerm e x sine sum ⌝ }
 {
     if x.coeff == 0 {
         return sum;
     }
-    let angle = (as_float(x.d) * a.d
-        + as_float(x.m) * a.m
-        + as_float(x.mp) * a.mp
-        + as_float(x.f) * a.f)
-        * DEG;
-    sum + as_float(x.coeff) * ecc_power(a.e, x.m) * trig::sine(angle)
+    sum + as_float(x.coeff) * ecc_power(e, x.m) * sine
 }
 
 // Row i of a table.
@@ -95,17 +100,51 @@ fn term_at(terms: &[i32; 300], i: usize) -> Term
     }
 }
 
-// The sum over the rows of a table.
-fn series(terms: &[i32; 300], a: MoonArgs) -> f64
-    ensures { λ r. ⌜ r ≡ series (now (terms .entry)) a 60 ⌝ }
+// The angles of the rows of a table.
+fn put_angles(terms: &[i32; 300], a: MoonArgs, out: &mut [f64; 60])
+    requires { ⌜ length (now out) ≡ 60 ⌝ }
+    ensures { λ _. ⌜ Sixty (now (out .exit)) (λ i. angle a (termAt (now (terms .entry)) i)) ⌝ }
+{
+    let mut i: usize = 0;
+    while i < 60 {
+        out[i] = angle(a, term_at(terms, i));
+        i += 1;
+    }
+}
+
+// The sine of each number in its place.
+fn put_sines(out: &mut [f64; 60])
+    requires { ⌜ length (now out) ≡ 60 ⌝ }
+    ensures { λ _. ⌜ Sixty (now (out .exit)) (λ i. sine (getD (now (out .entry)) i nan)) ⌝ }
+{
+    let mut i: usize = 0;
+    while i < 60 {
+        out[i] = trig::sine(out[i]);
+        i += 1;
+    }
+}
+
+// The sum over the rows of a table, whose angles have these sines.
+fn add_terms(terms: &[i32; 300], e: f64, sines: &[f64; 60]) -> f64
+    ensures { λ r. ⌜ r ≡ added (now (terms .entry)) e (λ i. getD (now (sines .entry)) i nan) 60 ⌝ }
 {
     let mut sum = 0.0;
     let mut i: usize = 0;
     while i < 60 {
-        sum = add_term(a, term_at(terms, i), sum);
+        sum = add_term(e, term_at(terms, i), sines[i], sum);
         i += 1;
     }
     sum
+}
+
+// The sum over the rows of a table: all angles, then all sines, then the sum, so that two sines are worked out at a time.
+fn series(terms: &[i32; 300], a: MoonArgs) -> f64
+    ensures { λ r. ⌜ r ≡ series (now (terms .entry)) a 60 ⌝ }
+{
+    let mut sines = [0.0; 60];
+    put_angles(terms, a, &mut sines);
+    put_sines(&mut sines);
+    add_terms(terms, a.e, &sines)
 }
 
 // The sum over the moon's terms, which are laid out once.

@@ -112,26 +112,20 @@ fn cosine_above(a: f64) -> f64
     swing(a, k, k - 0.5)
 }
 
-// The sine of x radians.
+// The sine of x radians. It is worked out for every x and then taken or not, so that a loop over several angles has no jump in it.
 pub fn sine(x: f64) -> f64
     ensures { λ r. ⌜ r ≡ Trig.sine x ⌝ }
 {
-    if in_range(x) {
-        signed(x, sine_above(magnitude(x)))
-    } else {
-        0.0
-    }
+    let v = signed(x, sine_above(magnitude(x)));
+    if in_range(x) { v } else { 0.0 }
 }
 
 // The cosine of x radians.
 pub fn cosine(x: f64) -> f64
     ensures { λ r. ⌜ r ≡ Trig.cosine x ⌝ }
 {
-    if in_range(x) {
-        cosine_above(magnitude(x))
-    } else {
-        0.0
-    }
+    let v = cosine_above(magnitude(x));
+    if in_range(x) { v } else { 0.0 }
 }
 
 // The tangent of x radians: sine over cosine.

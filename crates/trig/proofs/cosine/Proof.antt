@@ -4,18 +4,18 @@ use Rattle.trig.specs.Trig.{cosine}
 use Rattle.trig.proofs.cosine.Statement.{statement}
 use Rattle.trig.proofs.cosine.Tie as tie
 
-in-range-requires : tie.Need-in-range-requires
-in-range-requires c κs = search needs
-
 magnitude-requires : tie.Need-magnitude-requires
 magnitude-requires c κs = search needs
 
 cosine-above-requires : tie.Need-cosine-above-requires
 cosine-above-requires c κs = search needs
 
+in-range-requires : tie.Need-in-range-requires
+in-range-requires c κs = search needs
+
 returns : tie.Need-returns
 unfolding cosine
-returns c = rw (← c .before .before .before .in-range .ensures, c .before .before .if1 .taken) (cc)
+returns c = rw (← c .before .in-range .ensures, c .if1 .taken) (cc)
 
 returns-2 : tie.Need-returns-2
 unfolding cosine
@@ -24,4 +24,4 @@ returns-2 c = rw (← c .before .in-range .ensures, c .if1 .left)
 pub cosine-spec : {M : Type 1} → statement M
 cosine-spec =
     tie.close
-    (tie.spec in-range-requires magnitude-requires cosine-above-requires returns returns-2)
+    (tie.spec magnitude-requires cosine-above-requires in-range-requires returns returns-2)

@@ -4,9 +4,6 @@ use Rattle.trig.specs.Trig.{sine}
 use Rattle.trig.proofs.sine.Statement.{statement}
 use Rattle.trig.proofs.sine.Tie as tie
 
-in-range-requires : tie.Need-in-range-requires
-in-range-requires c κs = search needs
-
 magnitude-requires : tie.Need-magnitude-requires
 magnitude-requires c κs = search needs
 
@@ -16,9 +13,12 @@ sine-above-requires c κs = search needs
 signed-requires : tie.Need-signed-requires
 signed-requires c κs = search needs
 
+in-range-requires : tie.Need-in-range-requires
+in-range-requires c κs = search needs
+
 returns : tie.Need-returns
 unfolding sine
-returns c = rw (← c .before .before .before .before .in-range .ensures, c .before .before .before .if1 .taken) (cc)
+returns c = rw (← c .before .in-range .ensures, c .if1 .taken) (cc)
 
 returns-2 : tie.Need-returns-2
 unfolding sine
@@ -28,9 +28,9 @@ pub sine-spec : {M : Type 1} → statement M
 sine-spec =
     tie.close
     (tie.spec
-    in-range-requires
     magnitude-requires
     sine-above-requires
     signed-requires
+    in-range-requires
     returns
     returns-2)

@@ -1,56 +1,28 @@
-use mathlib.Core.Path.{_≡_, refl}
-use Prim.Native.Nat.{_≤_, _-_}
-use native.Mathlib.Omega.{arith}
-use lib.Ieee.{ofBits}
+-- `sky::moon::series` meets its contract. Assumes nothing.
+use mathlib.Core.Path.{ap, _∙_}
 use borrow.Author.Needs.{needs}
-use Rattle.paper.specs.Floats.{near}
+use Rattle.trig.specs.Trig.{sine}
 use Rattle.sky.specs.Moon.{series}
-use Rattle.sky.proofs.Series.{row-more}
+use Rattle.sky.proofs.Series.{added-same}
 use Rattle.sky.proofs.moon.series.Statement.{statement}
 use Rattle.sky.proofs.moon.series.Tie as tie
 
-abbrev Inv-loop : tie.InvT-loop
-Inv-loop terms a sum₀ i₀ sum i = (i ≤ 60) × (sum ≡ series terms a i)
+put-angles-requires : tie.Need-put-angles-requires
+put-angles-requires c κs = search needs
 
-abbrev μ-loop : tie.MeasureT-loop
-μ-loop terms a sum₀ i₀ sum i = 60 - i
+put-sines-requires : tie.Need-put-sines-requires
+put-sines-requires c κs = c .before .put-angles .ensures .0
 
-loop-holds : tie.Need-loop-holds Inv-loop μ-loop
-unfolding series near ofBits
-loop-holds c = (omega arith, refl)
+add-terms-requires : tie.Need-add-terms-requires
+add-terms-requires c κs = search needs
 
-term-at-requires : tie.Need-term-at-requires Inv-loop μ-loop
-term-at-requires c κs = omega arith
-
-add-term-requires : tie.Need-add-term-requires Inv-loop μ-loop
-add-term-requires c κs = search needs
-
-add-i : tie.Need-add-i Inv-loop μ-loop
-add-i c = omega arith
-
-loop-less : tie.Need-loop-less Inv-loop μ-loop
-loop-less c = omega arith
-
-loop-again : tie.Need-loop-again Inv-loop μ-loop
-loop-again c =
-    let l = c .before .before .before in
-    (omega arith, row-more (l .before .args .terms .now) (l .before .args .a) (l .loop .i) (l .loop .inv .1) (c .before .term-at .ensures) (c .add-term .ensures))
-
-returns : tie.Need-returns Inv-loop μ-loop
+returns : tie.Need-returns
+unfolding series
 returns c =
-    let e : c .before .loop .i ≡ 60 = omega arith in
-    rw e at (c .before .loop .inv .1)
+    let turned = c .before .before .put-sines .ensures .1 in
+    let placed = c .before .before .before .before .put-angles .ensures .1 in
+    c .add-terms .ensures ∙ added-same _ _ _ _ 60 (λ i h. turned i h ∙ ap sine (placed i h))
 
 pub series-spec : {M : Type 1} → statement M
 series-spec =
-    tie.close
-    (tie.spec
-    Inv-loop
-    μ-loop
-    loop-holds
-    term-at-requires
-    add-term-requires
-    add-i
-    loop-less
-    loop-again
-    returns)
+    tie.close (tie.spec put-angles-requires put-sines-requires add-terms-requires returns)
