@@ -3,3 +3,4 @@ pub mod Digits
 pub mod Reading
 pub mod Written
 pub mod Kept
+pub mod Fronts
