@@ -4,3 +4,4 @@ pub mod Reading
 pub mod Written
 pub mod Kept
 pub mod Fronts
+pub mod Quoted
