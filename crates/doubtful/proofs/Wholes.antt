@@ -1,0 +1,23 @@
+-- The cases of a text that is a number, whole. Assumes nothing.
+use Prim.Native.Nat.{ℕ}
+use mathlib.Core.Path.{_≡_}
+use mathlib.Core.Bool.{true, false}
+use mathlib.Core.List.{List}
+use mathlib.Core.Option.{some, none}
+use lib.ListN.{drop}
+use Rattle.text.specs.Digits.{got, no, isEnd, decimal}
+use Rattle.doubtful.specs.Numbers.{wholeNumber}
+
+module _ (s : List ℕ) (at : ℕ) (z : at ≡ 0) where
+  pub whole-none : decimal 65535 (drop at s) ≡ no → none ≡ wholeNumber s
+  unfolding wholeNumber
+  whole-none e = let f : decimal 65535 s ≡ no = rw z at e in rw f
+
+  module _ {n : ℕ} {t : List ℕ} (e : decimal 65535 (drop at s) ≡ got n t) where
+    pub whole-more : isEnd t ≡ false → none ≡ wholeNumber s
+    unfolding wholeNumber
+    whole-more q = let f : decimal 65535 s ≡ got n t = rw z at e in rw (f, q)
+
+    pub whole-all : isEnd t ≡ true → some n ≡ wholeNumber s
+    unfolding wholeNumber
+    whole-all q = let f : decimal 65535 s ≡ got n t = rw z at e in rw (f, q)
