@@ -1,1 +1,2 @@
 pub mod Nears
+pub mod Wholes

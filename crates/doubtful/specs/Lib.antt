@@ -1,2 +1,3 @@
 -- What the contracts of `doubtful` are written in.
 pub mod Near
+pub mod Numbers

@@ -3,6 +3,8 @@ use files::RulesRead;
 use files::TableRead;
 use libc::STDERR_FILENO;
 use text::Read;
+ghost use mathlib.Core.Path.{_≡_};
+ghost use Rattle.doubtful.specs.Numbers.{wholeNumber, askedSays};
 
 // A number up to 65,535, or none.
 pub enum Asked {
@@ -56,14 +58,13 @@ pub fn rules_asked(
 }
 
 // A text that is a number, whole.
-fn number_of(s: &[u8]) -> Asked {
+fn number_of(s: &[u8]) -> Asked
+    ensures { λ r. ⌜ askedSays r ≡ wholeNumber (now (s .entry)) ⌝ }
+{
     let Read::Number(n, next) = text::start().decimal(s, 65535) else {
         return Asked::Not;
     };
     if !next.at_end(s) {
-        return Asked::Not;
-    }
-    if 65535 < n {
         return Asked::Not;
     }
     Asked::Is(n as u16)

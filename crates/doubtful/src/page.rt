@@ -13,10 +13,11 @@ use libc::STDERR_FILENO;
 use panchanga::clock;
 use replay::Out;
 ghost use mathlib.Core.Path.{_≡_};
-ghost use mathlib.Core.Bool.{true};
+ghost use mathlib.Core.Bool.{true, false};
 ghost use Prim.Native.Nat.{_+_, _*_, _≤_};
 ghost use lib.ListN.{length};
 ghost use Rattle.conversion.specs.Flat.{accepted};
+ghost use Rattle.doubtful.specs.Numbers.{monthBefore, monthAfter, oneMore, firstPage, pageWith, withOut};
 
 // What is written, whether the year of the lines has its heading, and how many new moons are near a boundary, of these on a month's first day; how many
 // open nothing; and how many lunar months none opens.
@@ -30,7 +31,9 @@ pub struct Page {
 }
 
 // Nothing yet.
-pub fn begin() -> Page {
+pub fn begin() -> Page
+    ensures { λ r. ⌜ r ≡ firstPage ⌝ }
+{
     page_with(Out {
         at: 0,
         begun: false,
@@ -39,7 +42,9 @@ pub fn begin() -> Page {
 }
 
 // A page on which other things are written.
-pub fn page_with(o: Out) -> Page {
+pub fn page_with(o: Out) -> Page
+    ensures { λ r. ⌜ r ≡ pageWith o ⌝ }
+{
     Page {
         out: o,
         headed: false,
@@ -51,12 +56,16 @@ pub fn page_with(o: Out) -> Page {
 }
 
 // One more, of far fewer than that.
-fn more(n: u32) -> u32 {
+fn more(n: u32) -> u32
+    ensures { λ r. ⌜ r ≡ oneMore «n» ⌝ }
+{
     if n < 4000000000 { n + 1 } else { n }
 }
 
 // The page with what was written since, and its heading.
-fn written(p: Page, o: Out) -> Page {
+fn written(p: Page, o: Out) -> Page
+    ensures { λ r. ⌜ r ≡ withOut true p o ⌝ }
+{
     Page {
         out: o,
         headed: true,
@@ -143,12 +152,16 @@ fn put_month_rules(o: Out, out: &mut [u8], month: u16, rules: &[u16], names: &[u
 }
 
 // The month before; 12 before 1.
-fn month_before(m: u16) -> u16 {
+fn month_before(m: u16) -> u16
+    ensures { λ r. ⌜ r ≡ monthBefore m ⌝ }
+{
     if m <= 1 { 12 } else { m - 1 }
 }
 
 // The month after; 1 after 12.
-fn month_after(m: u16) -> u16 {
+fn month_after(m: u16) -> u16
+    ensures { λ r. ⌜ r ≡ monthAfter m ⌝ }
+{
     if 12 <= m { 1 } else { m + 1 }
 }
 
@@ -385,7 +398,9 @@ fn put_empty(p: Page, out: &mut [u8], year: u16, m: Months, rules: &[u16], names
 }
 
 // The page before the next year.
-fn unheaded(p: Page) -> Page {
+fn unheaded(p: Page) -> Page
+    ensures { λ r. ⌜ r ≡ withOut false p (p .out) ⌝ }
+{
     let o = p.out;
     Page {
         out: o,

@@ -1,13 +1,15 @@
--- How the name behind a rule is found: each turn of the loop over plain variables. Assumes nothing.
-use Prim.Native.Nat.{ℕ, _+_, _-_, _*_, _≤_, _<_}
-use mathlib.Core.Path.{_≡_, ap, _∙_}
-use mathlib.Core.List.{List}
+-- How the name behind a rule is found, kept and written: each turn of the loop over plain variables. Assumes nothing.
+use Prim.Native.Nat.{ℕ, _+_, _-_, _*_, _/_, _≤_, _<_}
+use mathlib.Core.Path.{_≡_, sym, ap, _∙_}
+use mathlib.Core.List.{List, []}
 use native.Mathlib.Omega.{arith}
-use borrow.Author.Tests.{eq-eqb, ne-eqb}
+use borrow.Author.Tests.{eq-eqb, ne-eqb, lt-ltb, le-ltb}
 use lib.ListN.{length, getD, take, drop, length-drop}
 use lib.Seq.{sets, take-all}
+use Rattle.text.specs.Fronts.{upTo}
 use Rattle.text.proofs.Texts.{cut, over}
-use Rattle.files.specs.Line.{skip, comment, named}
+use Rattle.text.proofs.Fronts.{up-front}
+use Rattle.files.specs.Line.{skip, comment, named, nameOf}
 
 module _ (s : List ℕ) (i : ℕ) where
   pub comment-over : length s ≤ i → drop i s ≡ comment (drop i s)
@@ -26,3 +28,17 @@ pub name-kept : (names s after : List ℕ) (i from : ℕ) → after ≡ sets nam
 name-kept names s after i from e q =
     let h : length (drop from s) ≤ length s - from = omega (arith, length-drop from s) in
     e ∙ ap (λ (t : List ℕ). sets names (64 * i) (take 64 t)) (take-all (length s - from) (drop from s) h ∙ q)
+
+-- ---- the name that is written
+
+module _ (names : List ℕ) (i : ℕ) where
+  pub name-none : length names / 64 ≤ i → nameOf i names ≡ []
+  unfolding nameOf
+  name-none h = rw (le-ltb i (length names / 64) h)
+
+  pub name-whole : (to : ℕ) → i < length names / 64 → to ≡ 64 * i + length (upTo 0 64 (drop (64 * i) names))
+      → nameOf i names ≡ take (to - 64 * i) (drop (64 * i) names)
+  unfolding nameOf
+  name-whole to h e =
+      let n : to - 64 * i ≡ length (upTo 0 64 (drop (64 * i) names)) = omega arith in
+      rw (lt-ltb i (length names / 64) h, n) (sym (up-front 0 64 (drop (64 * i) names)))

@@ -1,2 +1,3 @@
 -- What the contracts of `files` are written in.
 pub mod Line
+pub mod Problems

@@ -1,12 +1,13 @@
 -- A line of a table or a list of rules, without its line feed: numbers up to 65,535 with spaces (32) around them, and a comment from a # (35) to the
 -- end. Assumes nothing.
-use Prim.Native.Nat.{ℕ, zero, suc, _+_, _*_}
+use Prim.Native.Nat.{ℕ, zero, suc, _+_, _*_, _/_}
 use mathlib.Core.Bool.{Bool, cond, _||_}
 use mathlib.Core.List.{List, [], _∷_}
-use lib.Dec.{eqb}
-use lib.ListN.{length, replicate, take}
+use lib.Dec.{ltb, eqb}
+use lib.ListN.{length, replicate, take, drop}
 use lib.Seq.{sets}
 use Rattle.text.specs.Digits.{Got, got, no, found, starts, isEnd, decimal}
+use Rattle.text.specs.Fronts.{upTo}
 use Rattle.files.specs.declared.row.Form.{Form}
 use Rattle.files.specs.declared.row.Form.the-variants.{Numbers, NoNumber, TooMany}
 use Rattle.files.specs.declared.row.Row.{Row}
@@ -91,3 +92,7 @@ comment (b ∷ s) = cond (eqb b 35) (skip s) (comment s)
 -- a list of names with room for 64 bytes each, after the name of a line is stored at place i
 abbrev pub named : List ℕ → ℕ → List ℕ → List ℕ
 named names i s = sets names (64 * i) (take 64 (comment s))
+
+-- the name of rule i in such a list: its bytes up to the first 0, and nothing where the list has no 64 bytes for it
+unfoldable pub nameOf : ℕ → List ℕ → List ℕ
+nameOf i names = cond (ltb i (length names / 64)) (upTo 0 64 (drop (64 * i) names)) []

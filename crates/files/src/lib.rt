@@ -12,6 +12,8 @@ pub use problems::put_problem;
 pub use problems::report;
 use reading::Fault;
 use reading::Reading;
+ghost use mathlib.Core.Path.{_≡_};
+ghost use Rattle.files.specs.Problems.{wrongWith};
 
 // A table's first line and how many numbers its rows have, from the front of the lent buffer; or what is wrong.
 pub enum TableRead {
@@ -31,7 +33,10 @@ enum Wrong {
     Nothing,
 }
 
-fn wrong_with(r: Reading, width: usize) -> Wrong {
+// What is wrong after a reading of rows of so many numbers.
+fn wrong_with(r: Reading, width: usize) -> Wrong
+    ensures { λ w. ⌜ w ≡ wrongWith width r ⌝ }
+{
     let fault = r.fault;
     let line = r.line;
     match fault {

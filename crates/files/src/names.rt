@@ -1,9 +1,11 @@
 // The names that stand behind rules as text, 64 bytes of a lent buffer for each.
 ghost use mathlib.Core.Path.{_≡_};
-ghost use Prim.Native.Nat.{_≤_};
+ghost use Prim.Native.Nat.{_+_, _≤_};
 ghost use lib.ListN.{drop, length, take};
 ghost use lib.Seq.{sets};
-ghost use Rattle.files.specs.Line.{comment, named};
+ghost use Rattle.text.specs.Fronts.{upTo};
+ghost use Rattle.text.specs.Written.{Wrote};
+ghost use Rattle.files.specs.Line.{comment, named, nameOf};
 use crate::row;
 
 // Where the comment of a line begins, without its mark and the spaces before its text.
@@ -45,7 +47,7 @@ pub fn keep_name(names: &mut [u8], i: usize, s: &[u8])
 // Where the name that begins at a place is over: at the first 0, or after 64 bytes.
 fn name_end(names: &[u8], from: usize) -> usize
     requires { ⌜ from ≤ length (now names) ⌝ }
-    ensures { λ r. ⌜ (from ≤ r) × (r ≤ length (now (names .entry))) ⌝ }
+    ensures { λ r. ⌜ (r ≡ from + length (upTo 0 64 (drop from (now (names .entry))))) × (r ≤ length (now (names .entry))) ⌝ }
 {
     let mut i = from;
     let mut left: usize = 64;
@@ -63,7 +65,9 @@ fn name_end(names: &[u8], from: usize) -> usize
 }
 
 // Writes the name of rule i into a lent buffer from a place on, and answers the place after it.
-pub fn put_name(out: &mut [u8], at: usize, names: &[u8], i: usize) -> usize {
+pub fn put_name(out: &mut [u8], at: usize, names: &[u8], i: usize) -> usize
+    ensures { λ r. ⌜ Wrote (now (out .entry)) at (nameOf i (now (names .entry))) (now (out .exit)) r ⌝ }
+{
     if names.len() / 64 <= i {
         return at;
     }

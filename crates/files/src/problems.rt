@@ -1,4 +1,6 @@
 // What can be wrong with a file, and the one line that says so.
+ghost use Rattle.text.specs.Written.{Wrote};
+ghost use Rattle.files.specs.Problems.{atLine, whatText, problemText};
 use libc::STDERR_FILENO;
 
 // The number is that of the line, from 1 on.
@@ -14,14 +16,20 @@ pub enum Problem {
     TooMany(u32),
 }
 
-fn put_at(out: &mut [u8], at: usize, line: u32, expected: &[u8]) -> usize {
+// Writes what was expected in a line.
+fn put_at(out: &mut [u8], at: usize, line: u32, expected: &[u8]) -> usize
+    ensures { λ r. ⌜ Wrote (now (out .entry)) at (atLine line (now (expected .entry))) (now (out .exit)) r ⌝ }
+{
     let a = text::put(out, at, b": line ");
     let b = text::put_decimal(out, a, line as u64);
     let c = text::put(out, b, b": expected ");
     text::put(out, c, expected)
 }
 
-fn put_what(out: &mut [u8], at: usize, p: Problem) -> usize {
+// Writes what is wrong.
+fn put_what(out: &mut [u8], at: usize, p: Problem) -> usize
+    ensures { λ r. ⌜ Wrote (now (out .entry)) at (whatText p) (now (out .exit)) r ⌝ }
+{
     match p {
         Problem::NotOpened => text::put(out, at, b": cannot be opened"),
         Problem::NotRead => text::put(out, at, b": cannot be read to its end"),
@@ -51,7 +59,9 @@ fn put_what(out: &mut [u8], at: usize, p: Problem) -> usize {
 }
 
 // Writes the line `FILE: line N: expected ..` and its line feed into a lent buffer from a place on, and answers the place after it.
-pub fn put_problem(out: &mut [u8], at: usize, path: &[u8], p: Problem) -> usize {
+pub fn put_problem(out: &mut [u8], at: usize, path: &[u8], p: Problem) -> usize
+    ensures { λ r. ⌜ Wrote (now (out .entry)) at (problemText (now (path .entry)) p) (now (out .exit)) r ⌝ }
+{
     let a = text::put(out, at, path);
     let b = put_what(out, a, p);
     text::put(out, b, b"\n")

@@ -3,3 +3,5 @@ pub mod Digits
 pub mod Reading
 pub mod Written
 pub mod Kept
+pub mod Fronts
+pub mod Quoted

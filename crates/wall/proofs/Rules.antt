@@ -6,7 +6,7 @@ use native.Mathlib.Omega.{arith}
 use borrow.Author.Tests.{eq-eqb, ne-eqb, lt-ltb, le-ltb}
 use lib.ListN.{getD, drop}
 use Rattle.text.specs.Digits.{digits}
-use Rattle.wall.specs.Words.{upTo}
+use Rattle.text.specs.Fronts.{upTo}
 use Rattle.wall.specs.Names.{ruleFrom, ruleCount, ruleOf, nameText}
 
 module _ (n : ℕ) (rules : List ℕ) (i : ℕ) where

@@ -5,7 +5,7 @@ use mathlib.Core.List.{List}
 use lib.Dec.{ltb, eqb}
 use lib.ListN.{length, getD, drop}
 use Rattle.text.specs.Digits.{digits}
-use Rattle.wall.specs.Words.{upTo}
+use Rattle.text.specs.Fronts.{upTo}
 
 -- the first of k rules of eight numbers from rule i on whose seventh number is n; the place after them where there is none
 unfoldable pub ruleFrom : ℕ → List ℕ → ℕ → ℕ → ℕ

@@ -3,6 +3,7 @@ use Prim.Native.Nat.{ℕ, zero, suc}
 use mathlib.Core.Bool.{cond}
 use mathlib.Core.List.{List, [], _∷_}
 use lib.Dec.{eqb}
+use Rattle.text.specs.Fronts.{upTo}
 
 -- ---- lines of a text; a line feed is 10
 
@@ -15,12 +16,6 @@ nextLine (x ∷ s) = cond (eqb x 10) s (nextLine s)
 abbrev pub lineFrom : ℕ → List ℕ → List ℕ
 lineFrom zero s = s
 lineFrom (suc k) s = lineFrom k (nextLine s)
-
--- at most so many bytes of a text, up to the byte `stop`
-abbrev pub upTo : ℕ → ℕ → List ℕ → List ℕ
-upTo stop zero s = []
-upTo stop (suc n) [] = []
-upTo stop (suc n) (x ∷ s) = cond (eqb x stop) [] (x ∷ upTo stop n s)
 
 -- at most so many bytes of line k
 unfoldable pub word : ℕ → ℕ → List ℕ → List ℕ

@@ -1,8 +1,9 @@
 // Lines of a text, found and written; the words for months and weekdays.
 ghost use mathlib.Core.Path.{_≡_};
 ghost use lib.ListN.{drop};
+ghost use Rattle.text.specs.Fronts.{upTo};
 ghost use Rattle.text.specs.Written.{Wrote};
-ghost use Rattle.wall.specs.Words.{nextLine, lineFrom, upTo, word, weekdays, gregorianMonths, bsMonths};
+ghost use Rattle.wall.specs.Words.{nextLine, lineFrom, word, weekdays, gregorianMonths, bsMonths};
 
 // The place behind the line that stands at a place.
 fn next_line(s: &[u8], from: usize) -> usize

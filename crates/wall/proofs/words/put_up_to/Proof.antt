@@ -1,9 +1,9 @@
 -- `wall::words::put_up_to` meets its contract: what stands at the place reached is still to be written. Assumes nothing.
 use mathlib.Core.Path.{_≡_, refl, _∙_}
 use lib.ListN.{length, drop}
-use Rattle.wall.specs.Words.{upTo}
+use Rattle.text.specs.Fronts.{upTo}
+use Rattle.text.proofs.Fronts.{up-over, up-stopped, up-none, up-turn}
 use Rattle.wall.proofs.Going.{Going, stopped, written}
-use Rattle.wall.proofs.Parts.{up-over, up-stopped, up-none, up-turn}
 use borrow.Author.Needs.{needs}
 use Rattle.wall.proofs.words.put_up_to.Statement.{statement}
 use Rattle.wall.proofs.words.put_up_to.Tie as tie

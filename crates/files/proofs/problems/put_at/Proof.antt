@@ -1,0 +1,44 @@
+-- `files::problems::put_at` meets its contract. Assumes nothing.
+use Rattle.text.proofs.Writes.{then}
+use Rattle.files.specs.Problems.{atLine}
+use borrow.Author.Needs.{needs}
+use Rattle.files.proofs.problems.put_at.Statement.{statement}
+use Rattle.files.proofs.problems.put_at.Tie as tie
+
+slice-aggregate-put : tie.Need-slice-aggregate-put
+slice-aggregate-put c = search needs
+
+put-requires : tie.Need-put-requires
+put-requires c κs = search needs
+
+put-decimal-requires : tie.Need-put-decimal-requires
+put-decimal-requires c κs = search needs
+
+slice-aggregate-put-2 : tie.Need-slice-aggregate-put-2
+slice-aggregate-put-2 c = search needs
+
+put-requires-2 : tie.Need-put-requires-2
+put-requires-2 c κs = search needs
+
+put-requires-3 : tie.Need-put-requires-3
+put-requires-3 c κs = search needs
+
+same-length : tie.Need-same-length
+same-length c = search needs
+
+returns : tie.Need-returns
+unfolding atLine
+returns c = then (c .before .before .before .before .before .before .before .before .before .before .before .before .before .before .before .put .ensures) (then (c .before .before .before .before .before .before .before .before .before .before .before .put-decimal .ensures) (then (c .before .before .before .before .before .before .put2 .ensures) (c .before .before .put3 .ensures)))
+
+pub put-at-spec : {M : Type 1} → statement M
+put-at-spec =
+    tie.close
+    (tie.spec
+    slice-aggregate-put
+    put-requires
+    put-decimal-requires
+    slice-aggregate-put-2
+    put-requires-2
+    put-requires-3
+    same-length
+    returns)

@@ -1,0 +1,74 @@
+-- `files::wrong_with` meets its contract. Assumes nothing.
+use borrow.Author.Tests.{eq-eqb, ne-eqb}
+use Rattle.files.specs.Problems.{otherCount}
+use borrow.Author.Needs.{needs}
+use Rattle.files.proofs.wrong_with.Statement.{statement}
+use Rattle.files.proofs.wrong_with.Tie as tie
+
+enum-told : tie.Need-enum-told
+enum-told c = search needs
+
+enum-told-2 : tie.Need-enum-told-2
+enum-told-2 c = search needs
+
+enum-told-3 : tie.Need-enum-told-3
+enum-told-3 c = search needs
+
+returns : tie.Need-returns
+unfolding otherCount
+returns c = rw (c .before .enum-told3 .given .1, c .if1 .taken)
+
+returns-2 : tie.Need-returns-2
+unfolding otherCount
+returns-2 c = rw (c .before .before .enum-told3 .given .1, c .before .if1 .left, eq-eqb (c .before .before .before .before .args .width) 13 (c .if2 .taken))
+
+enum-told-4 : tie.Need-enum-told-4
+enum-told-4 c = search needs
+
+enum-told-5 : tie.Need-enum-told-5
+enum-told-5 c = search needs
+
+enum-told-6 : tie.Need-enum-told-6
+enum-told-6 c = search needs
+
+returns-3 : tie.Need-returns-3
+returns-3 c = rw (c .before .enum-told6 .given .1, c .if3 .taken)
+
+returns-4 : tie.Need-returns-4
+returns-4 c = rw (c .enum-told .given .1)
+
+returns-5 : tie.Need-returns-5
+returns-5 c = rw (c .enum-told2 .given .1)
+
+returns-6 : tie.Need-returns-6
+unfolding otherCount
+returns-6 c = rw (c .before .before .enum-told3 .given .1, c .before .if1 .left, ne-eqb (c .before .before .before .before .args .width) 13 (c .if2 .left))
+
+returns-7 : tie.Need-returns-7
+returns-7 c = rw (c .enum-told4 .given .1)
+
+returns-8 : tie.Need-returns-8
+returns-8 c = rw (c .enum-told5 .given .1)
+
+returns-9 : tie.Need-returns-9
+returns-9 c = search needs
+
+pub wrong-with-spec : {M : Type 1} → statement M
+wrong-with-spec =
+    tie.close
+    (tie.spec
+    enum-told
+    enum-told-2
+    enum-told-3
+    returns
+    returns-2
+    enum-told-4
+    enum-told-5
+    enum-told-6
+    returns-3
+    returns-4
+    returns-5
+    returns-6
+    returns-7
+    returns-8
+    returns-9)
