@@ -1,10 +1,12 @@
 -- Words gathered one after the other. Assumes nothing.
-use Prim.Native.Nat.{ℕ, _+_, _≤_, _<_}
+use Prim.Native.Nat.{ℕ, suc, _+_, _≤_, _<_}
 use mathlib.Core.Bool.{Bool, true, false}
 use mathlib.Core.Path.{_≡_, refl, sym, ap, _∙_}
-use mathlib.Core.List.{List, [], _∷_, _++_}
+use mathlib.Core.List.{List, [], _∷_, _++_, map}
+use native.Mathlib.Numerals.{add-one}
 use borrow.Author.Tests.{le-leb, lt-leb}
-use lib.ListN.{length}
+use lib.ListN.{length, getD, drop, drop-of-length-le}
+use lib.Seq.{drop-cons}
 use Rattle.text.specs.Written.{Wrote}
 use Rattle.text.proofs.Writes as texts
 use Rattle.replay.specs.Gathered.{Gathered, gathered, room, stored, spaceOf, put, puts, ended, Gathers}
@@ -49,3 +51,11 @@ ends {l} {at} {m} o b w = stored-there l o (10 ∷ []) m at false w ∙ rw b
 pub ends-none : (l : List ℕ) (o : Out) → o .begun ≡ false → gathered l o ≡ ended (gathered l o)
 unfolding ended
 ends-none l o b = rw b
+
+-- the words of a list put one at a time: one turn, and the end
+module _ {A : Type 0} (f : A → List ℕ) (list : List A) (i : ℕ) (l : List ℕ) (o : Out) where
+  pub each-turn : {m : List ℕ} {p : Out} (d : A) → i < length list → Gathers l o (f (getD list i d) ∷ []) m p → puts (gathered m p) (map f (drop (i + 1) list)) ≡ puts (gathered l o) (map f (drop i list))
+  each-turn d h w = rw (add-one, drop-cons list i d) (ap (λ (g : Gathered). puts g (map f (drop (suc i) list))) (w .same))
+
+  pub each-over : length list ≤ i → {g : Gathered} → puts (gathered l o) (map f (drop i list)) ≡ g → gathered l o ≡ g
+  each-over h e = rw (drop-of-length-le list {i = i} h) at e
