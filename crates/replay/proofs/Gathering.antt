@@ -52,10 +52,16 @@ pub ends-none : (l : List ℕ) (o : Out) → o .begun ≡ false → gathered l o
 unfolding ended
 ends-none l o b = rw b
 
--- the words of a list put one at a time: one turn, and the end
-module _ {A : Type 0} (f : A → List ℕ) (list : List A) (i : ℕ) (l : List ℕ) (o : Out) where
-  pub each-turn : {m : List ℕ} {p : Out} (d : A) → i < length list → Gathers l o (f (getD list i d) ∷ []) m p → puts (gathered m p) (map f (drop (i + 1) list)) ≡ puts (gathered l o) (map f (drop i list))
-  each-turn d h w = rw (add-one, drop-cons list i d) (ap (λ (g : Gathered). puts g (map f (drop (suc i) list))) (w .same))
+-- the words of a list put one at a time: those from a place on, behind what is gathered now, make the whole
+pub record Left {A : Type 0} (f : A → List ℕ) (list : List A) (l₀ : List ℕ) (o₀ : Out) (i : ℕ) (l : List ℕ) (o : Out) : Type 0 where
+  pub whole : puts (gathered l o) (map f (drop i list)) ≡ puts (gathered l₀ o₀) (map f list)
 
-  pub each-over : length list ≤ i → {g : Gathered} → puts (gathered l o) (map f (drop i list)) ≡ g → gathered l o ≡ g
-  each-over h e = rw (drop-of-length-le list {i = i} h) at e
+module _ {A : Type 0} {f : A → List ℕ} {list : List A} {l₀ : List ℕ} {o₀ : Out} where
+  pub left-all : Left f list l₀ o₀ 0 l₀ o₀
+  left-all = record { whole = refl }
+
+  pub left-turn : {i : ℕ} {l : List ℕ} {o : Out} {m : List ℕ} {p : Out} (d : A) → Left f list l₀ o₀ i l o → i < length list → Gathers l o (f (getD list i d) ∷ []) m p → Left f list l₀ o₀ (i + 1) m p
+  left-turn {i} d a h w = record { whole = ap (λ (g : Gathered). puts g (map f (drop (i + 1) list))) (w .same) ∙ (rw add-one (rw (drop-cons list i d h) at (a .whole))) }
+
+  pub left-none : {i : ℕ} {l : List ℕ} {o : Out} → Left f list l₀ o₀ i l o → length list ≤ i → Gathers l₀ o₀ (map f list) l o
+  left-none {i} a h = record { same = rw (drop-of-length-le list {i = i} h) at (a .whole) }
