@@ -1,10 +1,14 @@
 // What several kinds of answers have in common.
+ghost use mathlib.Core.Path.{_≡_};
+ghost use Rattle.answers.specs.Replies.{dateIn};
 use gregorian::Date;
 use replay::Out;
 use replay::Words;
 
 // A date from a line's first three words.
-pub fn date_of(w: Words) -> Date {
+pub fn date_of(w: Words) -> Date
+    ensures { λ r. ⌜ r ≡ dateIn w ⌝ }
+{
     Date {
         year: w.small(1),
         month: w.small(2),
