@@ -3,12 +3,15 @@ ghost use mathlib.Core.Path.{_≡_};
 ghost use mathlib.Core.List.{[], _∷_, map};
 ghost use Rattle.text.specs.Digits.{digits};
 ghost use Rattle.replay.specs.Gathered.{Gathers};
+ghost use Rattle.answers.specs.Replies.{dateIn};
 use gregorian::Date;
 use replay::Out;
 use replay::Words;
 
 // A date from a line's first three words.
-pub fn date_of(w: Words) -> Date {
+pub fn date_of(w: Words) -> Date
+    ensures { λ r. ⌜ r ≡ dateIn w ⌝ }
+{
     Date {
         year: w.small(1),
         month: w.small(2),
