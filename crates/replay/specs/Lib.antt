@@ -1,2 +1,4 @@
 -- What the contracts of `replay` are written in.
 pub mod Line
+pub mod Gathered
+pub mod Tags

@@ -1,0 +1,3 @@
+-- The laws of `questions`.
+pub mod Forms
+pub mod Loans

@@ -1,0 +1,2 @@
+-- What the contracts of `questions` are written in.
+pub mod Lending
