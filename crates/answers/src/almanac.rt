@@ -1,79 +1,78 @@
 // Questions about a date's sun, kalas and reading: `events`, `rise`, `set`, `kala`, `nishita` and `read`.
 use crate::parts;
+use crate::reply::Reply;
 use gregorian::Date;
 use panchanga::InstantAnswer;
 use panchanga::Kala;
 use panchanga::ReadingAnswer;
 use panchanga::SpanAnswer;
-use replay::Out;
 use replay::Words;
 use replay::tags;
 
-fn span(o: Out, out: &mut [u8], a: SpanAnswer) -> Out {
+// The reply of two instants, or of none.
+fn span(a: SpanAnswer) -> Reply {
     match a {
-        SpanAnswer::Is { from, to } => parts::put_float(o, out, from.0).float(out, to.0),
-        SpanAnswer::Nothing => o.number(out, 0).word(out, b"none"),
-        SpanAnswer::NoSuchDate => o.number(out, 3),
+        SpanAnswer::Is { from, to } => Reply::Span(from.0, to.0),
+        SpanAnswer::Nothing => Reply::Nothing,
+        SpanAnswer::NoSuchDate => Reply::Refused(3),
     }
 }
 
-fn instant(o: Out, out: &mut [u8], a: InstantAnswer) -> Out {
+// The reply of an instant, or of none.
+fn instant(a: InstantAnswer) -> Reply {
     match a {
-        InstantAnswer::At(t) => parts::put_float(o, out, t.0),
-        InstantAnswer::Nothing => o.number(out, 0).word(out, b"none"),
-        InstantAnswer::NoSuchDate => o.number(out, 3),
+        InstantAnswer::At(t) => Reply::Float(t.0),
+        InstantAnswer::Nothing => Reply::Nothing,
+        InstantAnswer::NoSuchDate => Reply::Refused(3),
     }
 }
 
-fn reading(o: Out, out: &mut [u8], a: ReadingAnswer) -> Out {
+// The reply of a reading.
+fn reading(a: ReadingAnswer) -> Reply {
     match a {
-        ReadingAnswer::Is(r) => {
-            let begun = parts::put_number(o, out, r.tithi as u64);
-            parts::put_date(begun, out, r.end, r.sunrise, r.sunset)
-        }
-        ReadingAnswer::NoSuchDate => o.number(out, 3),
+        ReadingAnswer::Is(r) => Reply::Reading(r),
+        ReadingAnswer::NoSuchDate => Reply::Refused(3),
     }
 }
 
-// The answer to a line with a date.
-fn of_date(o: Out, out: &mut [u8], tag: u64, d: Date) -> Out {
+// The reply to a line with a date, by its tag.
+fn of_date(tag: u64, d: Date) -> Reply {
     match tag {
-        tags::EVENTS => span(o, out, panchanga::sun_events(d)),
-        tags::RISE => instant(o, out, panchanga::sunrise(d)),
-        tags::SET => instant(o, out, panchanga::sunset(d)),
-        tags::NISHITA => span(o, out, panchanga::nishita_window(d)),
-        tags::READ => reading(o, out, panchanga::reading(d)),
-        _ => o.word(out, b"?"),
+        tags::EVENTS => span(panchanga::sun_events(d)),
+        tags::RISE => instant(panchanga::sunrise(d)),
+        tags::SET => instant(panchanga::sunset(d)),
+        tags::NISHITA => span(panchanga::nishita_window(d)),
+        tags::READ => reading(panchanga::reading(d)),
+        _ => Reply::Unformed,
     }
 }
 
-fn at(o: Out, out: &mut [u8], d: Date, kala: Kala) -> Out {
-    instant(o, out, panchanga::kala_instant(d, kala))
+// The reply of a kala's instant.
+fn at(d: Date, kala: Kala) -> Reply {
+    instant(panchanga::kala_instant(d, kala))
 }
 
-// A kala's instant, by the kala's number.
-fn kala(o: Out, out: &mut [u8], d: Date, k: u16) -> Out {
+// The reply of a kala's instant, by the kala's number.
+fn kala(d: Date, k: u16) -> Reply {
     match k {
-        0 => at(o, out, d, Kala::Udaya),
-        1 => at(o, out, d, Kala::Madhyanna),
-        2 => at(o, out, d, Kala::Aparahna),
-        3 => at(o, out, d, Kala::Pradosh),
-        4 => at(o, out, d, Kala::Nishita),
-        5 => at(o, out, d, Kala::Begins),
-        _ => o.word(out, b"?"),
+        0 => at(d, Kala::Udaya),
+        1 => at(d, Kala::Madhyanna),
+        2 => at(d, Kala::Aparahna),
+        3 => at(d, Kala::Pradosh),
+        4 => at(d, Kala::Nishita),
+        5 => at(d, Kala::Begins),
+        _ => Reply::Unformed,
     }
 }
 
-// The answer to a line in form, or a question mark.
-pub fn answer(o: Out, out: &mut [u8], w: Words) -> Out {
-    let tag = w.tag;
+// The reply to a line in form, or a question mark.
+pub fn reply(w: Words) -> Reply {
     let form = w.form;
-    let d = parts::date_of(w);
     if form == 111 {
-        return of_date(o, out, tag, d);
+        return of_date(w.tag, parts::date_of(w));
     }
-    if (tag == tags::KALA) & (form == 1111) {
-        return kala(o, out, d, w.small(4));
+    if (w.tag == tags::KALA) & (form == 1111) {
+        return kala(parts::date_of(w), w.small(4));
     }
-    o.word(out, b"?")
+    Reply::Unformed
 }

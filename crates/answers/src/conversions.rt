@@ -1,15 +1,15 @@
 // Questions about the lent table: `check`, `bs`, `ad`, `len` and `valid`.
-use crate::parts;
+use crate::reply::Reply;
 use conversion::AdAnswer;
 use conversion::BsAnswer;
 use conversion::BsDate;
 use conversion::MonthLen;
 use conversion::Table;
 use conversion::Validity;
-use replay::Out;
 use replay::Words;
 use replay::tags;
 
+// A BS date from a line's first three words.
 fn bs_date(w: Words) -> BsDate {
     BsDate {
         year: w.small(1),
@@ -18,82 +18,88 @@ fn bs_date(w: Words) -> BsDate {
     }
 }
 
-fn check(o: Out, out: &mut [u8], table: Table, rows: &[u16]) -> Out {
-    if conversion::accepts(table, rows) {
-        return o.number(out, 0);
-    }
-    o.number(out, 1)
-}
-
-fn bs(o: Out, out: &mut [u8], table: Table, rows: &[u16], date: BsDate) -> Out {
-    match conversion::bs_to_ad(table, rows, date) {
-        AdAnswer::Is(d) => parts::put_date(o.number(out, 0), out, d.year, d.month, d.day),
-        AdAnswer::BadTable => o.number(out, 1),
-        AdAnswer::NoYear => o.number(out, 4),
-        AdAnswer::NoMonth => o.number(out, 5),
-        AdAnswer::NoDay => o.number(out, 6),
+// The reply of a table that is accepted or not.
+fn check(accepted: bool) -> Reply {
+    if accepted {
+        Reply::Good
+    } else {
+        Reply::Refused(1)
     }
 }
 
-fn ad(o: Out, out: &mut [u8], table: Table, rows: &[u16], w: Words) -> Out {
-    match conversion::ad_to_bs(table, rows, w.small(1), w.small(2), w.small(3)) {
-        BsAnswer::Is(b) => parts::put_date(o.number(out, 0), out, b.year, b.month, b.day),
-        BsAnswer::BadTable => o.number(out, 1),
-        BsAnswer::NoSuchDate => o.number(out, 3),
-        BsAnswer::Outside => o.number(out, 7),
+// The reply of a Gregorian date.
+fn ad(a: AdAnswer) -> Reply {
+    match a {
+        AdAnswer::Is(d) => Reply::Date(d.year, d.month, d.day),
+        AdAnswer::BadTable => Reply::Refused(1),
+        AdAnswer::NoYear => Reply::Refused(4),
+        AdAnswer::NoMonth => Reply::Refused(5),
+        AdAnswer::NoDay => Reply::Refused(6),
     }
 }
 
-fn len(o: Out, out: &mut [u8], table: Table, rows: &[u16], w: Words) -> Out {
-    match conversion::bs_month_len(table, rows, w.small(1), w.small(2)) {
-        MonthLen::Days(n) => parts::put_number(o, out, n as u64),
-        MonthLen::BadTable => o.number(out, 1),
-        MonthLen::NoYear => o.number(out, 4),
-        MonthLen::NoMonth => o.number(out, 5),
+// The reply of a BS date.
+fn bs(a: BsAnswer) -> Reply {
+    match a {
+        BsAnswer::Is(b) => Reply::Date(b.year, b.month, b.day),
+        BsAnswer::BadTable => Reply::Refused(1),
+        BsAnswer::NoSuchDate => Reply::Refused(3),
+        BsAnswer::Outside => Reply::Refused(7),
     }
 }
 
-fn valid(o: Out, out: &mut [u8], table: Table, rows: &[u16], date: BsDate) -> Out {
-    match conversion::validate_bs_date(table, rows, date) {
-        Validity::Valid => o.number(out, 0),
-        Validity::BadTable => o.number(out, 1),
-        Validity::NoYear => o.number(out, 4),
-        Validity::NoMonth => o.number(out, 5),
-        Validity::NoDay => o.number(out, 6),
+// The reply of a month's days.
+fn len(a: MonthLen) -> Reply {
+    match a {
+        MonthLen::Days(n) => Reply::Number(n as u64),
+        MonthLen::BadTable => Reply::Refused(1),
+        MonthLen::NoYear => Reply::Refused(4),
+        MonthLen::NoMonth => Reply::Refused(5),
     }
 }
 
-// The answer to a line in form, or a question mark.
-pub fn answer(o: Out, out: &mut [u8], w: Words, table: Table, rows: &[u16]) -> Out {
+// The reply of a date's check.
+fn valid(a: Validity) -> Reply {
+    match a {
+        Validity::Valid => Reply::Good,
+        Validity::BadTable => Reply::Refused(1),
+        Validity::NoYear => Reply::Refused(4),
+        Validity::NoMonth => Reply::Refused(5),
+        Validity::NoDay => Reply::Refused(6),
+    }
+}
+
+// The reply to a line in form, or a question mark.
+pub fn reply(w: Words, table: Table, rows: &[u16]) -> Reply {
     let tag = w.tag;
     let form = w.form;
     match tag {
         tags::CHECK => {
             if form == 0 {
-                return check(o, out, table, rows);
+                return check(conversion::accepts(table, rows));
             }
         }
         tags::BS => {
             if form == 111 {
-                return bs(o, out, table, rows, bs_date(w));
+                return ad(conversion::bs_to_ad(table, rows, bs_date(w)));
             }
         }
         tags::AD => {
             if form == 111 {
-                return ad(o, out, table, rows, w);
+                return bs(conversion::ad_to_bs(table, rows, w.small(1), w.small(2), w.small(3)));
             }
         }
         tags::LEN => {
             if form == 11 {
-                return len(o, out, table, rows, w);
+                return len(conversion::bs_month_len(table, rows, w.small(1), w.small(2)));
             }
         }
         tags::VALID => {
             if form == 111 {
-                return valid(o, out, table, rows, bs_date(w));
+                return valid(conversion::validate_bs_date(table, rows, bs_date(w)));
             }
         }
         _ => {}
     }
-    o.word(out, b"?")
+    Reply::Unformed
 }

@@ -12,23 +12,6 @@ pub fn date_of(w: Words) -> Date {
     }
 }
 
-// A date as three words.
-pub fn put_date(o: Out, out: &mut [u8], year: u16, month: u16, day: u16) -> Out {
-    o.number(out, year as u64)
-        .number(out, month as u64)
-        .number(out, day as u64)
-}
-
-// A 0 and a number.
-pub fn put_number(o: Out, out: &mut [u8], n: u64) -> Out {
-    o.number(out, 0).number(out, n)
-}
-
-// A 0 and a float.
-pub fn put_float(o: Out, out: &mut [u8], x: f64) -> Out {
-    o.number(out, 0).float(out, x)
-}
-
 fn wide(x: u16) -> u64 {
     x as u64
 }

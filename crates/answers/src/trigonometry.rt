@@ -1,22 +1,24 @@
 // Questions about an angle or an arc: `sin`, `cos`, `asin`, `acos` and `tan`.
-use crate::parts;
-use replay::Out;
+use crate::reply::Reply;
 use replay::Words;
 use replay::tags;
 
-// The answer to a line in form, or a question mark.
-pub fn answer(o: Out, out: &mut [u8], w: Words) -> Out {
-    let tag = w.tag;
-    let x = w.float(1);
-    if w.form == 4 {
-        match tag {
-            tags::SIN => return parts::put_float(o, out, trig::sine(x)),
-            tags::COS => return parts::put_float(o, out, trig::cosine(x)),
-            tags::ASIN => return parts::put_float(o, out, trig::arcsine(x)),
-            tags::ACOS => return parts::put_float(o, out, trig::arccosine(x)),
-            tags::TAN => return parts::put_float(o, out, trig::tangent(x)),
-            _ => {}
-        }
+// The reply to a line with one float, by its tag.
+fn of_float(tag: u64, x: f64) -> Reply {
+    match tag {
+        tags::SIN => Reply::Float(trig::sine(x)),
+        tags::COS => Reply::Float(trig::cosine(x)),
+        tags::ASIN => Reply::Float(trig::arcsine(x)),
+        tags::ACOS => Reply::Float(trig::arccosine(x)),
+        tags::TAN => Reply::Float(trig::tangent(x)),
+        _ => Reply::Unformed,
     }
-    o.word(out, b"?")
+}
+
+// The reply to a line in form, or a question mark.
+pub fn reply(w: Words) -> Reply {
+    if w.form == 4 {
+        return of_float(w.tag, w.float(1));
+    }
+    Reply::Unformed
 }

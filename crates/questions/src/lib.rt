@@ -22,22 +22,23 @@ struct Stepped {
 fn answer_over(o: Out, out: &mut [u8], w: Words, table: Table, rows: &[u16], rules: &[u16]) -> Out {
     let tag = w.tag;
     match tag {
-        tags::DAY | tags::DATE | tags::JD | tags::NPT => answers::days::answer(o, out, w),
+        tags::DAY | tags::DATE | tags::JD | tags::NPT => answers::days::reply(w).put(o, out),
         tags::CHECK | tags::BS | tags::AD | tags::LEN | tags::VALID => {
-            answers::conversions::answer(o, out, w, table, rows)
+            answers::conversions::reply(w, table, rows).put(o, out)
         }
         tags::SIN | tags::COS | tags::ASIN | tags::ACOS | tags::TAN => {
-            answers::trigonometry::answer(o, out, w)
+            answers::trigonometry::reply(w).put(o, out)
         }
         tags::EVENTS | tags::RISE | tags::SET | tags::KALA | tags::NISHITA | tags::READ => {
-            answers::almanac::answer(o, out, w)
+            answers::almanac::reply(w).put(o, out)
         }
         tags::CHECKRULES | tags::LISTBS | tags::LISTAD => {
             lists::answer(o, out, w, table, rows, rules)
         }
         tags::STEP => months::step(o, out, w, table, rows),
         tags::GRID => months::month(o, out, w, table, rows, rules),
-        _ => answers::heavens::answer(o, out, w),
+        tags::STARTS => answers::searches::answer(o, out, w),
+        _ => answers::heavens::reply(w).put(o, out),
     }
 }
 

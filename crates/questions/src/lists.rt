@@ -1,5 +1,6 @@
 // Questions about the lent rules: `checkrules`, `listbs` and `listad`.
 use answers::parts;
+use answers::reply::Reply;
 use conversion::Table;
 use festivals::ListAnswer;
 use replay::Out;
@@ -17,7 +18,7 @@ fn check_rules(o: Out, out: &mut [u8], numbers: &[u16]) -> Out {
 // The count or the refusal.
 fn put_count(o: Out, out: &mut [u8], answer: ListAnswer) -> Out {
     match answer {
-        ListAnswer::Count(n) => parts::put_number(o, out, n as u64),
+        ListAnswer::Count(n) => Reply::Number(n as u64).put(o, out),
         ListAnswer::BadTable => o.number(out, 1),
         ListAnswer::BadRules => o.number(out, 2),
         ListAnswer::NoSuchDate => o.number(out, 3),

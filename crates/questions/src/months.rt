@@ -1,5 +1,7 @@
 // Questions about months: `step` and `grid`.
 use answers::parts;
+use answers::reply;
+use answers::reply::Reply;
 use conversion::Table;
 use grid::GridAnswer;
 use grid::StepAnswer;
@@ -9,10 +11,7 @@ use replay::Words;
 
 fn put_stepped(o: Out, out: &mut [u8], a: StepAnswer) -> Out {
     match a {
-        StepAnswer::Month(m) => parts::put_number(o, out, m.year as u64).number(
-            out,
-            m.month as u64,
-        ),
+        StepAnswer::Month(m) => Reply::Pair(m.year as u64, m.month as u64).put(o, out),
         StepAnswer::BadTable => o.number(out, 1),
         StepAnswer::OffTable => o.number(out, 10),
     }
@@ -49,9 +48,9 @@ fn put_month(o: Out, out: &mut [u8], a: GridAnswer) -> Out {
         GridAnswer::Is(m) => {
             let first = m.first;
             let last = m.last;
-            let days = parts::put_number(o, out, m.days as u64);
-            let from = parts::put_date(days, out, first.year, first.month, first.day);
-            let to = parts::put_date(from, out, last.year, last.month, last.day);
+            let days = Reply::Number(m.days as u64).put(o, out);
+            let from = reply::put_date(days, out, first.year, first.month, first.day);
+            let to = reply::put_date(from, out, last.year, last.month, last.day);
             to.number(out, m.cells as u64)
                 .number(out, m.festivals as u64)
         }

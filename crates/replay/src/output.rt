@@ -1,7 +1,14 @@
 // Lines of words, gathered in a lent buffer and written to standard output when it is nearly full.
 ghost use mathlib.Core.Path.{_≡_};
+ghost use mathlib.Core.Bool.{false};
+ghost use mathlib.Core.List.{[], _∷_};
 ghost use Prim.Native.Nat.{_+_, _≤_};
 ghost use lib.ListN.{length};
+ghost use Rattle.text.specs.Digits.{digits};
+ghost use Rattle.text.specs.Written.{Wrote};
+ghost use Rattle.replay.specs.Line.{floatText};
+ghost use Rattle.replay.specs.Gathered as Gathered;
+ghost use Rattle.replay.specs.Gathered.{Gathers, gathered, ended, spaceOf};
 use crate::floats;
 use libc::STDOUT_FILENO;
 
@@ -13,7 +20,9 @@ pub struct Out {
 }
 
 // Nothing yet.
-pub fn empty() -> Out {
+pub fn empty() -> Out
+    ensures { λ r. ⌜ (r .at ≡ 0) × (r .begun ≡ false) × (r .failed ≡ false) ⌝ }
+{
     Out {
         at: 0,
         begun: false,
@@ -22,7 +31,9 @@ pub fn empty() -> Out {
 }
 
 // A space before every word but the first.
-fn put_space(buffer: &mut [u8], at: usize, begun: bool) -> usize {
+fn put_space(buffer: &mut [u8], at: usize, begun: bool) -> usize
+    ensures { λ r. ⌜ Wrote (now (buffer .entry)) at (spaceOf begun) (now (buffer .exit)) r ⌝ }
+{
     if begun {
         text::put(buffer, at, b" ")
     } else {
@@ -33,7 +44,7 @@ fn put_space(buffer: &mut [u8], at: usize, begun: bool) -> usize {
 impl Out {
     // Writes out what is gathered. After a write that failed nothing more is written.
     pub fn flush(self, buffer: &[u8]) -> Out
-        ensures { λ r. ⌜ r .at ≡ 0 ⌝ }
+        ensures { λ r. ⌜ (r .at ≡ 0) × (r .begun ≡ self .begun) ⌝ }
     {
         let at = self.at;
         let begun = self.begun;
@@ -62,50 +73,69 @@ impl Out {
     // Room for so many bytes, where the buffer has that many.
     pub fn room(self, buffer: &[u8], bytes: usize) -> Out
         ensures { λ r. ⌜ (bytes ≤ length (now (buffer .entry)) → r .at + bytes ≤ length (now (buffer .entry))) ⌝ }
+        ensures { λ r. ⌜ (r .at ≡ Gathered.room «bytes» (now (buffer .entry)) (self .at)) × (r .begun ≡ self .begun) ⌝ }
     {
-        if self.at <= buffer.len() {
-            if bytes <= buffer.len() - self.at {
-                return self;
-            }
+        if buffer.len() < self.at {
+            return self.flush(buffer);
         }
-        self.flush(buffer)
+        if buffer.len() - self.at < bytes {
+            return self.flush(buffer);
+        }
+        self
+    }
+
+    // Room for a word, and the space before it.
+    fn space(self, buffer: &mut [u8]) -> Out
+        ensures { λ r. ⌜ Wrote (now (buffer .entry)) (Gathered.room 32 (now (buffer .entry)) (self .at)) (spaceOf (self .begun)) (now (buffer .exit)) (r .at) ⌝ }
+    {
+        let o = self.room(buffer, 32);
+        Out {
+            at: put_space(buffer, o.at, o.begun),
+            begun: true,
+            failed: o.failed,
+        }
     }
 
     // A word of at most thirty bytes.
-    pub fn word(self, buffer: &mut [u8], word: &[u8]) -> Out {
-        let o = self.room(buffer, 32);
-        let at = put_space(buffer, o.at, o.begun);
+    pub fn word(self, buffer: &mut [u8], word: &[u8]) -> Out
+        ensures { λ r. ⌜ Gathers (now (buffer .entry)) self (now (word .entry) ∷ []) (now (buffer .exit)) r ⌝ }
+    {
+        let o = self.space(buffer);
         Out {
-            at: text::put(buffer, at, word),
+            at: text::put(buffer, o.at, word),
             begun: true,
             failed: o.failed,
         }
     }
 
     // A decimal number.
-    pub fn number(self, buffer: &mut [u8], n: u64) -> Out {
-        let o = self.room(buffer, 32);
-        let at = put_space(buffer, o.at, o.begun);
+    pub fn number(self, buffer: &mut [u8], n: u64) -> Out
+        ensures { λ r. ⌜ Gathers (now (buffer .entry)) self (digits «n» ∷ []) (now (buffer .exit)) r ⌝ }
+    {
+        let o = self.space(buffer);
         Out {
-            at: text::put_decimal(buffer, at, n),
+            at: text::put_decimal(buffer, o.at, n),
             begun: true,
             failed: o.failed,
         }
     }
 
     // A float by its bits, or nan.
-    pub fn float(self, buffer: &mut [u8], x: f64) -> Out {
-        let o = self.room(buffer, 32);
-        let at = put_space(buffer, o.at, o.begun);
+    pub fn float(self, buffer: &mut [u8], x: f64) -> Out
+        ensures { λ r. ⌜ Gathers (now (buffer .entry)) self (floatText x ∷ []) (now (buffer .exit)) r ⌝ }
+    {
+        let o = self.space(buffer);
         Out {
-            at: floats::put_float(buffer, at, x),
+            at: floats::put_float(buffer, o.at, x),
             begun: true,
             failed: o.failed,
         }
     }
 
     // The end of the line, if it has a word.
-    pub fn end(self, buffer: &mut [u8]) -> Out {
+    pub fn end(self, buffer: &mut [u8]) -> Out
+        ensures { λ r. ⌜ gathered (now (buffer .exit)) r ≡ ended (gathered (now (buffer .entry)) self) ⌝ }
+    {
         if !self.begun {
             return self;
         }

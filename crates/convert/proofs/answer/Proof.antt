@@ -14,7 +14,7 @@ same-length : tie.Need-same-length
 same-length c = search needs
 
 returns : tie.Need-returns
-returns c = λ h. gathered _ _ _ (c .before .before .before .before .room .result .at) _ (c .before .before .put-line .ensures) (c .before .before .before .before .room .ensures h)
+returns c = λ h. gathered _ _ _ (c .before .before .before .before .room .result .at) _ (c .before .before .put-line .ensures) (c .before .before .before .before .room .ensures .0 h)
 
 pub answer-spec : {M : Type 1} → statement M
 answer-spec = tie.close (tie.spec room-requires put-line-requires same-length returns)

@@ -1,10 +1,10 @@
--- `answers::heavens::elements` is proved: what is left of the buffer falls. Assumes nothing.
+-- `answers::searches::elements` is proved: what is left of the buffer falls. Assumes nothing.
 use Prim.Native.Nat.{_-_, _≤_}
 use mathlib.Core.Path.{_≡_}
 use lib.ListN.{length}
 use borrow.Author.Needs.{needs}
-use Rattle.answers.proofs.heavens.elements.Statement.{statement}
-use Rattle.answers.proofs.heavens.elements.Tie as tie
+use Rattle.answers.proofs.searches.elements.Statement.{statement}
+use Rattle.answers.proofs.searches.elements.Tie as tie
 
 abbrev Inv-loop : tie.InvT-loop
 Inv-loop out₀ buffer p₀ i₀ out p i = (length out ≡ length out₀) × (i ≤ length buffer)

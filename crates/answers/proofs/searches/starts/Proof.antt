@@ -2,8 +2,8 @@
 use mathlib.Core.Path.{sym}
 use lib.Seq.{length-take-le}
 use borrow.Author.Needs.{needs}
-use Rattle.answers.proofs.heavens.starts.Statement.{statement}
-use Rattle.answers.proofs.heavens.starts.Tie as tie
+use Rattle.answers.proofs.searches.starts.Statement.{statement}
+use Rattle.answers.proofs.searches.starts.Tie as tie
 
 small-requires : tie.Need-small-requires
 small-requires c κs = search needs

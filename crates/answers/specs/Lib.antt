@@ -1,0 +1,2 @@
+-- What the contracts of `answers` are written in.
+pub mod Replies

@@ -1,0 +1,49 @@
+// The search for a tithi's starts, `starts`, whose answer shows the lent buffer too.
+use crate::reply::Reply;
+use gregorian::UtDay;
+use replay::Out;
+use replay::Words;
+use sky::StartsAnswer;
+
+// The reply of the number of starts and of steps.
+fn counted(a: StartsAnswer) -> Reply {
+    match a {
+        StartsAnswer::Found { count, steps } => Reply::Pair(count as u64, steps as u64),
+        StartsAnswer::OutOfRange => Reply::Refused(8),
+        StartsAnswer::NotEnded => Reply::Refused(11),
+        StartsAnswer::NoRoom => Reply::Refused(9),
+    }
+}
+
+// Every element of the lent buffer, behind a bar.
+fn elements(o: Out, out: &mut [u8], buffer: &[f64]) -> Out {
+    let mut p = o.word(out, b"|");
+    let mut i = 0;
+    while i < buffer.len() {
+        p = p.float(out, buffer[i]);
+        i += 1;
+    }
+    p
+}
+
+// The answer to a search, and the buffer as it stands after the call.
+fn search(o: Out, out: &mut [u8], w: Words, buffer: &mut [f64]) -> Out {
+    let a = sky::tithi_starts_between(w.small(1), UtDay(w.float(2)), UtDay(w.float(3)), buffer);
+    let p = counted(a).put(o, out);
+    elements(p, out, buffer)
+}
+
+// The same where the buffer has the asked length and holds 7.0 before. A line can ask for any length up to 65,535.
+fn starts(o: Out, out: &mut [u8], w: Words) -> Out {
+    let mut buffer = [7.0; 65535];
+    let n = w.small(4) as usize;
+    search(o, out, w, &mut buffer[..n])
+}
+
+// The answer to a line `starts` in form, or a question mark.
+pub fn answer(o: Out, out: &mut [u8], w: Words) -> Out {
+    if w.form == 1441 {
+        return starts(o, out, w);
+    }
+    Reply::Unformed.put(o, out)
+}
