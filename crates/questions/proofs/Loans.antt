@@ -11,9 +11,10 @@ use Rattle.text.specs.Written.{Wrote}
 use Rattle.text.proofs.Writes.{then}
 use Rattle.replay.specs.Tags.{TABLE, CELLS, RULES, RULE}
 use Rattle.replay.specs.declared.words.Words.{Words}
+use Rattle.answers.specs.Replies.{small}
 use Rattle.questions.specs.declared.lending.Lending.{Lending}
 use Rattle.questions.specs.declared.lending.Lending.the-variants as L
-use Rattle.questions.specs.Lending.{ones, lendingOf, small, numbersOf, longer}
+use Rattle.questions.specs.Lending.{ones, lendingOf, numbersOf, longer}
 use Rattle.questions.proofs.Forms.{numbers-most}
 
 -- a word more at the end

@@ -3,10 +3,10 @@ use Prim.Native.Nat.{ℕ, zero, suc, _+_, _-_, _*_, min}
 use mathlib.Core.Bool.{Bool, true, false, cond}
 use mathlib.Core.List.{List, [], _∷_, _++_}
 use lib.Dec.{eqb, ltb}
-use lib.ListN.{length, getD}
+use lib.ListN.{length}
 use lib.Seq.{sets}
 use Rattle.conversion.specs.declared.Table.{Table}
-use Rattle.replay.specs.Line.{fitting}
+use Rattle.answers.specs.Replies.{small}
 use Rattle.replay.specs.Tags.{TABLE, CELLS, RULES, RULE}
 use Rattle.replay.specs.declared.words.Words.{Words}
 use Rattle.questions.specs.declared.lending.Lent.{Lent}
@@ -43,10 +43,6 @@ lends (L.Numbers n) = ltb 0 n
 lends L.Not = false
 
 -- ---- what is lent after it
-
--- a line's word, a number up to 65,535
-abbrev pub small : Words → ℕ → ℕ
-small w i = fitting 65535 (getD (w .values) i 0)
 
 -- a line's first n words
 abbrev pub numbersOf : Words → ℕ → List ℕ

@@ -1,10 +1,14 @@
 // The answers to the line language: what lines lend, and what each question is answered over it.
+ghost use mathlib.Core.Path.{_≡_};
 ghost use Prim.Native.Nat.{_-_, _≤_};
+ghost use Rattle.conversion.specs.Flat.{flat};
+ghost use Rattle.questions.specs.Questions.{replyTo};
 
 mod lending;
 mod lists;
 mod months;
 
+use answers::reply::Reply;
 use conversion::Table;
 pub use lending::Lent;
 use replay::Out;
@@ -18,27 +22,36 @@ struct Stepped {
     lent: Lent,
 }
 
-// The answer to a question, by its tag. A tag that is none falls to the heavens, which know it not either: a question mark.
+// The reply to a question with no lent buffer, by its tag. A tag that is none falls to the heavens, which know it not either: a question mark.
+fn reply_to(w: Words, table: Table, rows: &[u16], rules: &[u16]) -> Reply
+    ensures { λ r. ⌜ r ≡ replyTo (flat table (now (rows .entry))) (now (rules .entry)) w ⌝ }
+{
+    let tag = w.tag;
+    match tag {
+        tags::DAY | tags::DATE | tags::JD | tags::NPT => answers::days::reply(w),
+        tags::CHECK | tags::BS | tags::AD | tags::LEN | tags::VALID => {
+            answers::conversions::reply(w, table, rows)
+        }
+        tags::SIN | tags::COS | tags::ASIN | tags::ACOS | tags::TAN => {
+            answers::trigonometry::reply(w)
+        }
+        tags::EVENTS | tags::RISE | tags::SET | tags::KALA | tags::NISHITA | tags::READ => {
+            answers::almanac::reply(w)
+        }
+        tags::CHECKRULES => lists::check(w, rules),
+        tags::STEP => months::step(w, table, rows),
+        _ => answers::heavens::reply(w),
+    }
+}
+
+// The answer to a question, by its tag: three show lent buffers too.
 fn answer_over(o: Out, out: &mut [u8], w: Words, table: Table, rows: &[u16], rules: &[u16]) -> Out {
     let tag = w.tag;
     match tag {
-        tags::DAY | tags::DATE | tags::JD | tags::NPT => answers::days::reply(w).put(o, out),
-        tags::CHECK | tags::BS | tags::AD | tags::LEN | tags::VALID => {
-            answers::conversions::reply(w, table, rows).put(o, out)
-        }
-        tags::SIN | tags::COS | tags::ASIN | tags::ACOS | tags::TAN => {
-            answers::trigonometry::reply(w).put(o, out)
-        }
-        tags::EVENTS | tags::RISE | tags::SET | tags::KALA | tags::NISHITA | tags::READ => {
-            answers::almanac::reply(w).put(o, out)
-        }
-        tags::CHECKRULES | tags::LISTBS | tags::LISTAD => {
-            lists::answer(o, out, w, table, rows, rules)
-        }
-        tags::STEP => months::step(o, out, w, table, rows),
-        tags::GRID => months::month(o, out, w, table, rows, rules),
         tags::STARTS => answers::searches::answer(o, out, w),
-        _ => answers::heavens::reply(w).put(o, out),
+        tags::LISTBS | tags::LISTAD => lists::list(o, out, w, table, rows, rules),
+        tags::GRID => months::month(o, out, w, table, rows, rules),
+        _ => reply_to(w, table, rows, rules).put(o, out),
     }
 }
 
@@ -55,7 +68,7 @@ fn answer(o: Out, out: &mut [u8], w: Words, lent: Lent, rows: &[u16], rules: &[u
             return answer_over(o, out, w, table, &rows[..cells], &rules[..numbers]);
         }
     }
-    o.word(out, b"?")
+    Reply::Unformed.put(o, out)
 }
 
 // A turn: the line lends or is answered, and the next line is read.

@@ -1,4 +1,10 @@
 // Questions about months: `step` and `grid`.
+ghost use mathlib.Core.Path.{_≡_};
+ghost use Rattle.conversion.specs.Flat.{flat};
+ghost use Rattle.grid.specs.Step.{stepSays};
+ghost use Rattle.answers.specs.Replies.{said};
+ghost use Rattle.questions.specs.Months as Months;
+ghost use Rattle.questions.specs.Months.{monthly, stepReply};
 use answers::parts;
 use answers::reply;
 use answers::reply::Reply;
@@ -9,36 +15,40 @@ use replay::Out;
 use replay::Whole;
 use replay::Words;
 
-fn put_stepped(o: Out, out: &mut [u8], a: StepAnswer) -> Out {
+// The reply of a month.
+fn monthly_of(a: StepAnswer) -> Reply
+    ensures { λ r. ⌜ r ≡ said monthly (stepSays a) ⌝ }
+{
     match a {
-        StepAnswer::Month(m) => Reply::Pair(m.year as u64, m.month as u64).put(o, out),
-        StepAnswer::BadTable => o.number(out, 1),
-        StepAnswer::OffTable => o.number(out, 10),
+        StepAnswer::Month(m) => Reply::Pair(m.year as u64, m.month as u64),
+        StepAnswer::BadTable => Reply::Refused(1),
+        StepAnswer::OffTable => Reply::Refused(10),
     }
 }
 
 // A month step. A month past 255 and a step that is no i32 are out of form.
-fn stepped(o: Out, out: &mut [u8], w: Words, minus: bool, table: Table, rows: &[u16]) -> Out {
+fn stepped(w: Words, minus: bool, table: Table, rows: &[u16]) -> Reply
+    ensures { λ r. ⌜ r ≡ Months.stepped (flat table (now (rows .entry))) w minus ⌝ }
+{
     let month = w.small(2);
-    if month <= 255 {
-        if let Whole::Is(by) = w.whole(3, minus) {
-            return put_stepped(
-                o,
-                out,
-                grid::step_month(table, rows, w.small(1), month as u8, by),
-            );
-        }
+    if 255 < month {
+        return Reply::Unformed;
     }
-    o.word(out, b"?")
+    let Whole::Is(by) = w.whole(3, minus) else {
+        return Reply::Unformed;
+    };
+    monthly_of(grid::step_month(table, rows, w.small(1), month as u8, by))
 }
 
-// The answer to a line `step` in form, or a question mark.
-pub fn step(o: Out, out: &mut [u8], w: Words, table: Table, rows: &[u16]) -> Out {
+// The reply to a line `step` in form, or a question mark.
+pub fn step(w: Words, table: Table, rows: &[u16]) -> Reply
+    ensures { λ r. ⌜ r ≡ stepReply (flat table (now (rows .entry))) w ⌝ }
+{
     let form = w.form;
     match form {
-        111 | 112 => stepped(o, out, w, false, table, rows),
-        113 => stepped(o, out, w, true, table, rows),
-        _ => o.word(out, b"?"),
+        111 | 112 => stepped(w, false, table, rows),
+        113 => stepped(w, true, table, rows),
+        _ => Reply::Unformed,
     }
 }
 
@@ -108,5 +118,5 @@ pub fn month(o: Out, out: &mut [u8], w: Words, table: Table, rows: &[u16], rules
             &mut list[..k],
         );
     }
-    o.word(out, b"?")
+    Reply::Unformed.put(o, out)
 }
