@@ -1,2 +1,7 @@
 -- What the contracts of `answers` are written in.
 pub mod Replies
+pub mod Days
+pub mod Conversions
+pub mod Trigonometry
+pub mod Almanac
+pub mod Heavens

@@ -1,7 +1,7 @@
 -- What a question is answered, and its words. Assumes nothing.
 use Prim.Native.Nat.{ℕ}
 use mathlib.Core.Bool.{Bool, cond}
-use mathlib.Core.List.{List, [], _∷_, _++_}
+use mathlib.Core.List.{List, [], _∷_}
 use mathlib.Core.Option.{Option, some, none}
 use lib.Dec.{eqb}
 use lib.Ieee.{Float, binary64, ofBits}
@@ -25,6 +25,10 @@ said f (refused k) = R.Refused k
 abbrev pub perhaps : {A : Type 0} → (A → Reply) → Option A → Reply
 perhaps f (some x) = f x
 perhaps f none = R.Nothing
+
+-- a date
+abbrev pub dated : Date → Reply
+dated x = R.Date (x .year) (x .month) (x .day)
 
 -- ---- from a line to a question
 

@@ -1,4 +1,9 @@
 // Questions about a date's sun, kalas and reading: `events`, `rise`, `set`, `kala`, `nishita` and `read`.
+ghost use mathlib.Core.Path.{_≡_};
+ghost use Rattle.panchanga.specs.Answers.{spanSays, instantSays, readingSays, kalaAnswer};
+ghost use Rattle.answers.specs.Replies.{said, among};
+ghost use Rattle.answers.specs.Almanac.{spanReply, instantReply, dateRows, kalaRows, almanacReply};
+ghost use Rattle.answers.specs.declared.reply.Reply.the-variants as R;
 use crate::parts;
 use crate::reply::Reply;
 use gregorian::Date;
@@ -10,7 +15,9 @@ use replay::Words;
 use replay::tags;
 
 // The reply of two instants, or of none.
-fn span(a: SpanAnswer) -> Reply {
+fn span(a: SpanAnswer) -> Reply
+    ensures { λ r. ⌜ r ≡ spanReply (spanSays a) ⌝ }
+{
     match a {
         SpanAnswer::Is { from, to } => Reply::Span(from.0, to.0),
         SpanAnswer::Nothing => Reply::Nothing,
@@ -19,7 +26,9 @@ fn span(a: SpanAnswer) -> Reply {
 }
 
 // The reply of an instant, or of none.
-fn instant(a: InstantAnswer) -> Reply {
+fn instant(a: InstantAnswer) -> Reply
+    ensures { λ r. ⌜ r ≡ instantReply (instantSays a) ⌝ }
+{
     match a {
         InstantAnswer::At(t) => Reply::Float(t.0),
         InstantAnswer::Nothing => Reply::Nothing,
@@ -28,7 +37,9 @@ fn instant(a: InstantAnswer) -> Reply {
 }
 
 // The reply of a reading.
-fn reading(a: ReadingAnswer) -> Reply {
+fn reading(a: ReadingAnswer) -> Reply
+    ensures { λ r. ⌜ r ≡ said R.Reading (readingSays a) ⌝ }
+{
     match a {
         ReadingAnswer::Is(r) => Reply::Reading(r),
         ReadingAnswer::NoSuchDate => Reply::Refused(3),
@@ -36,7 +47,9 @@ fn reading(a: ReadingAnswer) -> Reply {
 }
 
 // The reply to a line with a date, by its tag.
-fn of_date(tag: u64, d: Date) -> Reply {
+fn of_date(tag: u64, d: Date) -> Reply
+    ensures { λ r. ⌜ r ≡ among tag (dateRows d) ⌝ }
+{
     match tag {
         tags::EVENTS => span(panchanga::sun_events(d)),
         tags::RISE => instant(panchanga::sunrise(d)),
@@ -48,12 +61,16 @@ fn of_date(tag: u64, d: Date) -> Reply {
 }
 
 // The reply of a kala's instant.
-fn at(d: Date, kala: Kala) -> Reply {
+fn at(d: Date, kala: Kala) -> Reply
+    ensures { λ r. ⌜ r ≡ instantReply (kalaAnswer kala d) ⌝ }
+{
     instant(panchanga::kala_instant(d, kala))
 }
 
 // The reply of a kala's instant, by the kala's number.
-fn kala(d: Date, k: u16) -> Reply {
+fn kala(d: Date, k: u16) -> Reply
+    ensures { λ r. ⌜ r ≡ among k (kalaRows d) ⌝ }
+{
     match k {
         0 => at(d, Kala::Udaya),
         1 => at(d, Kala::Madhyanna),
@@ -66,7 +83,9 @@ fn kala(d: Date, k: u16) -> Reply {
 }
 
 // The reply to a line in form, or a question mark.
-pub fn reply(w: Words) -> Reply {
+pub fn reply(w: Words) -> Reply
+    ensures { λ r. ⌜ r ≡ almanacReply w ⌝ }
+{
     let form = w.form;
     if form == 111 {
         return of_date(w.tag, parts::date_of(w));

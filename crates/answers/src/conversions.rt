@@ -1,4 +1,10 @@
 // Questions about the lent table: `check`, `bs`, `ad`, `len` and `valid`.
+ghost use mathlib.Core.Path.{_≡_};
+ghost use Rattle.conversion.specs.Answers.{adSays, bsSays, monthLenSays, validSays};
+ghost use Rattle.conversion.specs.Flat.{flat};
+ghost use Rattle.answers.specs.Replies.{said, dated};
+ghost use Rattle.answers.specs.Conversions.{checked, bsDated, bsIn, conversionsReply};
+ghost use Rattle.answers.specs.declared.reply.Reply.the-variants as R;
 use crate::reply::Reply;
 use conversion::AdAnswer;
 use conversion::BsAnswer;
@@ -10,7 +16,9 @@ use replay::Words;
 use replay::tags;
 
 // A BS date from a line's first three words.
-fn bs_date(w: Words) -> BsDate {
+fn bs_date(w: Words) -> BsDate
+    ensures { λ r. ⌜ r ≡ bsIn w ⌝ }
+{
     BsDate {
         year: w.small(1),
         month: w.small(2),
@@ -19,7 +27,9 @@ fn bs_date(w: Words) -> BsDate {
 }
 
 // The reply of a table that is accepted or not.
-fn check(accepted: bool) -> Reply {
+fn check(accepted: bool) -> Reply
+    ensures { λ r. ⌜ r ≡ checked accepted ⌝ }
+{
     if accepted {
         Reply::Good
     } else {
@@ -28,7 +38,9 @@ fn check(accepted: bool) -> Reply {
 }
 
 // The reply of a Gregorian date.
-fn ad(a: AdAnswer) -> Reply {
+fn ad(a: AdAnswer) -> Reply
+    ensures { λ r. ⌜ r ≡ said dated (adSays a) ⌝ }
+{
     match a {
         AdAnswer::Is(d) => Reply::Date(d.year, d.month, d.day),
         AdAnswer::BadTable => Reply::Refused(1),
@@ -39,7 +51,9 @@ fn ad(a: AdAnswer) -> Reply {
 }
 
 // The reply of a BS date.
-fn bs(a: BsAnswer) -> Reply {
+fn bs(a: BsAnswer) -> Reply
+    ensures { λ r. ⌜ r ≡ said bsDated (bsSays a) ⌝ }
+{
     match a {
         BsAnswer::Is(b) => Reply::Date(b.year, b.month, b.day),
         BsAnswer::BadTable => Reply::Refused(1),
@@ -49,7 +63,9 @@ fn bs(a: BsAnswer) -> Reply {
 }
 
 // The reply of a month's days.
-fn len(a: MonthLen) -> Reply {
+fn len(a: MonthLen) -> Reply
+    ensures { λ r. ⌜ r ≡ said R.Number (monthLenSays a) ⌝ }
+{
     match a {
         MonthLen::Days(n) => Reply::Number(n as u64),
         MonthLen::BadTable => Reply::Refused(1),
@@ -59,7 +75,9 @@ fn len(a: MonthLen) -> Reply {
 }
 
 // The reply of a date's check.
-fn valid(a: Validity) -> Reply {
+fn valid(a: Validity) -> Reply
+    ensures { λ r. ⌜ r ≡ said (λ good. R.Good) (validSays a) ⌝ }
+{
     match a {
         Validity::Valid => Reply::Good,
         Validity::BadTable => Reply::Refused(1),
@@ -70,7 +88,9 @@ fn valid(a: Validity) -> Reply {
 }
 
 // The reply to a line in form, or a question mark.
-pub fn reply(w: Words, table: Table, rows: &[u16]) -> Reply {
+pub fn reply(w: Words, table: Table, rows: &[u16]) -> Reply
+    ensures { λ r. ⌜ r ≡ conversionsReply (flat table (now (rows .entry))) w ⌝ }
+{
     let tag = w.tag;
     let form = w.form;
     match tag {

@@ -1,4 +1,11 @@
 // Questions about Gregorian dates and instants: `day`, `date`, `jd` and `npt`.
+ghost use mathlib.Core.Path.{_≡_};
+ghost use Rattle.paper.specs.Answers.{answered};
+ghost use Rattle.gregorian.specs.Answers.{dateSays, numberSays, numberAnswer, weekdayAnswer, nextAnswer};
+ghost use Rattle.gregorian.specs.Instants.{julianSays, nptSays};
+ghost use Rattle.answers.specs.Replies.{said, dated};
+ghost use Rattle.answers.specs.Days.{dayOf, daysReply};
+ghost use Rattle.answers.specs.declared.reply.Reply.the-variants as R;
 use crate::parts;
 use crate::reply::Reply;
 use gregorian::Date;
@@ -11,7 +18,9 @@ use replay::Words;
 use replay::tags;
 
 // The reply of a day number and a weekday, with the next date or none.
-fn followed(n: u32, k: u32, next: DateAnswer) -> Reply {
+fn followed(n: u32, k: u32, next: DateAnswer) -> Reply
+    ensures { λ r. ⌜ r ≡ dayOf (answered «n») (answered k) (dateSays next) ⌝ }
+{
     match next {
         DateAnswer::Is(d) => Reply::Day(n, k, d),
         DateAnswer::NoSuchDate => Reply::LastDay(n, k),
@@ -19,7 +28,9 @@ fn followed(n: u32, k: u32, next: DateAnswer) -> Reply {
 }
 
 // The same where the weekday is an answer.
-fn with_weekday(n: u32, weekday: NumberAnswer, next: DateAnswer) -> Reply {
+fn with_weekday(n: u32, weekday: NumberAnswer, next: DateAnswer) -> Reply
+    ensures { λ r. ⌜ r ≡ dayOf (answered «n») (numberSays weekday) (dateSays next) ⌝ }
+{
     match weekday {
         NumberAnswer::Number(k) => followed(n, k, next),
         NumberAnswer::NoSuchDate => Reply::Refused(3),
@@ -27,7 +38,9 @@ fn with_weekday(n: u32, weekday: NumberAnswer, next: DateAnswer) -> Reply {
 }
 
 // The reply of a date's day number, weekday and next date.
-fn day(d: Date) -> Reply {
+fn day(d: Date) -> Reply
+    ensures { λ r. ⌜ r ≡ dayOf (numberAnswer d) (weekdayAnswer d) (nextAnswer d) ⌝ }
+{
     let a = d.day_number();
     match a {
         NumberAnswer::Number(n) => with_weekday(n, d.weekday(), d.next()),
@@ -36,7 +49,9 @@ fn day(d: Date) -> Reply {
 }
 
 // The reply of a date.
-fn date(a: DateAnswer) -> Reply {
+fn date(a: DateAnswer) -> Reply
+    ensures { λ r. ⌜ r ≡ said dated (dateSays a) ⌝ }
+{
     match a {
         DateAnswer::Is(d) => Reply::Date(d.year, d.month, d.day),
         DateAnswer::NoSuchDate => Reply::Refused(3),
@@ -44,7 +59,9 @@ fn date(a: DateAnswer) -> Reply {
 }
 
 // The reply of an instant.
-fn julian(a: JulianAnswer) -> Reply {
+fn julian(a: JulianAnswer) -> Reply
+    ensures { λ r. ⌜ r ≡ said R.Float (julianSays a) ⌝ }
+{
     match a {
         JulianAnswer::At(t) => Reply::Float(t.0),
         JulianAnswer::NoSuchDate => Reply::Refused(3),
@@ -53,7 +70,9 @@ fn julian(a: JulianAnswer) -> Reply {
 }
 
 // The reply of a date in Nepal.
-fn npt(a: NptAnswer) -> Reply {
+fn npt(a: NptAnswer) -> Reply
+    ensures { λ r. ⌜ r ≡ said dated (nptSays a) ⌝ }
+{
     match a {
         NptAnswer::Is(d) => Reply::Date(d.year, d.month, d.day),
         NptAnswer::NoSuchDate => Reply::Refused(3),
@@ -62,7 +81,9 @@ fn npt(a: NptAnswer) -> Reply {
 }
 
 // The reply to a line in form, or a question mark.
-pub fn reply(w: Words) -> Reply {
+pub fn reply(w: Words) -> Reply
+    ensures { λ r. ⌜ r ≡ daysReply w ⌝ }
+{
     let tag = w.tag;
     let form = w.form;
     match tag {

@@ -1,4 +1,10 @@
 // Questions about an instant, a day of terrestrial time, a year, an elongation or a fraction of a day.
+ghost use mathlib.Core.Path.{_≡_};
+ghost use Rattle.sky.specs.Answers.{ttSays, degreesSays, tithiSays, endSays};
+ghost use Rattle.panchanga.specs.Answers.{minutesSays};
+ghost use Rattle.answers.specs.Replies.{said, perhaps, among};
+ghost use Rattle.answers.specs.Heavens.{floatRows, heavensReply};
+ghost use Rattle.answers.specs.declared.reply.Reply.the-variants as R;
 use crate::reply::Reply;
 use gregorian::UtDay;
 use panchanga::MinutesAnswer;
@@ -11,7 +17,9 @@ use sky::TtAnswer;
 use sky::TtDay;
 
 // The reply of a day of terrestrial time.
-fn tt(a: TtAnswer) -> Reply {
+fn tt(a: TtAnswer) -> Reply
+    ensures { λ r. ⌜ r ≡ said R.Float (ttSays a) ⌝ }
+{
     match a {
         TtAnswer::At(t) => Reply::Float(t.0),
         TtAnswer::OutOfRange => Reply::Refused(8),
@@ -19,7 +27,9 @@ fn tt(a: TtAnswer) -> Reply {
 }
 
 // The reply of an angle.
-fn degrees(a: DegreesAnswer) -> Reply {
+fn degrees(a: DegreesAnswer) -> Reply
+    ensures { λ r. ⌜ r ≡ said R.Float (degreesSays a) ⌝ }
+{
     match a {
         DegreesAnswer::Is(x) => Reply::Float(x),
         DegreesAnswer::OutOfRange => Reply::Refused(8),
@@ -27,7 +37,9 @@ fn degrees(a: DegreesAnswer) -> Reply {
 }
 
 // The reply of a tithi.
-fn tithi(a: TithiAnswer) -> Reply {
+fn tithi(a: TithiAnswer) -> Reply
+    ensures { λ r. ⌜ r ≡ said R.Number (tithiSays a) ⌝ }
+{
     match a {
         TithiAnswer::Is(n) => Reply::Number(n as u64),
         TithiAnswer::OutOfRange => Reply::Refused(8),
@@ -35,7 +47,9 @@ fn tithi(a: TithiAnswer) -> Reply {
 }
 
 // The reply of a tithi's end, or of none.
-fn end(a: EndAnswer) -> Reply {
+fn end(a: EndAnswer) -> Reply
+    ensures { λ r. ⌜ r ≡ said (perhaps R.Float) (endSays a) ⌝ }
+{
     match a {
         EndAnswer::At(t) => Reply::Float(t.0),
         EndAnswer::Nothing => Reply::Nothing,
@@ -44,7 +58,9 @@ fn end(a: EndAnswer) -> Reply {
 }
 
 // The reply of a clock's minute.
-fn minutes(a: MinutesAnswer) -> Reply {
+fn minutes(a: MinutesAnswer) -> Reply
+    ensures { λ r. ⌜ r ≡ said R.Number (minutesSays a) ⌝ }
+{
     match a {
         MinutesAnswer::Is(n) => Reply::Number(n as u64),
         MinutesAnswer::OutOfRange => Reply::Refused(8),
@@ -52,7 +68,9 @@ fn minutes(a: MinutesAnswer) -> Reply {
 }
 
 // The reply to a line with one float, by its tag.
-fn of_float(tag: u64, x: f64) -> Reply {
+fn of_float(tag: u64, x: f64) -> Reply
+    ensures { λ r. ⌜ r ≡ among tag (floatRows x) ⌝ }
+{
     match tag {
         tags::DELTAT => Reply::Float(sky::delta_t(x)),
         tags::TT => tt(sky::tt_from_ut(UtDay(x))),
@@ -69,7 +87,9 @@ fn of_float(tag: u64, x: f64) -> Reply {
 }
 
 // The reply to a line in form, or a question mark.
-pub fn reply(w: Words) -> Reply {
+pub fn reply(w: Words) -> Reply
+    ensures { λ r. ⌜ r ≡ heavensReply w ⌝ }
+{
     if w.form == 4 {
         return of_float(w.tag, w.float(1));
     }

@@ -1,4 +1,7 @@
 // What a question is answered, and its words.
+ghost use Rattle.replay.specs.Gathered.{Gathers};
+ghost use Rattle.answers.specs.Replies.{dateWords, replyWords};
+ghost use Rattle.answers.specs.declared.reply.Reply.the-variants as R;
 use gregorian::Date;
 use panchanga::lunar::Reading;
 use replay::Out;
@@ -20,26 +23,34 @@ pub enum Reply {
 }
 
 // A date as three words.
-pub fn put_date(o: Out, out: &mut [u8], year: u16, month: u16, day: u16) -> Out {
+pub fn put_date(o: Out, out: &mut [u8], year: u16, month: u16, day: u16) -> Out
+    ensures { λ r. ⌜ Gathers (now (out .entry)) o (dateWords year month day) (now (out .exit)) r ⌝ }
+{
     o.number(out, year as u64)
         .number(out, month as u64)
         .number(out, day as u64)
 }
 
 // A 0 and two numbers.
-fn put_pair(o: Out, out: &mut [u8], n: u64, k: u64) -> Out {
+fn put_pair(o: Out, out: &mut [u8], n: u64, k: u64) -> Out
+    ensures { λ r. ⌜ Gathers (now (out .entry)) o (replyWords (R.Pair «n» «k»)) (now (out .exit)) r ⌝ }
+{
     o.number(out, 0).number(out, n).number(out, k)
 }
 
 // A 0 and the four numbers of a reading.
-fn put_reading(o: Out, out: &mut [u8], r: Reading) -> Out {
-    let named = o.number(out, 0).number(out, r.tithi as u64);
-    put_date(named, out, r.end, r.sunrise, r.sunset)
+fn put_reading(o: Out, out: &mut [u8], x: Reading) -> Out
+    ensures { λ r. ⌜ Gathers (now (out .entry)) o (replyWords (R.Reading x)) (now (out .exit)) r ⌝ }
+{
+    let named = o.number(out, 0).number(out, x.tithi as u64);
+    put_date(named, out, x.end, x.sunrise, x.sunset)
 }
 
 impl Reply {
     // Puts the reply's words behind what is gathered.
-    pub fn put(self, o: Out, out: &mut [u8]) -> Out {
+    pub fn put(self, o: Out, out: &mut [u8]) -> Out
+        ensures { λ r. ⌜ Gathers (now (out .entry)) o (replyWords self) (now (out .exit)) r ⌝ }
+    {
         match self {
             Reply::Unformed => o.word(out, b"?"),
             Reply::Refused(k) => o.number(out, k as u64),
@@ -58,7 +69,7 @@ impl Reply {
                 x.day,
             ),
             Reply::LastDay(n, k) => put_pair(o, out, n as u64, k as u64).word(out, b"none"),
-            Reply::Reading(r) => put_reading(o, out, r),
+            Reply::Reading(x) => put_reading(o, out, x),
         }
     }
 }

@@ -1,4 +1,8 @@
 // The search for a tithi's starts, `starts`, whose answer shows the lent buffer too.
+ghost use mathlib.Core.Path.{_≡_};
+ghost use Rattle.sky.specs.Answers.{startsSays};
+ghost use Rattle.answers.specs.Replies.{said};
+ghost use Rattle.answers.specs.declared.reply.Reply.the-variants as R;
 use crate::reply::Reply;
 use gregorian::UtDay;
 use replay::Out;
@@ -6,7 +10,9 @@ use replay::Words;
 use sky::StartsAnswer;
 
 // The reply of the number of starts and of steps.
-fn counted(a: StartsAnswer) -> Reply {
+fn counted(a: StartsAnswer) -> Reply
+    ensures { λ r. ⌜ r ≡ said (λ p. R.Pair (p .0) (p .1)) (startsSays a) ⌝ }
+{
     match a {
         StartsAnswer::Found { count, steps } => Reply::Pair(count as u64, steps as u64),
         StartsAnswer::OutOfRange => Reply::Refused(8),

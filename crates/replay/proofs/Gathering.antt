@@ -1,10 +1,12 @@
 -- Words gathered one after the other. Assumes nothing.
-use Prim.Native.Nat.{ℕ, _+_, _≤_, _<_}
+use Prim.Native.Nat.{ℕ, suc, _+_, _≤_, _<_}
 use mathlib.Core.Bool.{Bool, true, false}
 use mathlib.Core.Path.{_≡_, refl, sym, ap, _∙_}
-use mathlib.Core.List.{List, [], _∷_, _++_}
+use mathlib.Core.List.{List, [], _∷_, _++_, map}
+use native.Mathlib.Numerals.{add-one}
 use borrow.Author.Tests.{le-leb, lt-leb}
-use lib.ListN.{length}
+use lib.ListN.{length, getD, drop, drop-of-length-le}
+use lib.Seq.{drop-cons}
 use Rattle.text.specs.Written.{Wrote}
 use Rattle.text.proofs.Writes as texts
 use Rattle.replay.specs.Gathered.{Gathered, gathered, room, stored, spaceOf, put, puts, ended, Gathers}
@@ -49,3 +51,17 @@ ends {l} {at} {m} o b w = stored-there l o (10 ∷ []) m at false w ∙ rw b
 pub ends-none : (l : List ℕ) (o : Out) → o .begun ≡ false → gathered l o ≡ ended (gathered l o)
 unfolding ended
 ends-none l o b = rw b
+
+-- the words of a list put one at a time: those from a place on, behind what is gathered now, make the whole
+pub record Left {A : Type 0} (f : A → List ℕ) (list : List A) (l₀ : List ℕ) (o₀ : Out) (i : ℕ) (l : List ℕ) (o : Out) : Type 0 where
+  pub whole : puts (gathered l o) (map f (drop i list)) ≡ puts (gathered l₀ o₀) (map f list)
+
+module _ {A : Type 0} {f : A → List ℕ} {list : List A} {l₀ : List ℕ} {o₀ : Out} where
+  pub left-all : Left f list l₀ o₀ 0 l₀ o₀
+  left-all = record { whole = refl }
+
+  pub left-turn : {i : ℕ} {l : List ℕ} {o : Out} {m : List ℕ} {p : Out} (d : A) → Left f list l₀ o₀ i l o → i < length list → Gathers l o (f (getD list i d) ∷ []) m p → Left f list l₀ o₀ (i + 1) m p
+  left-turn {i} d a h w = record { whole = ap (λ (g : Gathered). puts g (map f (drop (i + 1) list))) (w .same) ∙ (rw add-one (rw (drop-cons list i d h) at (a .whole))) }
+
+  pub left-none : {i : ℕ} {l : List ℕ} {o : Out} → Left f list l₀ o₀ i l o → length list ≤ i → Gathers l₀ o₀ (map f list) l o
+  left-none {i} a h = record { same = rw (drop-of-length-le list {i = i} h) at (a .whole) }

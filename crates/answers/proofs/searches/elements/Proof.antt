@@ -1,13 +1,16 @@
--- `answers::searches::elements` is proved: what is left of the buffer falls. Assumes nothing.
+-- `answers::searches::elements` meets its contract. Assumes nothing.
 use Prim.Native.Nat.{_-_, _≤_}
-use mathlib.Core.Path.{_≡_}
+use mathlib.Core.Path.{_≡_, refl}
+use native.Mathlib.Omega.{arith}
 use lib.ListN.{length}
+use Rattle.replay.specs.Line.{floatText}
+use Rattle.replay.proofs.Gathering.{then, Left, left-all, left-turn, left-none}
 use borrow.Author.Needs.{needs}
 use Rattle.answers.proofs.searches.elements.Statement.{statement}
 use Rattle.answers.proofs.searches.elements.Tie as tie
 
 abbrev Inv-loop : tie.InvT-loop
-Inv-loop out₀ buffer p₀ i₀ out p i = (length out ≡ length out₀) × (i ≤ length buffer)
+Inv-loop out₀ buffer p₀ i₀ out p i = (length out ≡ length out₀) × (i ≤ length buffer) × Left floatText buffer out₀ p₀ i out p
 
 abbrev μ-loop : tie.MeasureT-loop
 μ-loop out₀ buffer p₀ i₀ out p i = length buffer - i
@@ -19,7 +22,7 @@ word-requires : tie.Need-word-requires Inv-loop μ-loop
 word-requires c κs = search needs
 
 loop-holds : tie.Need-loop-holds Inv-loop μ-loop
-loop-holds c = search needs
+loop-holds c = (refl, search needs, left-all)
 
 mul-float : tie.Need-mul-float Inv-loop μ-loop
 mul-float c = search needs
@@ -37,13 +40,13 @@ loop-less : tie.Need-loop-less Inv-loop μ-loop
 loop-less c = search needs
 
 loop-again : tie.Need-loop-again Inv-loop μ-loop
-loop-again c = search needs
+loop-again c = (search needs, search needs, left-turn 0 (c .before .before .before .before .before .before .before .loop .inv .2) (omega arith) (rw (c .before .before .before .wide .ensures) at (c .before .before .number .ensures)))
 
 same-length : tie.Need-same-length Inv-loop μ-loop
 same-length c = search needs
 
 returns : tie.Need-returns Inv-loop μ-loop
-returns c = search needs
+returns c = then (c .before .before .before .before .word .ensures) (left-none (c .before .loop .inv .2) (omega arith))
 
 pub elements-spec : {M : Type 1} → statement M
 elements-spec =

@@ -1,0 +1,2 @@
+-- What the proofs of `answers` share.
+pub mod Rows

@@ -1,0 +1,47 @@
+-- `answers::almanac::reply` meets its contract. Assumes nothing.
+use borrow.Author.Needs.{needs}
+use Rattle.answers.specs.Almanac.{almanacReply}
+use borrow.Author.Tests.{ne-eqb}
+use lib.Dec.{lit<}
+use Rattle.answers.proofs.almanac.reply.Statement.{statement}
+use Rattle.answers.proofs.almanac.reply.Tie as tie
+
+date-of-requires : tie.Need-date-of-requires
+date-of-requires c κs = search needs
+
+of-date-requires : tie.Need-of-date-requires
+of-date-requires c κs = search needs
+
+returns : tie.Need-returns
+unfolding almanacReply
+returns c = rw (c .before .before .if1 .taken, c .of-date .ensures, c .before .date-of .ensures)
+
+date-of-requires-2 : tie.Need-date-of-requires-2
+date-of-requires-2 c κs = search needs
+
+small-requires : tie.Need-small-requires
+small-requires c κs = search needs
+
+kala-requires : tie.Need-kala-requires
+kala-requires c κs = search needs
+
+returns-2 : tie.Need-returns-2
+unfolding almanacReply
+returns-2 c = rw (ne-eqb _ _ (c .before .before .before .before .before .if1 .left), c .before .before .before .if2 .taken, c .kala .ensures, c .before .small .ensures (lit< tt), c .before .before .date-of2 .ensures)
+
+returns-3 : tie.Need-returns-3
+unfolding almanacReply
+returns-3 c = rw (ne-eqb _ _ (c .before .before .if1 .left), c .if2 .left)
+
+pub reply-spec : {M : Type 1} → statement M
+reply-spec =
+    tie.close
+    (tie.spec
+    date-of-requires
+    of-date-requires
+    returns
+    date-of-requires-2
+    small-requires
+    kala-requires
+    returns-2
+    returns-3)

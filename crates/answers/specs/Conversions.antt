@@ -1,0 +1,37 @@
+-- What the questions about the lent table are answered. Assumes nothing.
+use Prim.Native.Nat.{ℕ}
+use mathlib.Core.Bool.{Bool, cond}
+use mathlib.Core.List.{List, [], _∷_}
+use lib.Dec.{eqb}
+use Rattle.conversion.specs.Calendar.{Calendar, toAd, fromAd, monthLen, validBs}
+use Rattle.conversion.specs.declared.BsDate.{BsDate}
+use Rattle.replay.specs.Tags.{CHECK, BS, AD, LEN, VALID}
+use Rattle.replay.specs.declared.words.Words.{Words}
+use Rattle.answers.specs.declared.reply.Reply.{Reply}
+use Rattle.answers.specs.declared.reply.Reply.the-variants as R
+use Rattle.answers.specs.Replies.{said, dated, formed, among, small}
+
+-- whether the table is accepted: nothing more, or refusal 1
+abbrev pub checked : Bool → Reply
+checked good = cond good R.Good (R.Refused 1)
+
+-- a BS date
+abbrev pub bsDated : BsDate → Reply
+bsDated x = R.Date (x .year) (x .month) (x .day)
+
+-- a line's first three words
+abbrev pub bsIn : Words → BsDate
+bsIn w = record { year = small w 1; month = small w 2; day = small w 3 }
+
+-- by tag
+abbrev pub conversionsRows : Calendar → Words → List (ℕ × Reply)
+conversionsRows c w =
+    (CHECK, formed (eqb (w .form) 0) (checked (c .good)))
+    ∷ (BS, formed (eqb (w .form) 111) (said dated (toAd c (small w 1) (small w 2) (small w 3))))
+    ∷ (AD, formed (eqb (w .form) 111) (said bsDated (fromAd c (small w 1) (small w 2) (small w 3))))
+    ∷ (LEN, formed (eqb (w .form) 11) (said R.Number (monthLen c (small w 1) (small w 2))))
+    ∷ (VALID, formed (eqb (w .form) 111) (said (λ good. R.Good) (validBs c (small w 1) (small w 2) (small w 3))))
+    ∷ []
+
+unfoldable pub conversionsReply : Calendar → Words → Reply
+conversionsReply c w = among (w .tag) (conversionsRows c w)
