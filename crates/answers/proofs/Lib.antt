@@ -1,2 +1,3 @@
 -- What the proofs of `answers` share.
 pub mod Rows
+pub mod Lent

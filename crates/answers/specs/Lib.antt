@@ -5,3 +5,4 @@ pub mod Conversions
 pub mod Trigonometry
 pub mod Almanac
 pub mod Heavens
+pub mod Searches

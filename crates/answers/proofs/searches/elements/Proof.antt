@@ -40,7 +40,7 @@ loop-less : tie.Need-loop-less Inv-loop μ-loop
 loop-less c = search needs
 
 loop-again : tie.Need-loop-again Inv-loop μ-loop
-loop-again c = (search needs, search needs, left-turn 0 (c .before .before .before .before .before .before .before .loop .inv .2) (omega arith) (rw (c .before .before .before .wide .ensures) at (c .before .before .number .ensures)))
+loop-again c = (search needs, search needs, left-turn _ (c .before .before .before .before .before .before .loop .inv .2) (omega arith) (c .before .before .float .ensures))
 
 same-length : tie.Need-same-length Inv-loop μ-loop
 same-length c = search needs

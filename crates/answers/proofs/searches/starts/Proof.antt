@@ -1,6 +1,9 @@
--- A buffer's length is one that the array has. Assumes nothing.
+-- `answers::searches::starts` meets its contract. Assumes nothing.
 use mathlib.Core.Path.{sym}
 use lib.Seq.{length-take-le}
+use lib.Dec.{lit<}
+use lib.Ieee.{binary64, ofBits}
+use Rattle.answers.proofs.Lent.{taken, seven}
 use borrow.Author.Needs.{needs}
 use Rattle.answers.proofs.searches.starts.Statement.{statement}
 use Rattle.answers.proofs.searches.starts.Tie as tie
@@ -24,7 +27,7 @@ same-length : tie.Need-same-length
 same-length c = search needs
 
 returns : tie.Need-returns
-returns c = search needs
+returns c = rw (← c .before .before .before .before .before .before .small .ensures (lit< tt), ← seven, ← taken (c .before .before .before .before .before .before .small .result) 65535 (ofBits binary64 4619567317775286272) (search needs)) (c .before .before .before .search .ensures)
 
 pub starts-spec : {M : Type 1} → statement M
 starts-spec =
