@@ -2,7 +2,8 @@
 ghost use mathlib.Core.Path.{_≡_};
 ghost use Prim.Native.Nat.{_-_, _≤_};
 ghost use Rattle.conversion.specs.Flat.{flat};
-ghost use Rattle.questions.specs.Questions.{replyTo};
+ghost use Rattle.replay.specs.Gathered.{Gathers};
+ghost use Rattle.questions.specs.Questions.{replyTo, wordsBy, answerWords};
 
 mod lending;
 mod lists;
@@ -45,7 +46,9 @@ fn reply_to(w: Words, table: Table, rows: &[u16], rules: &[u16]) -> Reply
 }
 
 // The answer to a question, by its tag: three show lent buffers too.
-fn answer_over(o: Out, out: &mut [u8], w: Words, table: Table, rows: &[u16], rules: &[u16]) -> Out {
+fn answer_over(o: Out, out: &mut [u8], w: Words, table: Table, rows: &[u16], rules: &[u16]) -> Out
+    ensures { λ r. ⌜ Gathers (now (out .entry)) o (wordsBy (w .tag) table (now (rows .entry)) (now (rules .entry)) w) (now (out .exit)) r ⌝ }
+{
     let tag = w.tag;
     match tag {
         tags::STARTS => answers::searches::answer(o, out, w),
@@ -56,17 +59,17 @@ fn answer_over(o: Out, out: &mut [u8], w: Words, table: Table, rows: &[u16], rul
 }
 
 // The answer to a line that asks, nothing to one that lends, or a question mark.
-fn answer(o: Out, out: &mut [u8], w: Words, lent: Lent, rows: &[u16], rules: &[u16]) -> Out {
+fn answer(o: Out, out: &mut [u8], w: Words, lent: Lent, rows: &[u16], rules: &[u16]) -> Out
+    ensures { λ r. ⌜ Gathers (now (out .entry)) o (answerWords lent (now (rows .entry)) (now (rules .entry)) w) (now (out .exit)) r ⌝ }
+{
     if lending::is_lending(w) {
         return o;
     }
     let cells = lent.cells;
     let numbers = lent.numbers;
     let table = lent.table;
-    if cells <= rows.len() {
-        if numbers <= rules.len() {
-            return answer_over(o, out, w, table, &rows[..cells], &rules[..numbers]);
-        }
+    if (cells <= rows.len()) & (numbers <= rules.len()) {
+        return answer_over(o, out, w, table, &rows[..cells], &rules[..numbers]);
     }
     Reply::Unformed.put(o, out)
 }

@@ -3,9 +3,10 @@ ghost use mathlib.Core.Path.{_≡_};
 ghost use mathlib.Core.Bool.{cond};
 ghost use Rattle.rules.specs.Rules.{acceptedRules};
 ghost use Rattle.festivals.specs.Answers.{listSays};
+ghost use Rattle.replay.specs.Gathered.{Gathers};
 ghost use Rattle.answers.specs.Replies.{said};
 ghost use Rattle.answers.specs.declared.reply.Reply.the-variants as R;
-ghost use Rattle.questions.specs.Lists.{rulesReply, listAsked};
+ghost use Rattle.questions.specs.Lists.{rulesReply, listAsked, listedWords, listWords};
 use answers::parts;
 use answers::reply::Reply;
 use conversion::Table;
@@ -74,13 +75,17 @@ fn put_asked(
     rows: &[u16],
     rules: &[u16],
     list: &mut [u16],
-) -> Out {
+) -> Out
+    ensures { λ r. ⌜ Gathers (now (out .entry)) o (listedWords (listAsked table (now (rows .entry)) (now (rules .entry)) w (now (list .entry)))) (now (out .exit)) r ⌝ }
+{
     let counted = count(asked(w, table, rows, rules, list)).put(o, out);
     parts::put_list(counted, out, list)
 }
 
 // The answer to a line in form, whose buffer has the asked length and holds 7 before, or a question mark. A line can ask for any length up to 65,535.
-pub fn list(o: Out, out: &mut [u8], w: Words, table: Table, rows: &[u16], rules: &[u16]) -> Out {
+pub fn list(o: Out, out: &mut [u8], w: Words, table: Table, rows: &[u16], rules: &[u16]) -> Out
+    ensures { λ r. ⌜ Gathers (now (out .entry)) o (listWords table (now (rows .entry)) (now (rules .entry)) w) (now (out .exit)) r ⌝ }
+{
     if w.form == 1111 {
         let mut buffer = [7u16; 65535];
         let n = w.small(4) as usize;

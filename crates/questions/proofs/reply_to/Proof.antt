@@ -1,71 +1,83 @@
+-- Each tag is one of its arm's. Assumes nothing.
+use mathlib.Core.Path.{refl, _∙_}
+use mathlib.Core.List.{[], _∷_}
+use Rattle.conversion.specs.Flat.{flat}
+use Rattle.replay.specs.Tags.{CHECK, CHECKRULES, BS, AD, LEN, VALID, STEP, DAY, DATE, JD, NPT, EVENTS, RISE, SET, KALA, NISHITA, READ, SIN, COS, ASIN, ACOS, TAN}
+use Rattle.questions.specs.Questions.{oneOf, replyBy}
+use Rattle.questions.proofs.Keys.{by-key, no-key}
 use borrow.Author.Needs.{needs}
 use Rattle.questions.proofs.reply_to.Statement.{statement}
 use Rattle.questions.proofs.reply_to.Tie as tie
-use Rattle.questions.proofs.reply_to.Reads as reads
-use Rattle.questions.proofs.reply_to.Lts as lts
-use Rattle.answers.proofs.almanac.reply.Reads as almanac-reply-reads
-use Rattle.answers.proofs.conversions.reply.Reads as conversions-reply-reads
-use Rattle.answers.proofs.days.reply.Reads as days-reply-reads
-use Rattle.answers.proofs.heavens.reply.Reads as heavens-reply-reads
-use Rattle.answers.proofs.trigonometry.reply.Reads as trigonometry-reply-reads
-use Rattle.questions.proofs.lists.check.Reads as check-reads
-use Rattle.questions.proofs.months.step.Reads as step-reads
 
--- src/lib.rt:31:58
 reply-requires : tie.Need-reply-requires
 reply-requires c κs = search needs
 
--- src/lib.rt:33:13
 reply-requires-2 : tie.Need-reply-requires-2
 reply-requires-2 c κs = search needs
 
--- src/lib.rt:36:13
 reply-requires-3 : tie.Need-reply-requires-3
 reply-requires-3 c κs = search needs
 
--- src/lib.rt:39:13
 reply-requires-4 : tie.Need-reply-requires-4
 reply-requires-4 c κs = search needs
 
--- src/lib.rt:41:29
 check-requires : tie.Need-check-requires
 check-requires c κs = search needs
 
--- src/lib.rt:42:23
 step-requires : tie.Need-step-requires
 step-requires c κs = search needs
 
--- src/lib.rt:43:14
 reply-requires-5 : tie.Need-reply-requires-5
 reply-requires-5 c κs = search needs
 
--- src/lib.rt:26:1
 returns : tie.Need-returns
-returns c = ?
+unfolding replyBy oneOf
+returns c = let a = c .before .before .before .before .args in
+    let cal = flat (a .table) (a .rows .now) in
+    c .reply .ensures ∙ by-key (λ tag. replyBy tag cal (a .rules .now) (a .w)) _ (JD ∷ DAY ∷ NPT ∷ DATE ∷ []) (a .w .tag) (c .before .match .keys1) (refl, (refl, (refl, (refl, tt))))
 
--- src/lib.rt:26:1
 returns-2 : tie.Need-returns-2
-returns-2 c = ?
+unfolding replyBy oneOf
+returns-2 c = let a = c .before .before .before .before .args in
+    let cal = flat (a .table) (a .rows .now) in
+    c .reply2 .ensures ∙ by-key (λ tag. replyBy tag cal (a .rules .now) (a .w)) _ (AD ∷ BS ∷ LEN ∷ CHECK ∷ VALID ∷ []) (a .w .tag) (c .before .match .keys2) (refl, (refl, (refl, (refl, (refl, tt)))))
 
--- src/lib.rt:26:1
 returns-3 : tie.Need-returns-3
-returns-3 c = ?
+unfolding replyBy oneOf
+returns-3 c = let a = c .before .before .before .before .args in
+    let cal = flat (a .table) (a .rows .now) in
+    c .reply3 .ensures ∙ by-key (λ tag. replyBy tag cal (a .rules .now) (a .w)) _ (COS ∷ SIN ∷ TAN ∷ ACOS ∷ ASIN ∷ []) (a .w .tag) (c .before .match .keys3) (refl, (refl, (refl, (refl, (refl, tt)))))
 
--- src/lib.rt:26:1
 returns-4 : tie.Need-returns-4
-returns-4 c = ?
+unfolding replyBy oneOf
+returns-4 c = let a = c .before .before .before .before .args in
+    let cal = flat (a .table) (a .rows .now) in
+    c .reply4 .ensures ∙ by-key (λ tag. replyBy tag cal (a .rules .now) (a .w)) _ (SET ∷ KALA ∷ READ ∷ RISE ∷ EVENTS ∷ NISHITA ∷ []) (a .w .tag) (c .before .match .keys4) (refl, (refl, (refl, (refl, (refl, (refl, tt))))))
 
--- src/lib.rt:26:1
 returns-5 : tie.Need-returns-5
-returns-5 c = ?
+unfolding replyBy oneOf
+returns-5 c = let a = c .before .before .before .before .args in
+    let cal = flat (a .table) (a .rows .now) in
+    c .check .ensures ∙ by-key (λ tag. replyBy tag cal (a .rules .now) (a .w)) _ (CHECKRULES ∷ []) (a .w .tag) (c .before .match .keys5) (refl, tt)
 
--- src/lib.rt:26:1
 returns-6 : tie.Need-returns-6
-returns-6 c = ?
+unfolding replyBy oneOf
+returns-6 c = let a = c .before .before .before .before .args in
+    let cal = flat (a .table) (a .rows .now) in
+    c .step .ensures ∙ by-key (λ tag. replyBy tag cal (a .rules .now) (a .w)) _ (STEP ∷ []) (a .w .tag) (c .before .match .keys6) (refl, tt)
 
--- src/lib.rt:26:1
 returns-7 : tie.Need-returns-7
-returns-7 c = ?
+unfolding replyBy
+returns-7 c = let rest = c .before .match .rest in
+    rw (
+      no-key (JD ∷ DAY ∷ NPT ∷ DATE ∷ []) _ (rest .0 .0 .0 .0 .0 .1),
+      no-key (AD ∷ BS ∷ LEN ∷ CHECK ∷ VALID ∷ []) _ (rest .0 .0 .0 .0 .1),
+      no-key (COS ∷ SIN ∷ TAN ∷ ACOS ∷ ASIN ∷ []) _ (rest .0 .0 .0 .1),
+      no-key (SET ∷ KALA ∷ READ ∷ RISE ∷ EVENTS ∷ NISHITA ∷ []) _ (rest .0 .0 .1),
+      no-key (CHECKRULES ∷ []) _ (rest .0 .1),
+      no-key (STEP ∷ []) _ (rest .1),
+    )
+    (c .reply5 .ensures)
 
 pub reply-to-spec : {M : Type 1} → statement M
 reply-to-spec =

@@ -1,56 +1,48 @@
+-- Month and step, each in form or not. Assumes nothing.
+use borrow.Author.Tests.{le-leb, lt-leb}
+use lib.Dec.{lit<}
+use mir.Syntax.{w32}
+use mir.ValLaws.{toZ-ofZ}
+use Rattle.questions.specs.Months.{stepped}
 use borrow.Author.Needs.{needs}
 use Rattle.questions.proofs.months.stepped.Statement.{statement}
 use Rattle.questions.proofs.months.stepped.Tie as tie
-use Rattle.questions.proofs.months.stepped.Reads as reads
-use Rattle.questions.proofs.months.stepped.Lts as lts
-use Rattle.grid.proofs.step_month.Reads as step-month-reads
-use Rattle.questions.proofs.months.monthly_of.Reads as monthly-of-reads
-use Rattle.replay.proofs.words.Words.small.Reads as small-reads
-use Rattle.replay.proofs.words.Words.whole.Reads as whole-reads
 
--- src/months.rt:33:9
 small-requires : tie.Need-small-requires
 small-requires c κs = search needs
 
--- src/months.rt:35:9
 returns : tie.Need-returns
-returns c = ?
+unfolding stepped
+returns c = rw (← c .before .small .ensures (lit< tt), lt-leb _ _ (c .if1 .taken))
 
--- src/months.rt:37:25
 whole-requires : tie.Need-whole-requires
 whole-requires c κs = search needs
 
--- src/months.rt:37:19
 enum-known-by : tie.Need-enum-known-by
 enum-known-by c = search needs
 
--- src/months.rt:38:9
 enum-told : tie.Need-enum-told
 enum-told c = search needs
 
--- src/months.rt:38:9
 returns-2 : tie.Need-returns-2
-returns-2 c = ?
+unfolding stepped
+returns-2 c = rw (← c .before .before .before .before .small .ensures (lit< tt), le-leb _ _ (c .before .before .before .if1 .left), ← c .before .before .whole .ensures (lit< tt), c .enum-told .given .1)
 
--- src/months.rt:40:46
 small-requires-2 : tie.Need-small-requires-2
 small-requires-2 c κs = search needs
 
--- src/months.rt:40:58
 cast-step-month : tie.Need-cast-step-month
 cast-step-month c = search needs
 
--- src/months.rt:40:16
 step-month-requires : tie.Need-step-month-requires
 step-month-requires c κs = search needs
 
--- src/months.rt:40:5
 monthly-of-requires : tie.Need-monthly-of-requires
 monthly-of-requires c κs = search needs
 
--- src/months.rt:30:1
 returns-3 : tie.Need-returns-3
-returns-3 c = ?
+unfolding stepped
+returns-3 c = rw (← c .before .before .small2 .ensures (lit< tt), ← c .before .before .before .before .before .before .before .before .small .ensures (lit< tt), le-leb _ _ (c .before .before .before .before .before .before .before .if1 .left), ← c .before .before .before .before .before .before .whole .ensures (lit< tt), c .before .before .before .before .by .given .1, c .monthly-of .ensures, c .before .step-month .ensures, toZ-ofZ w32 (c .before .before .before .before .by .given .0 .0) (search needs))
 
 pub stepped-spec : {M : Type 1} → statement M
 stepped-spec =
