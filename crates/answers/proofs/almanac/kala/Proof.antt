@@ -1,8 +1,8 @@
 -- `answers::almanac::kala` meets its contract. Assumes nothing.
+use Rattle.answers.specs.Replies.{among}
+use Rattle.answers.specs.Almanac.{kalaRows}
 use borrow.Author.Needs.{needs}
 use Rattle.answers.proofs.Rows.{other}
-use Rattle.answers.specs.Almanac.{kalaRows}
-use Rattle.answers.specs.Replies.{among}
 use Rattle.answers.proofs.almanac.kala.Statement.{statement}
 use Rattle.answers.proofs.almanac.kala.Tie as tie
 

@@ -1,8 +1,8 @@
 -- `answers::almanac::of_date` meets its contract. Assumes nothing.
+use Rattle.answers.specs.Replies.{among}
+use Rattle.answers.specs.Almanac.{dateRows}
 use borrow.Author.Needs.{needs}
 use Rattle.answers.proofs.Rows.{other}
-use Rattle.answers.specs.Almanac.{dateRows}
-use Rattle.answers.specs.Replies.{among}
 use Rattle.answers.proofs.almanac.of_date.Statement.{statement}
 use Rattle.answers.proofs.almanac.of_date.Tie as tie
 

@@ -1,8 +1,8 @@
 -- `answers::almanac::reply` meets its contract. Assumes nothing.
-use borrow.Author.Needs.{needs}
-use Rattle.answers.specs.Almanac.{almanacReply}
-use borrow.Author.Tests.{ne-eqb}
 use lib.Dec.{lit<}
+use Rattle.answers.specs.Almanac.{almanacReply}
+use borrow.Author.Needs.{needs}
+use borrow.Author.Tests.{ne-eqb}
 use Rattle.answers.proofs.almanac.reply.Statement.{statement}
 use Rattle.answers.proofs.almanac.reply.Tie as tie
 

@@ -1,6 +1,6 @@
 -- `answers::conversions::bs_date` meets its contract. Assumes nothing.
-use borrow.Author.Needs.{needs}
 use lib.Dec.{lit<}
+use borrow.Author.Needs.{needs}
 use Rattle.answers.proofs.conversions.bs_date.Statement.{statement}
 use Rattle.answers.proofs.conversions.bs_date.Tie as tie
 

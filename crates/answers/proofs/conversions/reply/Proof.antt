@@ -1,12 +1,12 @@
 -- `answers::conversions::reply` meets its contract. Assumes nothing.
-use borrow.Author.Needs.{needs}
-use Rattle.conversion.specs.Flat.{flat}
-use Rattle.answers.proofs.Rows.{other}
-use Rattle.answers.specs.Conversions.{conversionsRows, conversionsReply}
-use Rattle.answers.specs.Replies.{among}
-use borrow.Author.Tests.{ne-eqb}
 use lib.Dec.{lit<}
 use denote.Ref.{now}
+use Rattle.conversion.specs.Flat.{flat}
+use Rattle.answers.specs.Replies.{among}
+use Rattle.answers.specs.Conversions.{conversionsRows, conversionsReply}
+use borrow.Author.Needs.{needs}
+use borrow.Author.Tests.{ne-eqb}
+use Rattle.answers.proofs.Rows.{other}
 use Rattle.answers.proofs.conversions.reply.Statement.{statement}
 use Rattle.answers.proofs.conversions.reply.Tie as tie
 

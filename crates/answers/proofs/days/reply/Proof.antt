@@ -1,10 +1,10 @@
 -- `answers::days::reply` meets its contract. Assumes nothing.
-use borrow.Author.Needs.{needs}
-use Rattle.answers.proofs.Rows.{other}
-use Rattle.answers.specs.Days.{daysRows, daysReply}
-use Rattle.answers.specs.Replies.{among}
-use borrow.Author.Tests.{ne-eqb}
 use lib.Dec.{lit<}
+use Rattle.answers.specs.Replies.{among}
+use Rattle.answers.specs.Days.{daysRows, daysReply}
+use borrow.Author.Needs.{needs}
+use borrow.Author.Tests.{ne-eqb}
+use Rattle.answers.proofs.Rows.{other}
 use Rattle.answers.proofs.days.reply.Statement.{statement}
 use Rattle.answers.proofs.days.reply.Tie as tie
 

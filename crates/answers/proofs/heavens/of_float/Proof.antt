@@ -1,8 +1,8 @@
 -- `answers::heavens::of_float` meets its contract. Assumes nothing.
+use Rattle.answers.specs.Replies.{among}
+use Rattle.answers.specs.Heavens.{floatRows}
 use borrow.Author.Needs.{needs}
 use Rattle.answers.proofs.Rows.{other}
-use Rattle.answers.specs.Heavens.{floatRows}
-use Rattle.answers.specs.Replies.{among}
 use Rattle.answers.proofs.heavens.of_float.Statement.{statement}
 use Rattle.answers.proofs.heavens.of_float.Tie as tie
 

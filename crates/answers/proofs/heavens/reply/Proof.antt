@@ -1,8 +1,8 @@
 -- `answers::heavens::reply` meets its contract. Assumes nothing.
-use borrow.Author.Needs.{needs}
-use Rattle.answers.specs.Heavens.{heavensReply}
-use borrow.Author.Tests.{ne-eqb}
 use lib.Dec.{lit<}
+use Rattle.answers.specs.Heavens.{heavensReply}
+use borrow.Author.Needs.{needs}
+use borrow.Author.Tests.{ne-eqb}
 use Rattle.answers.proofs.heavens.reply.Statement.{statement}
 use Rattle.answers.proofs.heavens.reply.Tie as tie
 

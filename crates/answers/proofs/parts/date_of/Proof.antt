@@ -1,6 +1,6 @@
 -- `answers::parts::date_of` meets its contract. Assumes nothing.
-use borrow.Author.Needs.{needs}
 use lib.Dec.{lit<}
+use borrow.Author.Needs.{needs}
 use Rattle.answers.proofs.parts.date_of.Statement.{statement}
 use Rattle.answers.proofs.parts.date_of.Tie as tie
 

@@ -1,8 +1,8 @@
 -- `answers::trigonometry::of_float` meets its contract. Assumes nothing.
+use Rattle.answers.specs.Replies.{among}
+use Rattle.answers.specs.Trigonometry.{angleRows}
 use borrow.Author.Needs.{needs}
 use Rattle.answers.proofs.Rows.{other}
-use Rattle.answers.specs.Trigonometry.{angleRows}
-use Rattle.answers.specs.Replies.{among}
 use Rattle.answers.proofs.trigonometry.of_float.Statement.{statement}
 use Rattle.answers.proofs.trigonometry.of_float.Tie as tie
 

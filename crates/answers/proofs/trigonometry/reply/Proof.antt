@@ -1,8 +1,8 @@
 -- `answers::trigonometry::reply` meets its contract. Assumes nothing.
-use borrow.Author.Needs.{needs}
-use Rattle.answers.specs.Trigonometry.{trigonometryReply}
-use borrow.Author.Tests.{ne-eqb}
 use lib.Dec.{lit<}
+use Rattle.answers.specs.Trigonometry.{trigonometryReply}
+use borrow.Author.Needs.{needs}
+use borrow.Author.Tests.{ne-eqb}
 use Rattle.answers.proofs.trigonometry.reply.Statement.{statement}
 use Rattle.answers.proofs.trigonometry.reply.Tie as tie
 
