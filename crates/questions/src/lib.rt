@@ -1,10 +1,15 @@
 // The answers to the line language: what lines lend, and what each question is answered over it.
+ghost use mathlib.Core.Path.{_≡_};
 ghost use Prim.Native.Nat.{_-_, _≤_};
+ghost use Rattle.conversion.specs.Flat.{flat};
+ghost use Rattle.replay.specs.Gathered.{Gathers};
+ghost use Rattle.questions.specs.Questions.{replyTo, wordsBy, answerWords};
 
 mod lending;
 mod lists;
 mod months;
 
+use answers::reply::Reply;
 use conversion::Table;
 pub use lending::Lent;
 use replay::Out;
@@ -18,44 +23,55 @@ struct Stepped {
     lent: Lent,
 }
 
-// The answer to a question, by its tag. A tag that is none falls to the heavens, which know it not either: a question mark.
-fn answer_over(o: Out, out: &mut [u8], w: Words, table: Table, rows: &[u16], rules: &[u16]) -> Out {
+// The reply to a question with no lent buffer, by its tag. A tag that is none falls to the heavens, which know it not either: a question mark.
+fn reply_to(w: Words, table: Table, rows: &[u16], rules: &[u16]) -> Reply
+    ensures { λ r. ⌜ r ≡ replyTo (flat table (now (rows .entry))) (now (rules .entry)) w ⌝ }
+{
     let tag = w.tag;
     match tag {
-        tags::DAY | tags::DATE | tags::JD | tags::NPT => answers::days::reply(w).put(o, out),
+        tags::DAY | tags::DATE | tags::JD | tags::NPT => answers::days::reply(w),
         tags::CHECK | tags::BS | tags::AD | tags::LEN | tags::VALID => {
-            answers::conversions::reply(w, table, rows).put(o, out)
+            answers::conversions::reply(w, table, rows)
         }
         tags::SIN | tags::COS | tags::ASIN | tags::ACOS | tags::TAN => {
-            answers::trigonometry::reply(w).put(o, out)
+            answers::trigonometry::reply(w)
         }
         tags::EVENTS | tags::RISE | tags::SET | tags::KALA | tags::NISHITA | tags::READ => {
-            answers::almanac::reply(w).put(o, out)
+            answers::almanac::reply(w)
         }
-        tags::CHECKRULES | tags::LISTBS | tags::LISTAD => {
-            lists::answer(o, out, w, table, rows, rules)
-        }
-        tags::STEP => months::step(o, out, w, table, rows),
-        tags::GRID => months::month(o, out, w, table, rows, rules),
+        tags::CHECKRULES => lists::check(w, rules),
+        tags::STEP => months::step(w, table, rows),
+        _ => answers::heavens::reply(w),
+    }
+}
+
+// The answer to a question, by its tag: three show lent buffers too.
+fn answer_over(o: Out, out: &mut [u8], w: Words, table: Table, rows: &[u16], rules: &[u16]) -> Out
+    ensures { λ r. ⌜ Gathers (now (out .entry)) o (wordsBy (w .tag) table (now (rows .entry)) (now (rules .entry)) w) (now (out .exit)) r ⌝ }
+{
+    let tag = w.tag;
+    match tag {
         tags::STARTS => answers::searches::answer(o, out, w),
-        _ => answers::heavens::reply(w).put(o, out),
+        tags::LISTBS | tags::LISTAD => lists::list(o, out, w, table, rows, rules),
+        tags::GRID => months::month(o, out, w, table, rows, rules),
+        _ => reply_to(w, table, rows, rules).put(o, out),
     }
 }
 
 // The answer to a line that asks, nothing to one that lends, or a question mark.
-fn answer(o: Out, out: &mut [u8], w: Words, lent: Lent, rows: &[u16], rules: &[u16]) -> Out {
+fn answer(o: Out, out: &mut [u8], w: Words, lent: Lent, rows: &[u16], rules: &[u16]) -> Out
+    ensures { λ r. ⌜ Gathers (now (out .entry)) o (answerWords lent (now (rows .entry)) (now (rules .entry)) w) (now (out .exit)) r ⌝ }
+{
     if lending::is_lending(w) {
         return o;
     }
     let cells = lent.cells;
     let numbers = lent.numbers;
     let table = lent.table;
-    if cells <= rows.len() {
-        if numbers <= rules.len() {
-            return answer_over(o, out, w, table, &rows[..cells], &rules[..numbers]);
-        }
+    if (cells <= rows.len()) & (numbers <= rules.len()) {
+        return answer_over(o, out, w, table, &rows[..cells], &rules[..numbers]);
     }
-    o.word(out, b"?")
+    Reply::Unformed.put(o, out)
 }
 
 // A turn: the line lends or is answered, and the next line is read.

@@ -1,4 +1,12 @@
 // Questions about the lent rules: `checkrules`, `listbs` and `listad`.
+ghost use mathlib.Core.Path.{_≡_};
+ghost use mathlib.Core.Bool.{cond};
+ghost use Rattle.rules.specs.Rules.{acceptedRules};
+ghost use Rattle.festivals.specs.Answers.{listSays};
+ghost use Rattle.replay.specs.Gathered.{Gathers};
+ghost use Rattle.answers.specs.Replies.{said};
+ghost use Rattle.answers.specs.declared.reply.Reply.the-variants as R;
+ghost use Rattle.questions.specs.Lists.{rulesReply, listAsked, listedWords, listWords};
 use answers::parts;
 use answers::reply::Reply;
 use conversion::Table;
@@ -7,43 +15,55 @@ use replay::Out;
 use replay::Words;
 use replay::tags;
 
-// Whether the rules are accepted: 0 or 2.
-fn check_rules(o: Out, out: &mut [u8], numbers: &[u16]) -> Out {
+// Whether the rules are accepted, or refusal 2.
+fn accepted(numbers: &[u16]) -> Reply
+    ensures { λ r. ⌜ r ≡ cond (acceptedRules (now (numbers .entry))) R.Good (R.Refused 2) ⌝ }
+{
     if rules::accepts_rules(numbers) {
-        return o.number(out, 0);
+        return Reply::Good;
     }
-    o.number(out, 2)
+    Reply::Refused(2)
 }
 
-// The count or the refusal.
-fn put_count(o: Out, out: &mut [u8], answer: ListAnswer) -> Out {
+// The reply to a line `checkrules` in form, or a question mark.
+pub fn check(w: Words, numbers: &[u16]) -> Reply
+    ensures { λ r. ⌜ r ≡ rulesReply (now (numbers .entry)) w ⌝ }
+{
+    if w.form == 0 {
+        return accepted(numbers);
+    }
+    Reply::Unformed
+}
+
+// The reply of the count.
+fn count(answer: ListAnswer) -> Reply
+    ensures { λ r. ⌜ r ≡ said R.Number (listSays answer) ⌝ }
+{
     match answer {
-        ListAnswer::Count(n) => Reply::Number(n as u64).put(o, out),
-        ListAnswer::BadTable => o.number(out, 1),
-        ListAnswer::BadRules => o.number(out, 2),
-        ListAnswer::NoSuchDate => o.number(out, 3),
-        ListAnswer::NoYear => o.number(out, 4),
-        ListAnswer::NoMonth => o.number(out, 5),
-        ListAnswer::NoDay => o.number(out, 6),
-        ListAnswer::Outside => o.number(out, 7),
-        ListAnswer::NoRoom => o.number(out, 9),
+        ListAnswer::Count(n) => Reply::Number(n as u64),
+        ListAnswer::BadTable => Reply::Refused(1),
+        ListAnswer::BadRules => Reply::Refused(2),
+        ListAnswer::NoSuchDate => Reply::Refused(3),
+        ListAnswer::NoYear => Reply::Refused(4),
+        ListAnswer::NoMonth => Reply::Refused(5),
+        ListAnswer::NoDay => Reply::Refused(6),
+        ListAnswer::Outside => Reply::Refused(7),
+        ListAnswer::NoRoom => Reply::Refused(9),
     }
 }
 
 // A day's list, asked by BS date or else by Gregorian date.
-fn asked(table: Table, rows: &[u16], rules: &[u16], w: Words, list: &mut [u16]) -> ListAnswer {
+fn asked(w: Words, table: Table, rows: &[u16], rules: &[u16], list: &mut [u16]) -> ListAnswer
+    ensures answer { λ r. ⌜ listSays r ≡ listAsked table (now (rows .entry)) (now (rules .entry)) w (now (list .entry)) .answer ⌝ }
+    ensures buffer { λ _. ⌜ now (list .exit) ≡ listAsked table (now (rows .entry)) (now (rules .entry)) w (now (list .entry)) .buffer ⌝ }
+{
+    let year = w.small(1);
+    let month = w.small(2);
+    let day = w.small(3);
     if w.tag == tags::LISTBS {
-        return festivals::festivals_on(
-            table,
-            rows,
-            rules,
-            w.small(1),
-            w.small(2),
-            w.small(3),
-            list,
-        );
+        return festivals::festivals_on(table, rows, rules, year, month, day, list);
     }
-    festivals::festivals_on_ad(table, rows, rules, w.small(1), w.small(2), w.small(3), list)
+    festivals::festivals_on_ad(table, rows, rules, year, month, day, list)
 }
 
 // The answer and the buffer after it.
@@ -55,30 +75,21 @@ fn put_asked(
     rows: &[u16],
     rules: &[u16],
     list: &mut [u16],
-) -> Out {
-    let counted = put_count(o, out, asked(table, rows, rules, w, list));
+) -> Out
+    ensures { λ r. ⌜ Gathers (now (out .entry)) o (listedWords (listAsked table (now (rows .entry)) (now (rules .entry)) w (now (list .entry)))) (now (out .exit)) r ⌝ }
+{
+    let counted = count(asked(w, table, rows, rules, list)).put(o, out);
     parts::put_list(counted, out, list)
 }
 
-// A day's list, whose buffer has the asked length and holds 7 before. A line can ask for any length up to 65,535.
-fn list(o: Out, out: &mut [u8], w: Words, table: Table, rows: &[u16], rules: &[u16]) -> Out {
-    let mut buffer = [7u16; 65535];
-    let n = w.small(4) as usize;
-    put_asked(o, out, w, table, rows, rules, &mut buffer[..n])
-}
-
-// The answer to a line in form, or a question mark.
-pub fn answer(o: Out, out: &mut [u8], w: Words, table: Table, rows: &[u16], rules: &[u16]) -> Out {
-    let tag = w.tag;
-    let form = w.form;
-    if tag == tags::CHECKRULES {
-        if form == 0 {
-            return check_rules(o, out, rules);
-        }
-        return o.word(out, b"?");
+// The answer to a line in form, whose buffer has the asked length and holds 7 before, or a question mark. A line can ask for any length up to 65,535.
+pub fn list(o: Out, out: &mut [u8], w: Words, table: Table, rows: &[u16], rules: &[u16]) -> Out
+    ensures { λ r. ⌜ Gathers (now (out .entry)) o (listWords table (now (rows .entry)) (now (rules .entry)) w) (now (out .exit)) r ⌝ }
+{
+    if w.form == 1111 {
+        let mut buffer = [7u16; 65535];
+        let n = w.small(4) as usize;
+        return put_asked(o, out, w, table, rows, rules, &mut buffer[..n]);
     }
-    if form == 1111 {
-        return list(o, out, w, table, rows, rules);
-    }
-    o.word(out, b"?")
+    Reply::Unformed.put(o, out)
 }

@@ -1,59 +1,83 @@
 // Questions about months: `step` and `grid`.
+ghost use mathlib.Core.Path.{_≡_};
+ghost use Rattle.conversion.specs.Flat.{flat};
+ghost use Rattle.paper.specs.Answers.{answered};
+ghost use Rattle.grid.specs.Step.{stepSays};
+ghost use Rattle.grid.specs.Month.{gridSays};
+ghost use Rattle.grid.specs.Kathmandu.{monthShown};
+ghost use Rattle.replay.specs.Gathered.{Gathers};
+ghost use Rattle.answers.specs.Replies.{said, small, dateIn};
+ghost use Rattle.questions.specs.Months as Months;
+ghost use Rattle.questions.specs.Months.{monthly, stepReply, monthWords, shownWords, gridWords};
 use answers::parts;
 use answers::reply;
 use answers::reply::Reply;
 use conversion::Table;
 use grid::GridAnswer;
+use grid::Month;
 use grid::StepAnswer;
 use replay::Out;
 use replay::Whole;
 use replay::Words;
 
-fn put_stepped(o: Out, out: &mut [u8], a: StepAnswer) -> Out {
+// The reply of a month.
+fn monthly_of(a: StepAnswer) -> Reply
+    ensures { λ r. ⌜ r ≡ said monthly (stepSays a) ⌝ }
+{
     match a {
-        StepAnswer::Month(m) => Reply::Pair(m.year as u64, m.month as u64).put(o, out),
-        StepAnswer::BadTable => o.number(out, 1),
-        StepAnswer::OffTable => o.number(out, 10),
+        StepAnswer::Month(m) => Reply::Pair(m.year as u64, m.month as u64),
+        StepAnswer::BadTable => Reply::Refused(1),
+        StepAnswer::OffTable => Reply::Refused(10),
     }
 }
 
 // A month step. A month past 255 and a step that is no i32 are out of form.
-fn stepped(o: Out, out: &mut [u8], w: Words, minus: bool, table: Table, rows: &[u16]) -> Out {
+fn stepped(w: Words, minus: bool, table: Table, rows: &[u16]) -> Reply
+    ensures { λ r. ⌜ r ≡ Months.stepped (flat table (now (rows .entry))) w minus ⌝ }
+{
     let month = w.small(2);
-    if month <= 255 {
-        if let Whole::Is(by) = w.whole(3, minus) {
-            return put_stepped(
-                o,
-                out,
-                grid::step_month(table, rows, w.small(1), month as u8, by),
-            );
-        }
+    if 255 < month {
+        return Reply::Unformed;
     }
-    o.word(out, b"?")
+    let Whole::Is(by) = w.whole(3, minus) else {
+        return Reply::Unformed;
+    };
+    monthly_of(grid::step_month(table, rows, w.small(1), month as u8, by))
 }
 
-// The answer to a line `step` in form, or a question mark.
-pub fn step(o: Out, out: &mut [u8], w: Words, table: Table, rows: &[u16]) -> Out {
+// The reply to a line `step` in form, or a question mark.
+pub fn step(w: Words, table: Table, rows: &[u16]) -> Reply
+    ensures { λ r. ⌜ r ≡ stepReply (flat table (now (rows .entry))) w ⌝ }
+{
     let form = w.form;
-    match form {
-        111 | 112 => stepped(o, out, w, false, table, rows),
-        113 => stepped(o, out, w, true, table, rows),
-        _ => o.word(out, b"?"),
+    if (form == 111) | (form == 112) {
+        return stepped(w, false, table, rows);
     }
+    if form == 113 {
+        return stepped(w, true, table, rows);
+    }
+    Reply::Unformed
 }
 
-// The month's days, its first and last date and both counts, or the refusal.
-fn put_month(o: Out, out: &mut [u8], a: GridAnswer) -> Out {
+// A month's days, its first and last date and both counts.
+fn put_days(o: Out, out: &mut [u8], m: Month) -> Out
+    ensures { λ r. ⌜ Gathers (now (out .entry)) o (monthWords (answered m)) (now (out .exit)) r ⌝ }
+{
+    let first = m.first;
+    let last = m.last;
+    let days = Reply::Number(m.days as u64).put(o, out);
+    let from = reply::put_date(days, out, first.year, first.month, first.day);
+    let to = reply::put_date(from, out, last.year, last.month, last.day);
+    to.number(out, m.cells as u64)
+        .number(out, m.festivals as u64)
+}
+
+// The month or the refusal.
+fn put_month(o: Out, out: &mut [u8], a: GridAnswer) -> Out
+    ensures { λ r. ⌜ Gathers (now (out .entry)) o (monthWords (gridSays a)) (now (out .exit)) r ⌝ }
+{
     match a {
-        GridAnswer::Is(m) => {
-            let first = m.first;
-            let last = m.last;
-            let days = Reply::Number(m.days as u64).put(o, out);
-            let from = reply::put_date(days, out, first.year, first.month, first.day);
-            let to = reply::put_date(from, out, last.year, last.month, last.day);
-            to.number(out, m.cells as u64)
-                .number(out, m.festivals as u64)
-        }
+        GridAnswer::Is(m) => put_days(o, out, m),
         GridAnswer::BadTable => o.number(out, 1),
         GridAnswer::BadRules => o.number(out, 2),
         GridAnswer::NoSuchDate => o.number(out, 3),
@@ -73,7 +97,9 @@ fn put_asked(
     rules: &[u16],
     cells: &mut [u16],
     list: &mut [u16],
-) -> Out {
+) -> Out
+    ensures { λ r. ⌜ Gathers (now (out .entry)) o (shownWords (monthShown table (now (rows .entry)) (now (rules .entry)) (dateIn w) (small w 4) (small w 5) (now (cells .entry)) (now (list .entry)))) (now (out .exit)) r ⌝ }
+{
     let today = parts::date_of(w);
     let a = grid::month_grid(
         table,
@@ -91,7 +117,9 @@ fn put_asked(
 }
 
 // The answer to a line `grid` in form, whose buffers hold 7 before, or a question mark.
-pub fn month(o: Out, out: &mut [u8], w: Words, table: Table, rows: &[u16], rules: &[u16]) -> Out {
+pub fn month(o: Out, out: &mut [u8], w: Words, table: Table, rows: &[u16], rules: &[u16]) -> Out
+    ensures { λ r. ⌜ Gathers (now (out .entry)) o (gridWords table (now (rows .entry)) (now (rules .entry)) w) (now (out .exit)) r ⌝ }
+{
     if w.form == 1111111 {
         let mut cells = [7u16; 65535];
         let mut list = [7u16; 65535];
@@ -108,5 +136,5 @@ pub fn month(o: Out, out: &mut [u8], w: Words, table: Table, rows: &[u16], rules
             &mut list[..k],
         );
     }
-    o.word(out, b"?")
+    Reply::Unformed.put(o, out)
 }

@@ -1,6 +1,11 @@
--- A buffer's length is one that the array has. Assumes nothing.
+-- The buffer has the asked length and holds 7. Assumes nothing.
+use Prim.Native.Nat.{ℕ}
 use mathlib.Core.Path.{sym}
+use borrow.Author.Tests.{eq-eqb, ne-eqb}
+use lib.Dec.{lit<}
 use lib.Seq.{length-take-le}
+use Rattle.answers.proofs.Lent.{taken}
+use Rattle.questions.specs.Lists.{listWords}
 use borrow.Author.Needs.{needs}
 use Rattle.questions.proofs.lists.list.Statement.{statement}
 use Rattle.questions.proofs.lists.list.Tie as tie
@@ -24,7 +29,18 @@ same-length : tie.Need-same-length
 same-length c = search needs
 
 returns : tie.Need-returns
-returns c = search needs
+unfolding listWords
+returns c = rw (eq-eqb _ _ (c .before .before .before .before .before .before .before .if1 .taken), ← c .before .before .before .before .before .before .small .ensures (lit< tt), ← taken {A = ℕ} (c .before .before .before .before .before .before .small .result) 65535 7 (search needs)) (c .before .before .before .put-asked .ensures)
+
+put-requires : tie.Need-put-requires
+put-requires c κs = search needs
+
+same-length-2 : tie.Need-same-length-2
+same-length-2 c = search needs
+
+returns-2 : tie.Need-returns-2
+unfolding listWords
+returns-2 c = rw (ne-eqb _ _ (c .before .before .before .before .if1 .left)) (c .before .before .put .ensures)
 
 pub list-spec : {M : Type 1} → statement M
 list-spec =
@@ -36,4 +52,7 @@ list-spec =
     slice-aggregate-put-asked
     put-asked-requires
     same-length
-    returns)
+    returns
+    put-requires
+    same-length-2
+    returns-2)

@@ -1,6 +1,11 @@
--- Each buffer's length is one that its array has. Assumes nothing.
+-- Each buffer has the asked length and holds 7. Assumes nothing.
+use Prim.Native.Nat.{ℕ}
 use mathlib.Core.Path.{sym}
+use borrow.Author.Tests.{eq-eqb, ne-eqb}
+use lib.Dec.{lit<}
 use lib.Seq.{length-take-le}
+use Rattle.answers.proofs.Lent.{taken}
+use Rattle.questions.specs.Months.{gridWords}
 use borrow.Author.Needs.{needs}
 use Rattle.questions.proofs.months.month.Statement.{statement}
 use Rattle.questions.proofs.months.month.Tie as tie
@@ -36,19 +41,25 @@ same-length : tie.Need-same-length
 same-length c = search needs
 
 returns : tie.Need-returns
-returns c = search needs
+unfolding gridWords
+returns c = rw (
+  eq-eqb _ _ (c .before .before .before .before .before .before .before .before .before .before .if1 .taken),
+  ← c .before .before .before .before .before .before .before .before .before .small .ensures (lit< tt),
+  ← c .before .before .before .before .before .before .before .before .small2 .ensures (lit< tt),
+  ← taken {A = ℕ} (c .before .before .before .before .before .before .before .before .before .small .result) 65535 7 (search needs),
+  ← taken {A = ℕ} (c .before .before .before .before .before .before .before .before .small2 .result) 65535 7 (search needs),
+)
+    (c .before .before .before .before .put-asked .ensures)
 
-slice-aggregate-word : tie.Need-slice-aggregate-word
-slice-aggregate-word c = search needs
-
-word-requires : tie.Need-word-requires
-word-requires c κs = search needs
+put-requires : tie.Need-put-requires
+put-requires c κs = search needs
 
 same-length-2 : tie.Need-same-length-2
 same-length-2 c = search needs
 
 returns-2 : tie.Need-returns-2
-returns-2 c = search needs
+unfolding gridWords
+returns-2 c = rw (ne-eqb _ _ (c .before .before .before .before .if1 .left)) (c .before .before .put .ensures)
 
 pub month-spec : {M : Type 1} → statement M
 month-spec =
@@ -65,7 +76,6 @@ month-spec =
     put-asked-requires
     same-length
     returns
-    slice-aggregate-word
-    word-requires
+    put-requires
     same-length-2
     returns-2)

@@ -1,0 +1,4 @@
+-- The laws of `questions`.
+pub mod Forms
+pub mod Loans
+pub mod Keys

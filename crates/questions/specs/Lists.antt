@@ -1,0 +1,38 @@
+-- What the questions about the lent rules are answered. Assumes nothing.
+use Prim.Native.Nat.{ℕ}
+use mathlib.Core.Bool.{cond}
+use mathlib.Core.List.{List, [], _∷_, _++_, map}
+use lib.Dec.{eqb}
+use lib.ListN.{replicate}
+use Rattle.text.specs.Digits.{digits}
+use Rattle.conversion.specs.declared.Table.{Table}
+use Rattle.rules.specs.Rules.{acceptedRules}
+use Rattle.rules.specs.Festivals.{Listed}
+use Rattle.festivals.specs.Answers.{onBs, onAd}
+use Rattle.replay.specs.Tags.{LISTBS}
+use Rattle.replay.specs.declared.words.Words.{Words}
+use Rattle.answers.specs.declared.reply.Reply.{Reply}
+use Rattle.answers.specs.declared.reply.Reply.the-variants as R
+use Rattle.answers.specs.Replies.{said, formed, small, replyWords}
+
+-- `checkrules`: whether the rules are accepted, or refusal 2
+abbrev pub rulesReply : List ℕ → Words → Reply
+rulesReply rules w = formed (eqb (w .form) 0) (cond (acceptedRules rules) R.Good (R.Refused 2))
+
+-- `listbs` asks by BS date, `listad` by Gregorian date
+unfoldable pub listAsked : Table → List ℕ → List ℕ → Words → List ℕ → Listed
+listAsked t rows rules w out =
+    cond (eqb (w .tag) LISTBS) (onBs t rows rules (small w 1) (small w 2) (small w 3) out) (onAd t rows rules (small w 1) (small w 2) (small w 3) out)
+
+-- a bar (124), and every number of a lent buffer
+abbrev pub barred : List ℕ → List (List ℕ)
+barred list = (124 ∷ []) ∷ map digits list
+
+-- the count or the refusal, and the buffer after the call
+abbrev pub listedWords : Listed → List (List ℕ)
+listedWords x = replyWords (said R.Number (x .answer)) ++ barred (x .buffer)
+
+-- the line's fourth number is the buffer's length; each element is 7 before the call
+unfoldable pub listWords : Table → List ℕ → List ℕ → Words → List (List ℕ)
+listWords t rows rules w =
+    cond (eqb (w .form) 1111) (listedWords (listAsked t rows rules w (replicate (small w 4) 7))) (replyWords R.Unformed)

@@ -1,0 +1,59 @@
+-- What every question is answered, by its tag. Assumes nothing.
+use Prim.Native.Nat.{ℕ}
+use mathlib.Core.Bool.{Bool, false, cond, _&&_, _||_}
+use mathlib.Core.List.{List, [], _∷_}
+use lib.Dec.{eqb, leb}
+use lib.ListN.{length, take}
+use Rattle.conversion.specs.declared.Table.{Table}
+use Rattle.conversion.specs.Calendar.{Calendar}
+use Rattle.conversion.specs.Flat.{flat}
+use Rattle.replay.specs.Tags.{CHECK, CHECKRULES, BS, AD, LEN, VALID, STEP, STARTS, LISTBS, LISTAD, GRID, DAY, DATE, JD, NPT, EVENTS, RISE, SET, KALA, NISHITA, READ, SIN, COS, ASIN, ACOS, TAN}
+use Rattle.replay.specs.declared.words.Words.{Words}
+use Rattle.answers.specs.declared.reply.Reply.{Reply}
+use Rattle.answers.specs.declared.reply.Reply.the-variants as R
+use Rattle.answers.specs.Replies.{replyWords}
+use Rattle.answers.specs.Searches.{searchWords}
+use Rattle.answers.specs.Days.{daysReply}
+use Rattle.answers.specs.Conversions.{conversionsReply}
+use Rattle.answers.specs.Trigonometry.{trigonometryReply}
+use Rattle.answers.specs.Almanac.{almanacReply}
+use Rattle.answers.specs.Heavens.{heavensReply}
+use Rattle.questions.specs.declared.lending.Lent.{Lent}
+use Rattle.questions.specs.Lending.{lendingOf, lends}
+use Rattle.questions.specs.Lists.{rulesReply, listWords}
+use Rattle.questions.specs.Months.{stepReply, gridWords}
+
+-- whether a tag is one of these
+unfoldable pub oneOf : List ℕ → ℕ → Bool
+oneOf [] tag = false
+oneOf (k ∷ ks) tag = eqb tag k || oneOf ks tag
+
+-- the reply to a question that lends no buffer, by its tag, a tag that is none among the others
+unfoldable pub replyBy : ℕ → Calendar → List ℕ → Words → Reply
+replyBy tag c rules w =
+    cond (oneOf (JD ∷ DAY ∷ NPT ∷ DATE ∷ []) tag) (daysReply w)
+    (cond (oneOf (AD ∷ BS ∷ LEN ∷ CHECK ∷ VALID ∷ []) tag) (conversionsReply c w)
+    (cond (oneOf (COS ∷ SIN ∷ TAN ∷ ACOS ∷ ASIN ∷ []) tag) (trigonometryReply w)
+    (cond (oneOf (SET ∷ KALA ∷ READ ∷ RISE ∷ EVENTS ∷ NISHITA ∷ []) tag) (almanacReply w)
+    (cond (oneOf (CHECKRULES ∷ []) tag) (rulesReply rules w)
+    (cond (oneOf (STEP ∷ []) tag) (stepReply c w)
+    (heavensReply w))))))
+
+abbrev pub replyTo : Calendar → List ℕ → Words → Reply
+replyTo c rules w = replyBy (w .tag) c rules w
+
+-- the words of an answer, by the question's tag
+unfoldable pub wordsBy : ℕ → Table → List ℕ → List ℕ → Words → List (List ℕ)
+wordsBy tag t rows rules w =
+    cond (oneOf (STARTS ∷ []) tag) (searchWords w)
+    (cond (oneOf (LISTAD ∷ LISTBS ∷ []) tag) (listWords t rows rules w)
+    (cond (oneOf (GRID ∷ []) tag) (gridWords t rows rules w)
+    (replyWords (replyTo (flat t rows) rules w))))
+
+-- nothing to a line that lends; else the answer over what is lent, a question mark where a list is shorter than that
+unfoldable pub answerWords : Lent → List ℕ → List ℕ → Words → List (List ℕ)
+answerWords lent rows rules w =
+    cond (lends (lendingOf (w .tag) (w .form))) []
+    (cond (leb (lent .cells) (length rows) && leb (lent .numbers) (length rules))
+    (wordsBy (w .tag) (lent .table) (take (lent .cells) rows) (take (lent .numbers) rules) w)
+    (replyWords R.Unformed))
