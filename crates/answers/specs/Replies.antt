@@ -1,13 +1,14 @@
 -- What a question is answered, and its words. Assumes nothing.
 use Prim.Native.Nat.{ℕ}
 use mathlib.Core.Bool.{Bool, cond}
-use mathlib.Core.List.{List, [], _∷_}
+use mathlib.Core.List.{List, [], _∷_, map}
 use mathlib.Core.Option.{Option, some, none}
 use lib.Dec.{eqb}
 use lib.Ieee.{Float, binary64, ofBits}
 use lib.ListN.{getD}
 use Rattle.paper.specs.Answers.{Answer, answered, refused}
 use Rattle.text.specs.Digits.{digits}
+use Rattle.text.specs.Quoted.{bytes}
 use Rattle.gregorian.specs.declared.Date.{Date}
 use Rattle.replay.specs.Line.{fitting, floatText}
 use Rattle.replay.specs.declared.words.Words.{Words}
@@ -60,17 +61,21 @@ dateIn w = record { year = small w 1; month = small w 2; day = small w 3 }
 abbrev pub dateWords : ℕ → ℕ → ℕ → List (List ℕ)
 dateWords y m d = digits y ∷ digits m ∷ digits d ∷ []
 
--- a question mark (63), a refusal's number alone, or 0 and the values; "none" where there is none
+-- a question mark, a refusal's number alone, or 0 and the values; "none" where there is none
 unfoldable pub replyWords : Reply → List (List ℕ)
-replyWords R.Unformed = (63 ∷ []) ∷ []
+replyWords R.Unformed = bytes "?" ∷ []
 replyWords (R.Refused k) = digits k ∷ []
 replyWords R.Good = digits 0 ∷ []
-replyWords R.Nothing = digits 0 ∷ (110 ∷ 111 ∷ 110 ∷ 101 ∷ []) ∷ []
+replyWords R.Nothing = digits 0 ∷ bytes "none" ∷ []
 replyWords (R.Number n) = digits 0 ∷ digits n ∷ []
 replyWords (R.Pair n k) = digits 0 ∷ digits n ∷ digits k ∷ []
 replyWords (R.Date y m d) = digits 0 ∷ dateWords y m d
 replyWords (R.Float x) = digits 0 ∷ floatText x ∷ []
 replyWords (R.Span x y) = digits 0 ∷ floatText x ∷ floatText y ∷ []
 replyWords (R.Day n w x) = digits 0 ∷ digits n ∷ digits w ∷ dateWords (x .year) (x .month) (x .day)
-replyWords (R.LastDay n w) = digits 0 ∷ digits n ∷ digits w ∷ (110 ∷ 111 ∷ 110 ∷ 101 ∷ []) ∷ []
+replyWords (R.LastDay n w) = digits 0 ∷ digits n ∷ digits w ∷ bytes "none" ∷ []
 replyWords (R.Reading r) = digits 0 ∷ digits (r .tithi) ∷ digits (r .end) ∷ digits (r .sunrise) ∷ digits (r .sunset) ∷ []
+
+-- a bar, and every element of a lent buffer
+abbrev pub barred : {A : Type 0} → (A → List ℕ) → List A → List (List ℕ)
+barred text buffer = bytes "|" ∷ map text buffer

@@ -1,7 +1,7 @@
 -- The words of the search for a tithi's starts: the reply, a bar and the lent buffer. Assumes nothing.
 use Prim.Native.Nat.{ℕ}
 use mathlib.Core.Bool.{cond}
-use mathlib.Core.List.{List, [], _∷_, _++_, map}
+use mathlib.Core.List.{List, _++_}
 use lib.Dec.{eqb}
 use lib.Ieee.{Float}
 use lib.ListN.{length, replicate}
@@ -9,16 +9,12 @@ use Rattle.paper.specs.Floats.{dec}
 use Rattle.replay.specs.Line.{floatText}
 use Rattle.replay.specs.declared.words.Words.{Words}
 use Rattle.sky.specs.Answers.{startsAnswer, startsBuffer}
-use Rattle.answers.specs.Replies.{said, small, float, replyWords}
+use Rattle.answers.specs.Replies.{said, small, float, replyWords, barred}
 use Rattle.answers.specs.declared.reply.Reply.the-variants as R
-
--- a bar (124), and every number of a lent buffer
-abbrev pub barred : List Float → List (List ℕ)
-barred buffer = (124 ∷ []) ∷ map floatText buffer
 
 -- what is answered of the starts of tithi n from a to b, and the buffer after the call
 unfoldable pub startsWords : ℕ → Float → Float → List Float → List (List ℕ)
-startsWords n a b buffer = replyWords (said (λ p. R.Pair (p .0) (p .1)) (startsAnswer n a b (length buffer))) ++ barred (startsBuffer n a b buffer)
+startsWords n a b buffer = replyWords (said (λ p. R.Pair (p .0) (p .1)) (startsAnswer n a b (length buffer))) ++ barred floatText (startsBuffer n a b buffer)
 
 -- a line of a tithi, two instants and the buffer's length; each element is 7 before the call
 unfoldable pub searchWords : Words → List (List ℕ)

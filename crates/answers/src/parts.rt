@@ -1,9 +1,8 @@
 // What several kinds of answers have in common.
 ghost use mathlib.Core.Path.{_≡_};
-ghost use mathlib.Core.List.{[], _∷_, map};
 ghost use Rattle.text.specs.Digits.{digits};
 ghost use Rattle.replay.specs.Gathered.{Gathers};
-ghost use Rattle.answers.specs.Replies.{dateIn};
+ghost use Rattle.answers.specs.Replies.{dateIn, barred};
 use gregorian::Date;
 use replay::Out;
 use replay::Words;
@@ -28,7 +27,7 @@ fn wide(x: u16) -> u64
 
 // Every number of a lent buffer, behind a bar.
 pub fn put_list(o: Out, out: &mut [u8], list: &[u16]) -> Out
-    ensures { λ r. ⌜ Gathers (now (out .entry)) o ((124 ∷ []) ∷ map digits (now (list .entry))) (now (out .exit)) r ⌝ }
+    ensures { λ r. ⌜ Gathers (now (out .entry)) o (barred digits (now (list .entry))) (now (out .exit)) r ⌝ }
 {
     let mut p = o.word(out, b"|");
     let mut i: usize = 0;

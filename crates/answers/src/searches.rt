@@ -4,8 +4,9 @@ ghost use lib.ListN.{replicate};
 ghost use Rattle.paper.specs.Floats.{dec};
 ghost use Rattle.sky.specs.Answers.{startsSays};
 ghost use Rattle.replay.specs.Gathered.{Gathers};
-ghost use Rattle.answers.specs.Replies.{said, small, float};
-ghost use Rattle.answers.specs.Searches.{barred, startsWords, searchWords};
+ghost use Rattle.answers.specs.Replies.{said, small, float, barred};
+ghost use Rattle.replay.specs.Line.{floatText};
+ghost use Rattle.answers.specs.Searches.{startsWords, searchWords};
 ghost use Rattle.answers.specs.declared.reply.Reply.the-variants as R;
 use crate::reply::Reply;
 use gregorian::UtDay;
@@ -27,7 +28,7 @@ fn counted(a: StartsAnswer) -> Reply
 
 // Every element of the lent buffer, behind a bar.
 fn elements(o: Out, out: &mut [u8], buffer: &[f64]) -> Out
-    ensures { λ r. ⌜ Gathers (now (out .entry)) o (barred (now (buffer .entry))) (now (out .exit)) r ⌝ }
+    ensures { λ r. ⌜ Gathers (now (out .entry)) o (barred floatText (now (buffer .entry))) (now (out .exit)) r ⌝ }
 {
     let mut p = o.word(out, b"|");
     let mut i = 0;

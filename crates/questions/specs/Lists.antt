@@ -1,7 +1,7 @@
 -- What the questions about the lent rules are answered. Assumes nothing.
 use Prim.Native.Nat.{ℕ}
 use mathlib.Core.Bool.{cond}
-use mathlib.Core.List.{List, [], _∷_, _++_, map}
+use mathlib.Core.List.{List, _++_}
 use lib.Dec.{eqb}
 use lib.ListN.{replicate}
 use Rattle.text.specs.Digits.{digits}
@@ -13,7 +13,7 @@ use Rattle.replay.specs.Tags.{LISTBS}
 use Rattle.replay.specs.declared.words.Words.{Words}
 use Rattle.answers.specs.declared.reply.Reply.{Reply}
 use Rattle.answers.specs.declared.reply.Reply.the-variants as R
-use Rattle.answers.specs.Replies.{said, formed, small, replyWords}
+use Rattle.answers.specs.Replies.{said, formed, small, replyWords, barred}
 
 -- `checkrules`: whether the rules are accepted, or refusal 2
 abbrev pub rulesReply : List ℕ → Words → Reply
@@ -24,13 +24,9 @@ unfoldable pub listAsked : Table → List ℕ → List ℕ → Words → List �
 listAsked t rows rules w out =
     cond (eqb (w .tag) LISTBS) (onBs t rows rules (small w 1) (small w 2) (small w 3) out) (onAd t rows rules (small w 1) (small w 2) (small w 3) out)
 
--- a bar (124), and every number of a lent buffer
-abbrev pub barred : List ℕ → List (List ℕ)
-barred list = (124 ∷ []) ∷ map digits list
-
 -- the count or the refusal, and the buffer after the call
 abbrev pub listedWords : Listed → List (List ℕ)
-listedWords x = replyWords (said R.Number (x .answer)) ++ barred (x .buffer)
+listedWords x = replyWords (said R.Number (x .answer)) ++ barred digits (x .buffer)
 
 -- the line's fourth number is the buffer's length; each element is 7 before the call
 unfoldable pub listWords : Table → List ℕ → List ℕ → Words → List (List ℕ)

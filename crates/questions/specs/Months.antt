@@ -19,8 +19,7 @@ use Rattle.replay.specs.declared.words.Whole.the-variants.{Is, TooLarge}
 use Rattle.replay.specs.declared.words.Words.{Words}
 use Rattle.answers.specs.declared.reply.Reply.{Reply}
 use Rattle.answers.specs.declared.reply.Reply.the-variants as R
-use Rattle.answers.specs.Replies.{said, formed, small, dateIn, dateWords, replyWords}
-use Rattle.questions.specs.Lists.{barred}
+use Rattle.answers.specs.Replies.{said, formed, small, dateIn, dateWords, replyWords, barred}
 
 -- a month's year and number
 abbrev pub monthly : BsMonth → Reply
@@ -50,7 +49,7 @@ monthWords (refused k) = digits k ∷ []
 
 -- the month, and both buffers after the call
 abbrev pub shownWords : Shown → List (List ℕ)
-shownWords x = (monthWords (x .answer) ++ barred (x .cells)) ++ barred (x .festivals)
+shownWords x = (monthWords (x .answer) ++ barred digits (x .cells)) ++ barred digits (x .festivals)
 
 -- `grid`: today, year, month and both buffers' lengths; each element is 7 before the call
 unfoldable pub gridWords : Table → List ℕ → List ℕ → Words → List (List ℕ)
