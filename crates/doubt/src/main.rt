@@ -76,7 +76,7 @@ fn put_page(
     let o = p.out;
     let q = put_range(o, out, first, last);
     let r = doubtful::put_counts(p, q, out);
-    doubtful::finish(r, out);
+    r.finish(out);
 }
 
 // Tests the rules and the years, and writes the page or one line on standard error.

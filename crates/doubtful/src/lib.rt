@@ -11,7 +11,6 @@ use festivals::days;
 use gregorian::UtDay;
 pub use page::Page;
 pub use page::begin;
-pub use page::finish;
 pub use page::page_with;
 pub use page::put_counts;
 pub use page::put_year;

@@ -9,7 +9,6 @@ use festivals::months;
 use festivals::months::Months;
 use festivals::months::YearDays;
 use gregorian::UtDay;
-use libc::STDERR_FILENO;
 use panchanga::clock;
 use replay::Out;
 ghost use mathlib.Core.Path.{_≡_};
@@ -468,12 +467,4 @@ pub fn put_counts(p: Page, o: Out, out: &mut [u8]) -> Out {
         p.empty as u64,
     );
     words::put_text(c, out, b"\n")
-}
-
-// Writes out what is gathered, and says on standard error where that fails.
-pub fn finish(o: Out, out: &[u8]) {
-    let q = o.flush(out);
-    if q.failed {
-        io::write_all(STDERR_FILENO, b"standard output cannot be written\n");
-    }
 }

@@ -2,6 +2,7 @@
 ghost use Prim.Native.Nat.{_-_, _≤_};
 use crate::output;
 use crate::output::Out;
+use libc::STDERR_FILENO;
 use libc::STDIN_FILENO;
 use lines::Input;
 
@@ -16,10 +17,13 @@ pub struct Turn {
     pub out: Out,
 }
 
-// The end of the turns.
-fn ended(o: Out) -> Turn
+// The end of the turns. An input that could not be read to its end is told on standard error.
+fn ended(unread: bool, o: Out) -> Turn
     ensures { λ r. ⌜ r .left ≤ 0 ⌝ }
 {
+    if unread {
+        io::write_all(STDERR_FILENO, b"standard input cannot be read to its end\n");
+    }
     Turn {
         left: 0,
         len: 0,
@@ -34,10 +38,10 @@ fn turn_of(input: Input, o: Out, out: &[u8]) -> Turn
     ensures { λ r. ⌜ r .left ≤ input .left ⌝ }
 {
     if o.failed {
-        return ended(o);
+        return ended(false, o.finish(out));
     }
     if input.left == 0 {
-        return ended(o.flush(out));
+        return ended(input.failed, o.finish(out));
     }
     Turn {
         left: input.left,

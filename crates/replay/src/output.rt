@@ -10,6 +10,7 @@ ghost use Rattle.replay.specs.Line.{floatText};
 ghost use Rattle.replay.specs.Gathered as Gathered;
 ghost use Rattle.replay.specs.Gathered.{Gathers, gathered, ended, spaceOf};
 use crate::floats;
+use libc::STDERR_FILENO;
 use libc::STDOUT_FILENO;
 
 // How many bytes of the buffer are taken, whether the line has a word, and whether a write failed.
@@ -68,6 +69,17 @@ impl Out {
             begun,
             failed: true,
         }
+    }
+
+    // Writes out what is gathered, for the last time. What could not be written, now or before, is told on standard error.
+    pub fn finish(self, buffer: &[u8]) -> Out
+        ensures { λ r. ⌜ (r .at ≡ 0) × (r .begun ≡ self .begun) ⌝ }
+    {
+        let last = self.flush(buffer);
+        if last.failed {
+            io::write_all(STDERR_FILENO, b"standard output cannot be written\n");
+        }
+        last
     }
 
     // Room for so many bytes, where the buffer has that many.

@@ -222,7 +222,7 @@ fn put_page(table: Table, old: &[u16], new: &[u16], rules: &[u16], names: &[u8],
         rules,
         names,
     );
-    doubtful::finish(b, out);
+    b.finish(out);
 }
 
 // Whether two tables begin with the same year and day.
