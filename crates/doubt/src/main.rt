@@ -149,7 +149,8 @@ fn answer_parts(
 // The number that argument i is; a longer one than a buffer of eight bytes holds is none.
 fn year_in(i: usize) -> Asked {
     let mut buffer = [0u8; 8];
-    asked::number_in(i, &mut buffer)
+    let n = os::arg(i, &mut buffer);
+    asked::number_of(&buffer[..n])
 }
 
 fn run(rows: &mut [u16], rules: &mut [u16], names: &mut [u8], path: &mut [u8], out: &mut [u8]) {

@@ -57,8 +57,8 @@ pub fn rules_asked(
     RulesRead::Are(0)
 }
 
-// A text that is a number, whole.
-fn number_of(s: &[u8]) -> Asked
+// The number that a whole text is.
+pub fn number_of(s: &[u8]) -> Asked
     ensures { λ r. ⌜ askedSays r ≡ wholeNumber (now (s .entry)) ⌝ }
 {
     let Read::Number(n, next) = text::start().decimal(s, 65535) else {
@@ -68,10 +68,4 @@ fn number_of(s: &[u8]) -> Asked
         return Asked::Not;
     }
     Asked::Is(n as u16)
-}
-
-// The number that argument i is.
-pub fn number_in(i: usize, buffer: &mut [u8]) -> Asked {
-    let n = os::arg(i, buffer);
-    number_of(&buffer[..n])
 }
