@@ -1,18 +1,33 @@
 //! See `../run`. Prints a table: the time of a question to the port, to the parameterised Rust and to the Rust untouched, and the ratios.
 mod port;
 mod timing;
+#[cfg(feature = "untouched")]
+mod untouched;
 
-use chrono::{Datelike, NaiveDate};
-use parameterised::Answer;
 use parameterised::conversion::{self, BsDate, Table};
 use parameterised::festivals;
 use parameterised::gregorian::Date;
 use parameterised::grid;
 use parameterised::panchanga::{self, Ut};
 use parameterised::trig;
+use parameterised::Answer;
 use std::cell::RefCell;
 use timing::{Ask, Timed};
-use untouched_nepal as untouched;
+
+/// A question to the Rust untouched, where the compiler is new enough for it.
+#[cfg(feature = "untouched")]
+macro_rules! untouched {
+    ($ask:expr) => {
+        Some(Box::new($ask))
+    };
+}
+
+#[cfg(not(feature = "untouched"))]
+macro_rules! untouched {
+    ($ask:expr) => {
+        None
+    };
+}
 
 const ROUNDS: usize = 41;
 const COLD_ROUNDS: usize = 9;
@@ -35,23 +50,27 @@ impl Dice {
     }
 }
 
-/// The table of the Rust untouched, which its owner made.
+/// The numbers of a file, without its comments.
+fn numbers_in(text: &str) -> Vec<u16> {
+    text.lines()
+        .flat_map(|line| line.split('#').next().unwrap_or("").split_whitespace())
+        .map(|word| word.parse().expect("a number"))
+        .collect()
+}
+
+/// The owner's table, which the Rust untouched has built in.
 fn owner_table() -> Table {
-    let first = untouched::BsDate { year: untouched::BS_START_YEAR, month: 1, day: 1 };
-    let first = untouched::bs_to_ad(first).expect("its first day");
+    let numbers = numbers_in(include_str!("../../../data/owner.table"));
     Table {
-        first_year: untouched::BS_START_YEAR,
-        first_day: date_of(first),
-        rows: untouched::BS_REFERENCE.iter().flatten().copied().collect(),
+        first_year: numbers[0],
+        first_day: Date { year: numbers[1], month: numbers[2], day: numbers[3] },
+        rows: numbers[4..].to_vec(),
     }
 }
 
-fn date_of(date: NaiveDate) -> Date {
-    Date { year: date.year() as u16, month: date.month() as u16, day: date.day() as u16 }
-}
-
-fn naive(date: Date) -> NaiveDate {
-    NaiveDate::from_ymd_opt(date.year.into(), date.month.into(), date.day.into()).expect("a date")
+/// The list of rules that the Rust untouched was built with.
+fn nepal_rules() -> Vec<u16> {
+    numbers_in(include_str!("../../../oracle/rules/nepal.rules"))
 }
 
 fn of_date(date: Date) -> u64 {
@@ -60,10 +79,6 @@ fn of_date(date: Date) -> u64 {
 
 fn of_bs(bs: BsDate) -> u64 {
     of_date(Date { year: bs.year, month: bs.month, day: bs.day })
-}
-
-fn narrow(bs: BsDate) -> untouched::BsDate {
-    untouched::BsDate { year: bs.year, month: bs.month as u8, day: bs.day as u8 }
 }
 
 /// Numbers folded into one.
@@ -109,11 +124,11 @@ impl Report {
     }
 
     /// The same for what the Rust untouched keeps from call to call: each of its inputs is asked once, and each must be of another year.
-    fn cold(&mut self, name: &str, inputs: usize, mut port: Ask, mut rust: Ask, mut untouched: Ask) {
+    fn cold(&mut self, name: &str, inputs: usize, mut port: Ask, mut rust: Ask, untouched: Option<Ask>) {
         self.alike(name, inputs, &mut port, &mut rust);
         let timed = timing::rounds(COLD_ROUNDS, inputs, &mut port, &mut rust);
-        let untouched = timing::once(inputs, &mut port, &mut untouched);
-        self.row(name, timed, Some(untouched));
+        let untouched = untouched.map(|mut ask| timing::once(inputs, &mut port, &mut ask));
+        self.row(name, timed, untouched);
     }
 }
 
@@ -124,7 +139,7 @@ fn sines(report: &mut Report, dice: &mut Dice) {
         xs.len(),
         Box::new(|i| port::sine(xs[i]).to_bits()),
         Box::new(|i| trig::sin(xs[i]).to_bits()),
-        Some(Box::new(|i| xs[i].sin().to_bits())),
+        untouched!(|i| untouched::sine(xs[i])),
     );
 }
 
@@ -142,16 +157,15 @@ fn conversions(report: &mut Report, dice: &mut Dice, table: &Table) {
         dates.len(),
         Box::new(|i| of_date(port::bs_to_ad(table, dates[i]).expect("a date"))),
         Box::new(|i| of_date(conversion::bs_to_ad(table, dates[i]).expect("a date"))),
-        Some(Box::new(|i| of_date(date_of(untouched::bs_to_ad(narrow(dates[i])).expect("a date"))))),
+        untouched!(|i| untouched::bs_to_ad(dates[i])),
     );
     let ads: Vec<Date> = dates.iter().map(|&bs| conversion::bs_to_ad(table, bs).expect("a date")).collect();
-    let naives: Vec<NaiveDate> = ads.iter().map(|&ad| naive(ad)).collect();
     report.compared(
         "Gregorian to BS",
         ads.len(),
         Box::new(|i| of_bs(port::ad_to_bs(table, ads[i]).expect("a date"))),
         Box::new(|i| of_bs(conversion::ad_to_bs(table, ads[i]).expect("a date"))),
-        Some(Box::new(|i| untouched::ad_to_bs(naives[i]).expect("a date").day as u64)),
+        untouched!(|i| untouched::ad_to_bs(ads[i])),
     );
 }
 
@@ -162,7 +176,7 @@ fn elongations(report: &mut Report, dice: &mut Dice) {
         instants.len(),
         Box::new(|i| port::elongation(instants[i]).expect("an instant").to_bits()),
         Box::new(|i| panchanga::elongation(Ut(instants[i])).expect("an instant").to_bits()),
-        Some(Box::new(|i| untouched::panchanga::elongation(instants[i]).to_bits())),
+        untouched!(|i| untouched::elongation(instants[i])),
     );
 }
 
@@ -178,7 +192,7 @@ fn readings(report: &mut Report, dice: &mut Dice) {
             let reading = panchanga::reading(dates[i]).expect("a date");
             numbers([reading.tithi, reading.end, reading.sunrise, reading.sunset])
         }),
-        Some(Box::new(|i| untouched::panchanga::Reading::for_date(naive(dates[i])).tithi.into())),
+        untouched!(|i| untouched::reading(dates[i])),
     );
 }
 
@@ -206,20 +220,11 @@ fn searches(report: &mut Report, dice: &mut Dice) {
             let (count, steps) = found.expect("a search");
             starts(count, steps.into())
         }),
-        Some(Box::new(|i| {
+        untouched!(|i| {
             let (tithi, from) = years[i];
-            untouched::panchanga::tithi_starts_between(tithi as u8, from, from + 365.25).len() as u64
-        })),
+            untouched::tithi_starts(tithi, from, from + 365.25)
+        }),
     );
-}
-
-/// The list of rules that the Rust untouched was built with.
-fn nepal_rules() -> Vec<u16> {
-    include_str!("../../../oracle/rules/nepal.rules")
-        .lines()
-        .flat_map(|line| line.split('#').next().unwrap_or("").split_whitespace())
-        .map(|word| word.parse().expect("a number"))
-        .collect()
 }
 
 /// Days of the months 3 to 12, which need one lunar year, each of another BS year: every second year of the table from `from` on.
@@ -251,10 +256,7 @@ fn day_lists(report: &mut Report, dice: &mut Dice, table: &Table) {
         days.len(),
         Box::new(|i| entries(asked(days[i], port::festivals_on))),
         Box::new(|i| entries(asked(days[i], festivals::day_list_bs))),
-        Box::new(|i| {
-            let bs = narrow(days[i]);
-            untouched::festivals::festivals_on(bs, untouched::bs_to_ad(bs).expect("a date")).len() as u64
-        }),
+        untouched!(|i| untouched::festivals_on(days[i])),
     );
 }
 
@@ -278,11 +280,7 @@ fn month_grids(report: &mut Report, dice: &mut Dice, table: &Table) {
         days.len(),
         Box::new(|i| shown(asked(days[i], port::month_grid))),
         Box::new(|i| shown(asked(days[i], grid::month_grid))),
-        Box::new(|i| {
-            let bs = narrow(days[i]);
-            let month = untouched::grid::month_grid(bs.year, bs.month, naive(today)).expect("a month");
-            month.weeks.len() as u64
-        }),
+        untouched!(|i| untouched::month_grid(days[i], today)),
     );
 }
 

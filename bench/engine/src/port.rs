@@ -4,7 +4,7 @@ use parameterised::conversion::{BsDate, Table};
 use parameterised::gregorian::Date;
 use parameterised::grid::Month;
 
-unsafe extern "C" {
+extern "C" {
     fn panel_sine(x: f64, value: &mut f64) -> u16;
     fn panel_elongation(ut: f64, degrees: &mut f64) -> u16;
     fn panel_tithi_starts_between(

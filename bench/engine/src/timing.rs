@@ -1,6 +1,5 @@
 //! One question asked of the port and of the Rust in turns, over the same inputs. Times are the processor's for this thread, so that other work on
 //! the machine is not counted.
-use std::hint::black_box;
 
 /// Asks input i and gives a number made of the answer.
 pub type Ask<'a> = Box<dyn FnMut(usize) -> u64 + 'a>;
@@ -11,7 +10,7 @@ struct Time {
     nanoseconds: i64,
 }
 
-unsafe extern "C" {
+extern "C" {
     fn clock_gettime(clock: i32, time: &mut Time) -> i32;
 }
 
@@ -24,11 +23,11 @@ fn spent() -> f64 {
     time.seconds as f64 + time.nanoseconds as f64 * 1e-9
 }
 
+/// The time of these inputs. Their answers are folded into a number that is read, so that no question is left out.
 fn seconds(inputs: std::ops::Range<usize>, ask: &mut Ask) -> f64 {
     let began = spent();
-    for i in inputs {
-        black_box(ask(i));
-    }
+    let all = inputs.fold(0, |all, i| all ^ ask(i));
+    unsafe { std::ptr::read_volatile(&all) };
     spent() - began
 }
 

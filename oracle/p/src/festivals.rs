@@ -83,18 +83,21 @@ pub fn check_rules(rules: &[u16]) -> Answer<()> {
 /// The new moons that open a year's lunar months: the last one in each solar month.
 pub fn lunar_month_starts(table: &Table, year: u16) -> [Option<Ut>; 12] {
     let mut places = [None; 12];
-    let Ok(length) = bs_month_len(table, year, 12) else {
-        return places;
+    let length = match bs_month_len(table, year, 12) {
+        Ok(length) => length,
+        Err(_) => return places,
     };
     let midnight = |month, day| bs_to_ad(table, BsDate { year, month, day })?.midnight();
-    let (Ok(first), Ok(last)) = (midnight(1, 1), midnight(12, length)) else {
-        return places;
+    let (first, last) = match (midnight(1, 1), midnight(12, length)) {
+        (Ok(first), Ok(last)) => (first, last),
+        _ => return places,
     };
     let (moons, _) = panchanga::tithi_starts(1, Ut(first - 35.0), Ut(last + 5.0))
         .expect("a table year can be searched");
     for moon in moons {
-        let Ok(bs) = panchanga::npt_date(moon).and_then(|ad| ad_to_bs(table, ad)) else {
-            continue;
+        let bs = match panchanga::npt_date(moon).and_then(|ad| ad_to_bs(table, ad)) {
+            Ok(bs) => bs,
+            Err(_) => continue,
         };
         if bs.year == year {
             places[bs.month as usize - 1] = Some(moon);
@@ -107,10 +110,10 @@ pub fn lunar_month_starts(table: &Table, year: u16) -> [Option<Ut>; 12] {
 fn claims(day: Date, kala: Kala, start: Ut, end: Ut) -> bool {
     if kala == Kala::Nishita {
         let window = panchanga::nishita_window(day).ok().flatten();
-        window.is_some_and(|(from, to)| start <= from && to <= end)
+        window.map_or(false, |(from, to)| start <= from && to <= end)
     } else {
         let instant = panchanga::kala_instant(day, kala).ok().flatten();
-        instant.is_some_and(|instant| start <= instant && instant < end)
+        instant.map_or(false, |instant| start <= instant && instant < end)
     }
 }
 
@@ -139,8 +142,9 @@ pub fn computed_for_year(table: &Table, rules: &[u16], year: u16) -> Vec<(BsDate
     let moons = lunar_month_starts(table, year);
     let mut found = Vec::new();
     for rule in of_kind(rules, 3) {
-        let Some(moon) = moons[rule.month as usize - 1] else {
-            continue;
+        let moon = match moons[rule.month as usize - 1] {
+            Some(moon) => moon,
+            None => continue,
         };
         let tithi = rule.tithi();
         let start = if tithi == 1 {
@@ -150,11 +154,13 @@ pub fn computed_for_year(table: &Table, rules: &[u16], year: u16) -> Vec<(BsDate
                 .expect("a lunar month can be searched")
         };
         let kala = KALAS[rule.kala as usize];
-        let Some(ad) = start.and_then(|start| festival_date(start, tithi, kala)) else {
-            continue;
+        let ad = match start.and_then(|start| festival_date(start, tithi, kala)) {
+            Some(ad) => ad,
+            None => continue,
         };
-        let Ok(bs) = ad_to_bs(table, ad) else {
-            continue;
+        let bs = match ad_to_bs(table, ad) {
+            Ok(bs) => bs,
+            Err(_) => continue,
         };
         found.push((bs, rule.entry()));
     }

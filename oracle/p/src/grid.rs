@@ -72,7 +72,9 @@ pub fn month_grid(
         cells.extend(cell(day, ad, today, &list)?);
         festivals.extend(list.iter().flat_map(|entry| [entry.name, entry.holiday]));
     }
-    cells.resize(cells.len().next_multiple_of(7 * CELL), 0);
+    while cells.len() % (7 * CELL) > 0 {
+        cells.push(0);
+    }
 
     if cell_buffer.len() < cells.len() || festival_buffer.len() < festivals.len() {
         return Err(9);

@@ -300,26 +300,23 @@ pub fn kala_instant(date: Date, kala: Kala) -> Answer<Option<Ut>> {
         let window = nishita_window(date)?;
         return Ok(window.map(|(from, to)| Ut((from.0 + to.0) / 2.0)));
     }
-    let Some((Ut(rise), Ut(set))) = sun_events(date)? else {
-        return Ok(None);
-    };
-    Ok(Some(Ut(match kala {
+    let instant = |(Ut(rise), Ut(set))| match kala {
         Kala::Madhyanna => rise + (set - rise) * 0.4,
         Kala::Aparahna => rise + (set - rise) * 0.6,
         Kala::Pradosh => set + 45.0 / 1440.0,
         _ => rise,
-    })))
+    };
+    Ok(sun_events(date)?.map(instant).map(Ut))
 }
 
 /// 3, also on the last date.
 pub fn nishita_window(date: Date) -> Answer<Option<(Ut, Ut)>> {
     let next = date.next()?;
-    let (Some((_, Ut(set))), Some((Ut(next_rise), _))) = (sun_events(date)?, sun_events(next)?)
-    else {
-        return Ok(None);
-    };
-    let night = next_rise - set;
-    Ok(Some((Ut(set + night * 7.0 / 15.0), Ut(set + night * 8.0 / 15.0))))
+    let events = sun_events(date)?.zip(sun_events(next)?);
+    Ok(events.map(|((_, Ut(set)), (Ut(next_rise), _))| {
+        let night = next_rise - set;
+        (Ut(set + night * 7.0 / 15.0), Ut(set + night * 8.0 / 15.0))
+    }))
 }
 
 /// The local day and its fraction: floor of instant + 5.75/24 + 0.5, and the rest.
