@@ -6,6 +6,7 @@ use native.Mathlib.Omega.{arith}
 use borrow.Author.Tests.{eq-eqb, ne-eqb, lt-ltb, le-ltb}
 use lib.ListN.{length, getD, take, drop, length-drop}
 use lib.Seq.{sets, take-all}
+use Rattle.paper.proofs.Stores.{sets-past}
 use Rattle.text.specs.Fronts.{upTo}
 use Rattle.text.proofs.Texts.{cut, over}
 use Rattle.text.proofs.Fronts.{up-front}
@@ -28,6 +29,12 @@ pub name-kept : (names s after : List ℕ) (i from : ℕ) → after ≡ sets nam
 name-kept names s after i from e q =
     let h : length (drop from s) ≤ length s - from = omega (arith, length-drop from s) in
     e ∙ ap (λ (t : List ℕ). sets names (64 * i) (take 64 t)) (take-all (length s - from) (drop from s) h ∙ q)
+
+-- a name for which the list has no place
+pub name-past : (names s : List ℕ) (i : ℕ) → length names / 64 < i → names ≡ named names i s
+name-past names s i h =
+    let l : length names ≤ 64 * i = omega arith in
+    sym (sets-past (take 64 (comment s)) names (64 * i) l)
 
 -- ---- the name that is written
 

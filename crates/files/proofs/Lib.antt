@@ -1,2 +1,3 @@
 pub mod Rows
 pub mod Comments
+pub mod Made

@@ -1,3 +1,4 @@
 -- What the contracts of `files` are written in.
 pub mod Line
 pub mod Problems
+pub mod File

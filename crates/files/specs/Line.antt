@@ -53,6 +53,12 @@ wordsTo (suc most) s = cond (ends s) (are []) (found (number s) (λ n t. front n
 abbrev pub wordsOf : List ℕ → Words
 wordsOf s = wordsTo 13 (skip s)
 
+-- the numbers of a line that has nothing else
+abbrev pub numbersOf : Words → List ℕ
+numbersOf (are ns) = ns
+numbersOf noNumber = []
+numbersOf tooMany = []
+
 -- ---- what the code's answers say
 
 abbrev pub zeros : List ℕ

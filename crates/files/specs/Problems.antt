@@ -47,6 +47,7 @@ wrongAs width awaits line fault.NoNumber = wrong.Is (problem.NoNumber line)
 wrongAs width awaits line fault.OtherCount = wrong.Is (otherCount width awaits line)
 wrongAs width awaits line fault.TooMany = wrong.Is (problem.TooMany line)
 wrongAs width awaits line fault.NotRead = wrong.Is problem.NotRead
+wrongAs width awaits line fault.NotOpened = wrong.Is problem.NotOpened
 wrongAs width awaits line fault.Nothing = cond awaits (wrong.Is problem.NoLine) wrong.Nothing
 
 abbrev pub wrongWith : ℕ → Reading → Wrong

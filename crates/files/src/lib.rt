@@ -1,5 +1,5 @@
-// The two data files of the engine, read into lent buffers: a year table and a list of rules. A line is judged as specs/Line.antt says. What the
-// system brings is outside every contract: the reading is safe and ends.
+// The two data files of the engine, read into lent buffers: a year table and a list of rules. A line is judged as specs/Line.antt says,
+// and a whole file as specs/File.antt does. What a file holds is outside every contract: for some file each answer and each lent element is that.
 mod names;
 mod problems;
 mod reading;
@@ -14,6 +14,7 @@ use reading::Fault;
 use reading::Reading;
 ghost use mathlib.Core.Path.{_≡_};
 ghost use Rattle.files.specs.Problems.{wrongWith};
+ghost use Rattle.files.specs.File.{tableOf, rulesOf, ReadsTable, ReadsRules};
 
 // A table's first line and how many numbers its rows have, from the front of the lent buffer; or what is wrong.
 pub enum TableRead {
@@ -53,6 +54,7 @@ fn wrong_with(r: Reading, width: usize) -> Wrong
         }
         Fault::TooMany => Wrong::Is(Problem::TooMany(line)),
         Fault::NotRead => Wrong::Is(Problem::NotRead),
+        Fault::NotOpened => Wrong::Is(Problem::NotOpened),
         Fault::Nothing => {
             if r.awaits {
                 return Wrong::Is(Problem::NoLine);
@@ -62,15 +64,10 @@ fn wrong_with(r: Reading, width: usize) -> Wrong
     }
 }
 
-// Reads the year table in a file: at most as many rows as the lent buffer has room for.
-pub fn read_table(path: &[u8], rows: &mut [u16]) -> TableRead {
-    let fd = os::open_read(path);
-    if fd < 0 {
-        return TableRead::Not(Problem::NotOpened);
-    }
-    let mut names = [0u8; 1];
-    let r = reading::read_all(fd, reading::first(true), 13, rows, &mut names);
-    libc::close(fd);
+// The table that a reading gives.
+fn table_of(r: Reading) -> TableRead
+    ensures { λ t. ⌜ t ≡ tableOf r ⌝ }
+{
     match wrong_with(r, 13) {
         Wrong::Is(p) => TableRead::Not(p),
         Wrong::Nothing => {
@@ -80,17 +77,28 @@ pub fn read_table(path: &[u8], rows: &mut [u16]) -> TableRead {
     }
 }
 
-// Reads the rules in a file, at most as many as the lent buffer has room for, and the name behind each: 64 bytes of `names` for a rule, and a shorter
-// name ends with a 0 where the buffer held zeros.
-pub fn read_rules(path: &[u8], rules: &mut [u16], names: &mut [u8]) -> RulesRead {
-    let fd = os::open_read(path);
-    if fd < 0 {
-        return RulesRead::Not(Problem::NotOpened);
-    }
-    let r = reading::read_all(fd, reading::first(false), 8, rules, names);
-    libc::close(fd);
+// The rules that a reading gives.
+fn rules_of(r: Reading) -> RulesRead
+    ensures { λ t. ⌜ t ≡ rulesOf r ⌝ }
+{
     match wrong_with(r, 8) {
         Wrong::Is(p) => RulesRead::Not(p),
         Wrong::Nothing => RulesRead::Are(r.count),
     }
+}
+
+// Reads the year table in a file: at most as many rows as the lent buffer has room for.
+pub fn read_table(path: &[u8], rows: &mut [u16]) -> TableRead
+    ensures { λ r. ⌜ ReadsTable (now (rows .entry)) r (now (rows .exit)) ⌝ }
+{
+    let mut names = [0u8; 0];
+    table_of(reading::read_all(path, true, rows, &mut names))
+}
+
+// Reads the rules in a file, at most as many as the lent buffer has room for, and the name behind each: 64 bytes of `names` for a rule, and a shorter
+// name ends with a 0 where the buffer held zeros.
+pub fn read_rules(path: &[u8], rules: &mut [u16], names: &mut [u8]) -> RulesRead
+    ensures { λ r. ⌜ ReadsRules (now (rules .entry)) (now (names .entry)) r (now (rules .exit)) (now (names .exit)) ⌝ }
+{
+    rules_of(reading::read_all(path, false, rules, names))
 }

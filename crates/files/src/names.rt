@@ -33,11 +33,11 @@ fn put_front(names: &mut [u8], at: usize, rest: &[u8])
     text::put(names, at, &rest[..64]);
 }
 
-// Keeps the name of the line as that of rule i, of which there are fewer than 65,536.
+// Keeps the name of the line as that of rule i.
 pub fn keep_name(names: &mut [u8], i: usize, s: &[u8])
-    ensures { λ _. ⌜ (i ≤ 65535 → now (names .exit) ≡ named (now (names .entry)) i (now (s .entry))) ⌝ }
+    ensures { λ _. ⌜ now (names .exit) ≡ named (now (names .entry)) i (now (s .entry)) ⌝ }
 {
-    if 65535 < i {
+    if names.len() / 64 < i {
         return;
     }
     let from = comment_at(s);

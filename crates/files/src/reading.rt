@@ -1,15 +1,18 @@
-// A file line by line: its numbers are stored in a lent buffer, row behind row.
+// A file line by line: its numbers are stored in a lent buffer, row behind row, and the names behind rules in another.
 ghost use mathlib.Core.Path.{_≡_};
-ghost use Prim.Native.Nat.{_+_, _-_, _≤_};
+ghost use mathlib.Core.Bool.{true};
+ghost use Prim.Native.Nat.{_+_, _≤_};
 ghost use lib.ListN.{length, take};
 ghost use lib.Seq.{sets};
+ghost use Rattle.files.specs.File as File;
+ghost use Rattle.files.specs.File.{made, begin, well, withLine, withNext, cameAs, Makes, Reads};
 use crate::names;
 use crate::row;
 use crate::row::Judged;
 use conversion::Table;
 use lines::Input;
 
-// What is wrong with the line that was read last, or with the reading.
+// What is wrong with the line that was read last, or with the file.
 pub enum Fault {
     Nothing,
     LongLine,
@@ -17,12 +20,12 @@ pub enum Fault {
     OtherCount,
     TooMany,
     NotRead,
+    NotOpened,
 }
 
-// Where a reading stands: the input; the number of its line; whether a table's first line is awaited; that line; how many numbers are stored; what
-// is wrong, which ends the reading.
+// Where a reading stands: the number of its line; whether a table's first line is awaited; that line; how many numbers are stored; what is wrong,
+// which ends the reading.
 pub struct Reading {
-    pub input: Input,
     pub line: u32,
     pub awaits: bool,
     pub table: Table,
@@ -30,10 +33,11 @@ pub struct Reading {
     pub fault: Fault,
 }
 
-// Before the first line. A file has at most 10,000 lines, and the steps are enough for them and for 160 million bytes.
-pub fn first(awaits: bool) -> Reading {
+// Before the first line.
+fn first(awaits: bool) -> Reading
+    ensures { λ r. ⌜ r ≡ begin awaits ⌝ }
+{
     Reading {
-        input: lines::start(50000),
         line: 0,
         awaits,
         table: Table {
@@ -44,6 +48,22 @@ pub fn first(awaits: bool) -> Reading {
         },
         count: 0,
         fault: Fault::Nothing,
+    }
+}
+
+// Whether nothing is wrong yet.
+fn is_well(r: Reading) -> bool
+    ensures { λ b. ⌜ b ≡ well (r .fault) ⌝ }
+{
+    let fault = r.fault;
+    match fault {
+        Fault::Nothing => true,
+        Fault::LongLine => false,
+        Fault::NoNumber => false,
+        Fault::OtherCount => false,
+        Fault::TooMany => false,
+        Fault::NotRead => false,
+        Fault::NotOpened => false,
     }
 }
 
@@ -59,14 +79,29 @@ fn store(rows: &mut [u16], at: usize, values: [u16; 13], n: usize)
     }
 }
 
-// The reading ended by a fault.
+// The reading with a fault.
 fn faulted(r: Reading, fault: Fault) -> Reading
-    ensures { λ q. ⌜ q .input .left ≤ 0 ⌝ }
+    ensures { λ q. ⌜ q ≡ File.faulted fault r ⌝ }
 {
     let table = r.table;
     Reading {
-        input: lines::start(0),
         line: r.line,
+        awaits: r.awaits,
+        table,
+        count: r.count,
+        fault,
+    }
+}
+
+// The reading at its next line.
+fn numbered(r: Reading) -> Reading
+    requires { ⌜ r .line ≤ 10000 ⌝ }
+    ensures { λ q. ⌜ q ≡ File.numbered r ⌝ }
+{
+    let table = r.table;
+    let fault = r.fault;
+    Reading {
+        line: r.line + 1,
         awaits: r.awaits,
         table,
         count: r.count,
@@ -77,11 +112,10 @@ fn faulted(r: Reading, fault: Fault) -> Reading
 // The reading with the first line of a table.
 fn begun(r: Reading, values: [u16; 13]) -> Reading
     requires { ⌜ length values ≡ 13 ⌝ }
-    ensures { λ q. ⌜ q .input .left ≤ r .input .left ⌝ }
+    ensures { λ q. ⌜ q ≡ File.begun (take 4 values) r ⌝ }
 {
-    let input = r.input;
+    let fault = r.fault;
     Reading {
-        input,
         line: r.line,
         awaits: false,
         table: Table {
@@ -91,17 +125,38 @@ fn begun(r: Reading, values: [u16; 13]) -> Reading
             day: values[3],
         },
         count: r.count,
-        fault: Fault::Nothing,
+        fault,
     }
 }
 
-// The reading with one row more.
-fn stored(r: Reading, values: [u16; 13], width: usize, rows: &mut [u16]) -> Reading
-    requires { ⌜ (length values ≡ 13) × (width ≤ 13) ⌝ }
-    ensures { λ q. ⌜ q .input .left ≤ r .input .left ⌝ }
+// The reading with so many numbers more.
+fn counted(r: Reading, n: usize) -> Reading
+    requires { ⌜ r .count + n ≤ 18446744073709551615 ⌝ }
+    ensures { λ q. ⌜ q ≡ File.counted n r ⌝ }
 {
-    let input = r.input;
     let table = r.table;
+    let fault = r.fault;
+    Reading {
+        line: r.line,
+        awaits: r.awaits,
+        table,
+        count: r.count + n,
+        fault,
+    }
+}
+
+// The reading with one row more, and the name in its line.
+fn stored(
+    r: Reading,
+    values: [u16; 13],
+    width: usize,
+    rows: &mut [u16],
+    names: &mut [u8],
+    s: &[u8],
+) -> Reading
+    requires { ⌜ (length values ≡ 13) × (width ≤ 13) ⌝ }
+    ensures { λ q. ⌜ made q (now (rows .exit)) (now (names .exit)) ≡ File.stored (made r (now (rows .entry)) (now (names .entry))) (now (s .entry)) (take width values) ⌝ }
+{
     let count = r.count;
     if rows.len() < width {
         return faulted(r, Fault::TooMany);
@@ -109,15 +164,9 @@ fn stored(r: Reading, values: [u16; 13], width: usize, rows: &mut [u16]) -> Read
     if rows.len() - width < count {
         return faulted(r, Fault::TooMany);
     }
+    names::keep_name(names, count / 8, s);
     store(rows, count, values, width);
-    Reading {
-        input,
-        line: r.line,
-        awaits: false,
-        table,
-        count: count + width,
-        fault: Fault::Nothing,
-    }
+    counted(r, width)
 }
 
 // The reading with a line that has the numbers that are wanted.
@@ -130,25 +179,30 @@ fn taken(
     s: &[u8],
 ) -> Reading
     requires { ⌜ (length values ≡ 13) × (width ≤ 13) ⌝ }
-    ensures { λ q. ⌜ q .input .left ≤ r .input .left ⌝ }
+    ensures { λ q. ⌜ made q (now (rows .exit)) (now (names .exit)) ≡ File.taken (made r (now (rows .entry)) (now (names .entry))) (now (s .entry)) (take (File.wanted width (r .awaits)) values) ⌝ }
 {
     if r.awaits {
         return begun(r, values);
     }
-    names::keep_name(names, r.count / 8, s);
-    stored(r, values, width, rows)
+    stored(r, values, width, rows, names, s)
 }
 
-// The reading with a line.
+// How many numbers are wanted in a line.
+fn wanted(awaits: bool, width: usize) -> usize
+    ensures { λ n. ⌜ n ≡ File.wanted width awaits ⌝ }
+{
+    if awaits { 4 } else { width }
+}
+
+// The reading with a line's bytes.
 fn with_line(r: Reading, width: usize, rows: &mut [u16], names: &mut [u8], s: &[u8]) -> Reading
     requires { ⌜ width ≤ 13 ⌝ }
-    ensures { λ q. ⌜ q .input .left ≤ r .input .left ⌝ }
+    ensures { λ q. ⌜ made q (now (rows .exit)) (now (names .exit)) ≡ withLine width (made r (now (rows .entry)) (now (names .entry))) (now (s .entry)) ⌝ }
 {
     let row = row::read_row(s);
     let form = row.form;
     let values = row.values;
-    let wanted = if r.awaits { 4 } else { width };
-    match row::judge(form, wanted) {
+    match row::judge(form, wanted(r.awaits, width)) {
         Judged::Blank => r,
         Judged::Good => taken(r, values, width, rows, names, s),
         Judged::NoNumber => faulted(r, Fault::NoNumber),
@@ -156,69 +210,54 @@ fn with_line(r: Reading, width: usize, rows: &mut [u16], names: &mut [u8], s: &[
     }
 }
 
-// The reading with the line that its input has, in the lent buffer.
-fn with_input(r: Reading, width: usize, rows: &mut [u16], names: &mut [u8], line: &[u8]) -> Reading
-    requires { ⌜ width ≤ 13 ⌝ }
-    ensures { λ q. ⌜ q .input .left ≤ r .input .left ⌝ }
-{
-    let n = r.input.len;
-    if r.input.long {
-        return faulted(r, Fault::LongLine);
-    }
-    if n <= line.len() {
-        return with_line(r, width, rows, names, &line[..n]);
-    }
-    faulted(r, Fault::LongLine)
-}
-
-// The reading at its next line, or at its end.
-fn at_next(fd: i32, r: Reading, piece: &mut [u8], line: &mut [u8]) -> Reading
-    ensures { λ q. ⌜ q .input .left ≤ r .input .left - 1 ⌝ }
-{
-    let before = r.input;
-    let table = r.table;
-    let fault = r.fault;
-    let number = r.line;
-    let input = lines::next_line(fd, before, piece, line);
-    if input.failed {
-        return faulted(r, Fault::NotRead);
-    }
-    if input.left == 0 {
-        return faulted(r, Fault::Nothing);
-    }
-    if 10000 <= number {
-        return faulted(r, Fault::TooMany);
-    }
-    Reading {
-        input,
-        line: number + 1,
-        awaits: r.awaits,
-        table,
-        count: r.count,
-        fault,
-    }
-}
-
-// The reading after its line.
-fn after_line(
-    fd: i32,
+// The reading with a line that came: its bytes, unless it was too long.
+fn with_next(
     r: Reading,
     width: usize,
     rows: &mut [u16],
     names: &mut [u8],
-    piece: &mut [u8],
-    line: &mut [u8],
+    long: bool,
+    s: &[u8],
 ) -> Reading
     requires { ⌜ width ≤ 13 ⌝ }
-    ensures { λ q. ⌜ q .input .left ≤ r .input .left - 1 ⌝ }
+    ensures { λ q. ⌜ made q (now (rows .exit)) (now (names .exit)) ≡ withNext width (made r (now (rows .entry)) (now (names .entry))) (cameAs long (now (s .entry))) ⌝ }
 {
-    let q = with_input(r, width, rows, names, line);
-    if q.input.left == 0 {
-        return q;
+    if 10000 <= r.line {
+        return faulted(r, Fault::TooMany);
     }
-    at_next(fd, q, piece, line)
+    let q = numbered(r);
+    if long {
+        return faulted(q, Fault::LongLine);
+    }
+    with_line(q, width, rows, names, s)
 }
 
+// The reading with what the input brought: a line in the lent buffer, or its end.
+fn with_input(
+    r: Reading,
+    width: usize,
+    rows: &mut [u16],
+    names: &mut [u8],
+    input: Input,
+    line: &[u8],
+) -> Reading
+    requires { ⌜ (width ≤ 13) × (well (r .fault) ≡ true) ⌝ }
+    ensures { λ q. ⌜ Makes width (made r (now (rows .entry)) (now (names .entry))) (made q (now (rows .exit)) (now (names .exit))) ⌝ }
+{
+    let n = input.len;
+    if input.failed {
+        return faulted(r, Fault::NotRead);
+    }
+    if input.left == 0 {
+        return r;
+    }
+    if n <= line.len() {
+        return with_next(r, width, rows, names, input.long, &line[..n]);
+    }
+    with_next(r, width, rows, names, true, line)
+}
+
+// The reading of all lines of a descriptor. The steps are enough for 10,000 lines and for 160 million bytes.
 fn read_lines(
     fd: i32,
     r: Reading,
@@ -228,20 +267,54 @@ fn read_lines(
     piece: &mut [u8],
     line: &mut [u8],
 ) -> Reading
-    requires { ⌜ width ≤ 13 ⌝ }
+    requires { ⌜ (width ≤ 13) × (well (r .fault) ≡ true) ⌝ }
+    ensures { λ q. ⌜ Makes width (made r (now (rows .entry)) (now (names .entry))) (made q (now (rows .exit)) (now (names .exit))) ⌝ }
 {
-    let mut q = at_next(fd, r, piece, line);
-    while 0 < q.input.left {
-        q = after_line(fd, q, width, rows, names, piece, line);
+    let mut q = r;
+    let mut input = lines::start(50000);
+    while 0 < input.left {
+        input = lines::next_line(fd, input, piece, line);
+        q = with_input(q, width, rows, names, input, line);
+        if !is_well(q) {
+            return q;
+        }
     }
     q
 }
 
-// Reads all lines of a file: rows of so many numbers, after a table's first line where one is awaited.
-pub fn read_all(fd: i32, r: Reading, width: usize, rows: &mut [u16], names: &mut [u8]) -> Reading
-    requires { ⌜ width ≤ 13 ⌝ }
+// How many numbers a row has.
+fn width(awaits: bool) -> usize
+    ensures { λ n. ⌜ (n ≡ File.width awaits) × (n ≤ 13) ⌝ }
+{
+    if awaits { 13 } else { 8 }
+}
+
+// The reading of a descriptor from its first line: of a table, where its first line is awaited, or of rules.
+fn read_open(fd: i32, awaits: bool, rows: &mut [u16], names: &mut [u8]) -> Reading
+    ensures { λ q. ⌜ Makes (File.width awaits) (made (begin awaits) (now (rows .entry)) (now (names .entry))) (made q (now (rows .exit)) (now (names .exit))) ⌝ }
 {
     let mut piece = [0u8; 4096];
     let mut line = [0u8; 4096];
-    read_lines(fd, r, width, rows, names, &mut piece, &mut line)
+    read_lines(
+        fd,
+        first(awaits),
+        width(awaits),
+        rows,
+        names,
+        &mut piece,
+        &mut line,
+    )
+}
+
+// The reading of the file that a path names.
+pub fn read_all(path: &[u8], awaits: bool, rows: &mut [u16], names: &mut [u8]) -> Reading
+    ensures { λ q. ⌜ Reads awaits (now (rows .entry)) (now (names .entry)) (made q (now (rows .exit)) (now (names .exit))) ⌝ }
+{
+    let fd = os::open_read(path);
+    if fd < 0 {
+        return faulted(first(awaits), Fault::NotOpened);
+    }
+    let q = read_open(fd, awaits, rows, names);
+    libc::close(fd);
+    q
 }

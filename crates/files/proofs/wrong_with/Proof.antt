@@ -31,8 +31,11 @@ enum-told-5 c = search needs
 enum-told-6 : tie.Need-enum-told-6
 enum-told-6 c = search needs
 
+enum-told-7 : tie.Need-enum-told-7
+enum-told-7 c = search needs
+
 returns-3 : tie.Need-returns-3
-returns-3 c = rw (c .before .enum-told6 .given .1, c .if3 .taken)
+returns-3 c = rw (c .before .enum-told7 .given .1, c .if3 .taken)
 
 returns-4 : tie.Need-returns-4
 returns-4 c = rw (c .enum-told .given .1)
@@ -51,7 +54,10 @@ returns-8 : tie.Need-returns-8
 returns-8 c = rw (c .enum-told5 .given .1)
 
 returns-9 : tie.Need-returns-9
-returns-9 c = search needs
+returns-9 c = rw (c .enum-told6 .given .1)
+
+returns-10 : tie.Need-returns-10
+returns-10 c = search needs
 
 pub wrong-with-spec : {M : Type 1} → statement M
 wrong-with-spec =
@@ -65,10 +71,12 @@ wrong-with-spec =
     enum-told-4
     enum-told-5
     enum-told-6
+    enum-told-7
     returns-3
     returns-4
     returns-5
     returns-6
     returns-7
     returns-8
-    returns-9)
+    returns-9
+    returns-10)

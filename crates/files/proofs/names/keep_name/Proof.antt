@@ -1,12 +1,11 @@
 -- `files::names::keep_name` meets its contract. Assumes nothing.
-use native.Mathlib.Omega.{arith}
-use Rattle.files.proofs.Comments.{name-kept}
+use Rattle.files.proofs.Comments.{name-kept, name-past}
 use borrow.Author.Needs.{needs}
 use Rattle.files.proofs.names.keep_name.Statement.{statement}
 use Rattle.files.proofs.names.keep_name.Tie as tie
 
 returns : tie.Need-returns
-returns c = λ h. absurd (let bad : ⊥ = omega (arith, c .if1 .taken) in bad)
+returns c = let a = c .before .before .before .args in name-past (a .names .now) (a .s .now) (a .i) (c .if1 .taken)
 
 comment-at-requires : tie.Need-comment-at-requires
 comment-at-requires c κs = search needs
@@ -30,7 +29,7 @@ same-length : tie.Need-same-length
 same-length c = search needs
 
 returns-2 : tie.Need-returns-2
-returns-2 c = λ h. let a = c .before .before .before .before .before .before .before .before .before .args in
+returns-2 c = let a = c .before .before .before .before .before .before .before .before .before .args in
     name-kept (a .names .now) (a .s .now) (c .before .before .put-front .last .0) (a .i) (c .before .before .before .before .before .comment-at .result) (c .before .before .put-front .ensures) (c .before .before .before .before .before .comment-at .ensures .1)
 
 pub keep-name-spec : {M : Type 1} → statement M

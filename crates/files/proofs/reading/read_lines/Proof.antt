@@ -1,30 +1,36 @@
--- `files::reading::read_lines` is proved: the steps left fall. Assumes nothing.
-use mathlib.Core.Path.{_≡_}
+-- `files::reading::read_lines` meets its contract: the lines so far made what stands. The steps left fall. Assumes nothing.
+use mathlib.Core.Path.{_≡_, refl, sym, _∙_}
+use mathlib.Core.Bool.{true}
 use lib.ListN.{length}
 use borrow.Author.Needs.{needs}
+use borrow.Author.Tests.{not-false}
+use Rattle.files.specs.File.{made, well, Makes}
+use Rattle.files.proofs.Made.{makes-same, follow}
 use Rattle.files.proofs.reading.read_lines.Statement.{statement}
 use Rattle.files.proofs.reading.read_lines.Tie as tie
 
 abbrev Inv-loop : tie.InvT-loop
-Inv-loop fd width rows₀ names₀ piece₀ line₀ q₀ rows names piece line q = (length rows ≡ length rows₀) × (length names ≡ length names₀) × (length piece ≡ length piece₀) × (length line ≡ length line₀)
+Inv-loop fd width rows₀ names₀ piece₀ line₀ q₀ input₀ rows names piece line q input =
+    (length rows ≡ length rows₀) × (length names ≡ length names₀) × (length piece ≡ length piece₀) × (length line ≡ length line₀)
+    × Makes width (made q₀ rows₀ names₀) (made q rows names) × (well (q .fault) ≡ true)
 
 abbrev μ-loop : tie.MeasureT-loop
-μ-loop fd width rows₀ names₀ piece₀ line₀ q₀ rows names piece line q = q .input .left
+μ-loop fd width rows₀ names₀ piece₀ line₀ q₀ input₀ rows names piece line q input = input .left
 
-at-next-requires : tie.Need-at-next-requires Inv-loop μ-loop
-at-next-requires c κs = search needs
+start-requires : tie.Need-start-requires Inv-loop μ-loop
+start-requires c κs = search needs
 
 loop-holds : tie.Need-loop-holds Inv-loop μ-loop
-loop-holds c = search needs
+loop-holds c = (refl, refl, refl, refl, makes-same, c .before .before .before .before .before .pre .1)
 
-after-line-requires : tie.Need-after-line-requires Inv-loop μ-loop
-after-line-requires c κs = search needs
+next-line-requires : tie.Need-next-line-requires Inv-loop μ-loop
+next-line-requires c κs = search needs
 
-loop-less : tie.Need-loop-less Inv-loop μ-loop
-loop-less c = search needs
+with-input-requires : tie.Need-with-input-requires Inv-loop μ-loop
+with-input-requires c κs = (c .before .before .before .before .before .before .before .before .before .before .before .before .before .before .before .before .before .before .pre .0, c .before .before .before .before .before .before .before .before .before .before .before .before .loop .inv .5)
 
-loop-again : tie.Need-loop-again Inv-loop μ-loop
-loop-again c = search needs
+is-well-requires : tie.Need-is-well-requires Inv-loop μ-loop
+is-well-requires c κs = search needs
 
 same-length : tie.Need-same-length Inv-loop μ-loop
 same-length c = search needs
@@ -39,7 +45,29 @@ same-length-4 : tie.Need-same-length-4 Inv-loop μ-loop
 same-length-4 c = search needs
 
 returns : tie.Need-returns Inv-loop μ-loop
-returns c = search needs
+returns c = let l = c .before .before .before .before .before .before .before .before .before .before .before .before .before .before .before .before .before .before .before .loop in follow (l .inv .4) (l .inv .5) (c .before .before .before .before .before .before .with-input .ensures)
+
+loop-less : tie.Need-loop-less Inv-loop μ-loop
+loop-less c = search needs
+
+loop-again : tie.Need-loop-again Inv-loop μ-loop
+loop-again c = let l = c .before .before .before .before .before .before .before .before .before .before .before .before .before .before .before .before .before .before .before .loop in
+    (search needs, search needs, search needs, search needs, follow (l .inv .4) (l .inv .5) (c .before .before .before .before .before .before .with-input .ensures), sym (c .before .is-well .ensures) ∙ not-false _ (c .if2 .left))
+
+same-length-5 : tie.Need-same-length-5 Inv-loop μ-loop
+same-length-5 c = search needs
+
+same-length-6 : tie.Need-same-length-6 Inv-loop μ-loop
+same-length-6 c = search needs
+
+same-length-7 : tie.Need-same-length-7 Inv-loop μ-loop
+same-length-7 c = search needs
+
+same-length-8 : tie.Need-same-length-8 Inv-loop μ-loop
+same-length-8 c = search needs
+
+returns-2 : tie.Need-returns-2 Inv-loop μ-loop
+returns-2 c = c .before .before .loop .inv .4
 
 pub read-lines-spec : {M : Type 1} → statement M
 read-lines-spec =
@@ -47,13 +75,20 @@ read-lines-spec =
     (tie.spec
     Inv-loop
     μ-loop
-    at-next-requires
+    start-requires
     loop-holds
-    after-line-requires
-    loop-less
-    loop-again
+    next-line-requires
+    with-input-requires
+    is-well-requires
     same-length
     same-length-2
     same-length-3
     same-length-4
-    returns)
+    returns
+    loop-less
+    loop-again
+    same-length-5
+    same-length-6
+    same-length-7
+    same-length-8
+    returns-2)

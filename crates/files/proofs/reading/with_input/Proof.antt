@@ -1,6 +1,10 @@
--- `files::reading::with_input` meets its contract. Assumes nothing.
+-- `files::reading::with_input` meets its contract: one line came, or none. Assumes nothing.
+use mathlib.Core.Bool.{true}
 use mathlib.Core.Path.{sym}
+use lib.ListN.{take}
 use lib.Seq.{length-take-le}
+use Rattle.files.specs.File.{cameAs}
+use Rattle.files.proofs.Made.{makes-same, makes-broken, makes-line}
 use borrow.Author.Needs.{needs}
 use Rattle.files.proofs.reading.with_input.Statement.{statement}
 use Rattle.files.proofs.reading.with_input.Tie as tie
@@ -9,13 +13,16 @@ faulted-requires : tie.Need-faulted-requires
 faulted-requires c κs = search needs
 
 returns : tie.Need-returns
-returns c = search needs
+returns c = makes-broken (c .before .before .before .before .before .pre .1) (c .faulted .ensures)
 
-slice-aggregate-with-line : tie.Need-slice-aggregate-with-line
-slice-aggregate-with-line c = sym (length-take-le (c .before .before .before .before .before .before .before .before .args .r .input .len) (c .before .before .before .before .before .before .before .before .args .line .now) (c .before .before .before .if2 .taken))
+returns-2 : tie.Need-returns-2
+returns-2 c = makes-same
 
-with-line-requires : tie.Need-with-line-requires
-with-line-requires c κs = search needs
+slice-aggregate-with-next : tie.Need-slice-aggregate-with-next
+slice-aggregate-with-next c = let a = c .before .before .before .before .before .before .before .before .before .before .args in sym (length-take-le (a .input .len) (a .line .now) (c .before .before .before .if3 .taken))
+
+with-next-requires : tie.Need-with-next-requires
+with-next-requires c κs = search needs
 
 same-length : tie.Need-same-length
 same-length c = search needs
@@ -23,14 +30,22 @@ same-length c = search needs
 same-length-2 : tie.Need-same-length-2
 same-length-2 c = search needs
 
-returns-2 : tie.Need-returns-2
-returns-2 c = search needs
-
-faulted-requires-2 : tie.Need-faulted-requires-2
-faulted-requires-2 c κs = search needs
-
 returns-3 : tie.Need-returns-3
-returns-3 c = search needs
+returns-3 c = let a = c .before .before .before .before .before .before .before .before .before .before .before .before .before .before .before .args in
+    makes-line (c .before .before .before .before .before .before .before .before .before .before .before .before .before .before .before .pre .1) (cameAs (a .input .long) (take (a .input .len) (a .line .now))) (c .before .before .before .before .with-next .ensures)
+
+with-next-requires-2 : tie.Need-with-next-requires-2
+with-next-requires-2 c κs = search needs
+
+same-length-3 : tie.Need-same-length-3
+same-length-3 c = search needs
+
+same-length-4 : tie.Need-same-length-4
+same-length-4 c = search needs
+
+returns-4 : tie.Need-returns-4
+returns-4 c = let a = c .before .before .before .before .before .before .before .before .before .before .before .before .before .before .args in
+    makes-line (c .before .before .before .before .before .before .before .before .before .before .before .before .before .before .pre .1) (cameAs true (a .line .now)) (c .before .before .before .before .with-next2 .ensures)
 
 pub with-input-spec : {M : Type 1} → statement M
 with-input-spec =
@@ -38,10 +53,13 @@ with-input-spec =
     (tie.spec
     faulted-requires
     returns
-    slice-aggregate-with-line
-    with-line-requires
+    returns-2
+    slice-aggregate-with-next
+    with-next-requires
     same-length
     same-length-2
-    returns-2
-    faulted-requires-2
-    returns-3)
+    returns-3
+    with-next-requires-2
+    same-length-3
+    same-length-4
+    returns-4)

@@ -1,0 +1,200 @@
+-- A year table or a list of rules: a file, line by line, and what it makes of the lent lists. What a line is, Line.antt says; what a fault becomes,
+-- Problems.antt. Assumes nothing.
+use Prim.Native.Nat.{ℕ, _+_, _/_}
+use mathlib.Core.Bool.{Bool, true, false, cond}
+use mathlib.Core.Path.{_≡_}
+use mathlib.Core.List.{List, [], _∷_}
+use lib.Dec.{ltb, leb}
+use lib.ListN.{length, getD}
+use lib.Seq.{sets}
+use Rattle.files.specs.declared.TableRead.{TableRead}
+use Rattle.files.specs.declared.TableRead.the-variants as tableRead
+use Rattle.files.specs.declared.RulesRead.{RulesRead}
+use Rattle.files.specs.declared.RulesRead.the-variants as rulesRead
+use Rattle.files.specs.declared.Wrong.{Wrong}
+use Rattle.files.specs.declared.Wrong.the-variants as wrong
+use Rattle.files.specs.declared.reading.Fault.{Fault}
+use Rattle.files.specs.declared.reading.Fault.the-variants as fault
+use Rattle.files.specs.declared.reading.Reading.{Reading}
+use Rattle.files.specs.declared.row.Judged.{Judged}
+use Rattle.files.specs.declared.row.Judged.the-variants as judged
+use Rattle.files.specs.Line.{wordsOf, numbersOf, rowOf, judgedAs, named}
+use Rattle.files.specs.Problems.{wrongWith}
+
+-- ---- what a path names
+
+-- a line without its line feed: its bytes, or that it is longer than 4,096 of them
+pub data Came : Type 0 where
+  text : List ℕ → Came
+  long : Came
+
+-- a line that was too long, or these bytes
+abbrev pub cameAs : Bool → List ℕ → Came
+cameAs true s = long
+cameAs false s = text s
+
+-- how the lines end: with the file, or before, where it cannot be read on
+pub data End : Type 0 where
+  over : End
+  broken : End
+
+-- nothing that can be opened; or lines, and how they end
+pub data File : Type 0 where
+  shut : File
+  holds : List Came → End → File
+
+-- ---- what its lines make
+
+-- where the reading stands, the list of the numbers and the list of the names
+pub record Made : Type 0 where
+  pub reading : Reading
+  pub rows : List ℕ
+  pub names : List ℕ
+
+abbrev pub made : Reading → List ℕ → List ℕ → Made
+made r rows names = record { reading = r; rows = rows; names = names }
+
+-- before the first line: whether a table's first line is awaited, and nothing stored
+abbrev pub begin : Bool → Reading
+begin awaits = record {
+  line = 0;
+  awaits = awaits;
+  table = record { «first_year» = 0; year = 0; month = 0; day = 0 };
+  count = 0;
+  fault = fault.Nothing;
+}
+
+-- at the next line
+abbrev pub numbered : Reading → Reading
+numbered r = record { line = r .line + 1; awaits = r .awaits; table = r .table; count = r .count; fault = r .fault }
+
+-- with a fault in the line
+abbrev pub faulted : Fault → Reading → Reading
+faulted f r = record { line = r .line; awaits = r .awaits; table = r .table; count = r .count; fault = f }
+
+-- with a table's first line: the first BS year, and its first Gregorian day
+abbrev pub begun : List ℕ → Reading → Reading
+begun ns r = record {
+  line = r .line;
+  awaits = false;
+  table = record { «first_year» = getD ns 0 0; year = getD ns 1 0; month = getD ns 2 0; day = getD ns 3 0 };
+  count = r .count;
+  fault = r .fault;
+}
+
+-- with so many numbers more
+abbrev pub counted : ℕ → Reading → Reading
+counted n r = record { line = r .line; awaits = r .awaits; table = r .table; count = r .count + n; fault = r .fault }
+
+-- a fault changes neither list
+abbrev pub fails : Fault → Made → Made
+fails f x = made (faulted f (x .reading)) (x .rows) (x .names)
+
+-- a row stored behind the others, and the name in its line as that of the rule it is, of eight numbers each; or too many rows for the list
+unfoldable pub stored : Made → List ℕ → List ℕ → Made
+stored x s ns =
+    cond (leb (x .reading .count + length ns) (length (x .rows)))
+    (made (counted (length ns) (x .reading)) (sets (x .rows) (x .reading .count) ns) (named (x .names) (x .reading .count / 8) s))
+    (fails fault.TooMany x)
+
+-- a line with the numbers that are wanted: a table's first line, or a row
+unfoldable pub taken : Made → List ℕ → List ℕ → Made
+taken x s ns = cond (x .reading .awaits) (made (begun ns (x .reading)) (x .rows) (x .names)) (stored x s ns)
+
+-- how many numbers are wanted: four in a table's first line
+unfoldable pub wanted : ℕ → Bool → ℕ
+wanted w awaits = cond awaits 4 w
+
+-- a line without numbers counts for nothing
+abbrev pub withJudged : Made → List ℕ → List ℕ → Judged → Made
+withJudged x s ns judged.Blank = x
+withJudged x s ns judged.Good = taken x s ns
+withJudged x s ns judged.NoNumber = fails fault.NoNumber x
+withJudged x s ns judged.OtherCount = fails fault.OtherCount x
+
+unfoldable pub withLine : ℕ → Made → List ℕ → Made
+withLine w x s = withJudged x s (numbersOf (wordsOf s)) (judgedAs (wanted w (x .reading .awaits)) (rowOf s .form))
+
+abbrev pub withCame : ℕ → Made → Came → Made
+withCame w x (text s) = withLine w x s
+withCame w x long = fails fault.LongLine x
+
+-- a file has at most 10,000 lines: where one more comes, the last was to be the end
+unfoldable pub withNext : ℕ → Made → Came → Made
+withNext w x l =
+    cond (ltb (x .reading .line) 10000)
+    (withCame w (made (numbered (x .reading)) (x .rows) (x .names)) l)
+    (fails fault.TooMany x)
+
+abbrev pub well : Fault → Bool
+well fault.Nothing = true
+well fault.LongLine = false
+well fault.NoNumber = false
+well fault.OtherCount = false
+well fault.TooMany = false
+well fault.NotRead = false
+well fault.NotOpened = false
+
+-- the first fault ends the reading: nothing behind it counts
+unfoldable pub unlessFaulty : Made → Made → Made
+unlessFaulty x y = cond (well (x .reading .fault)) y x
+
+-- lines, the first first
+abbrev pub after : ℕ → Made → List Came → Made
+after w x [] = x
+after w x (l ∷ ls) = after w (unlessFaulty x (withNext w x l)) ls
+
+abbrev pub ended : Made → End → Made
+ended x over = x
+ended x broken = unlessFaulty x (fails fault.NotRead x)
+
+-- some lines and how they end make y of x
+pub record Makes (w : ℕ) (x y : Made) : Type 0 where
+  pub lines : List Came
+  pub ends : End
+  pub same : y ≡ ended (after w x lines) ends
+
+-- ---- a whole file
+
+-- the rows of a table have thirteen numbers, rules eight
+unfoldable pub width : Bool → ℕ
+width awaits = cond awaits 13 8
+
+-- a table, where its first line is awaited, or a list of rules
+abbrev pub readAll : Bool → List ℕ → List ℕ → File → Made
+readAll awaits rows names shut = fails fault.NotOpened (made (begin awaits) rows names)
+readAll awaits rows names (holds ls e) = ended (after (width awaits) (made (begin awaits) rows names) ls) e
+
+-- some file makes y
+pub record Reads (awaits : Bool) (rows names : List ℕ) (y : Made) : Type 0 where
+  pub file : File
+  pub same : y ≡ readAll awaits rows names file
+
+-- a table's first line and how many numbers its rows have; or what is wrong
+abbrev pub tableAs : Reading → Wrong → TableRead
+tableAs r (wrong.Is p) = tableRead.Not p
+tableAs r wrong.Nothing = tableRead.Is (r .table) (r .count)
+
+abbrev pub tableOf : Reading → TableRead
+tableOf r = tableAs r (wrongWith 13 r)
+
+-- some file gives this table and leaves these rows; it has no names
+pub record ReadsTable (rows : List ℕ) (answer : TableRead) (left : List ℕ) : Type 0 where
+  pub file : File
+  pub told : answer ≡ tableOf (readAll true rows [] file .reading)
+  pub stored : left ≡ readAll true rows [] file .rows
+
+-- how many numbers the rules have; or what is wrong
+abbrev pub rulesAs : Reading → Wrong → RulesRead
+rulesAs r (wrong.Is p) = rulesRead.Not p
+rulesAs r wrong.Nothing = rulesRead.Are (r .count)
+
+abbrev pub rulesOf : Reading → RulesRead
+rulesOf r = rulesAs r (wrongWith 8 r)
+
+-- some file gives these rules and leaves these numbers and names
+pub record ReadsRules (rules names : List ℕ) (answer : RulesRead) (rulesLeft namesLeft : List ℕ) : Type 0 where
+  pub file : File
+  pub told : answer ≡ rulesOf (readAll false rules names file .reading)
+  pub stored : rulesLeft ≡ readAll false rules names file .rows
+  pub named : namesLeft ≡ readAll false rules names file .names
