@@ -3,10 +3,10 @@ use conversion::MonthDays;
 use conversion::Table;
 use doubtful::Page;
 use doubtful::asked;
-use doubtful::asked::Asked;
 use files::RulesRead;
 use files::TableRead;
 use replay::Out;
+use text::Whole;
 ghost use mathlib.Core.Path.{_≡_};
 ghost use mathlib.Core.Bool.{true};
 ghost use Rattle.conversion.specs.Flat.{accepted};
@@ -147,10 +147,10 @@ fn answer_parts(
 }
 
 // The number that argument i is; a longer one than a buffer of eight bytes holds is none.
-fn year_in(i: usize) -> Asked {
+fn year_in(i: usize) -> Whole {
     let mut buffer = [0u8; 8];
     let n = os::arg(i, &mut buffer);
-    asked::number_of(&buffer[..n])
+    text::whole_number(&buffer[..n], 65535)
 }
 
 fn run(rows: &mut [u16], rules: &mut [u16], names: &mut [u8], path: &mut [u8], out: &mut [u8]) {
@@ -159,11 +159,11 @@ fn run(rows: &mut [u16], rules: &mut [u16], names: &mut [u8], path: &mut [u8], o
         asked::complain(b"expected arguments: TABLE FIRST LAST [RULES]\n");
         return;
     }
-    let Asked::Is(first) = year_in(2) else {
+    let Whole::Is(first) = year_in(2) else {
         asked::complain(b"FIRST: expected a number up to 65535\n");
         return;
     };
-    let Asked::Is(last) = year_in(3) else {
+    let Whole::Is(last) = year_in(3) else {
         asked::complain(b"LAST: expected a number up to 65535\n");
         return;
     };

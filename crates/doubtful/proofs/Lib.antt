@@ -1,2 +1,1 @@
 pub mod Nears
-pub mod Wholes

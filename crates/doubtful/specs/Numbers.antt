@@ -1,24 +1,9 @@
--- A number that a text is, and the counts of a page. Assumes nothing.
+-- The months around one, and the counts of a page. Assumes nothing.
 use Prim.Native.Nat.{ℕ, _+_, _-_}
 use mathlib.Core.Bool.{Bool, false, cond}
-use mathlib.Core.List.{List}
-use mathlib.Core.Option.{Option, some, none}
 use lib.Dec.{ltb, leb}
-use Rattle.text.specs.Digits.{found, isEnd, decimal}
 use Rattle.replay.specs.declared.output.Out.{Out}
-use Rattle.doubtful.specs.declared.asked.Asked.{Asked}
-use Rattle.doubtful.specs.declared.asked.Asked.the-variants as asked
 use Rattle.doubtful.specs.declared.page.Page.{Page}
-
--- ---- an argument
-
--- the number up to 65,535 that the whole text is, without leading zeros
-unfoldable pub wholeNumber : List ℕ → Option ℕ
-wholeNumber s = found (decimal 65535 s) (λ n t. cond (isEnd t) (some n) none) none
-
-abbrev pub askedSays : Asked → Option ℕ
-askedSays (asked.Is n) = some n
-askedSays asked.Not = none
 
 -- ---- months, counted from 1 to 12 and round again
 

@@ -3,6 +3,7 @@ use gregorian::Date;
 use text::Cursor;
 use text::Passed;
 use text::Read;
+use text::Whole;
 
 // A BS month, a BS date, a Gregorian date, or words of another form.
 pub enum Asked {
@@ -10,12 +11,6 @@ pub enum Asked {
     Day(u16, u16, u16),
     Date(Date),
     Other,
-}
-
-// A number up to 65,535, or none.
-pub enum Number {
-    Is(u16),
-    Not,
 }
 
 // A date in form, or none. Whether there is such a date is not asked here.
@@ -27,17 +22,6 @@ pub enum InForm {
 // A number that was read, up to 65,535.
 fn small(n: u64) -> u16 {
     if n < 65536 { n as u16 } else { 65535 }
-}
-
-// A whole word as a number without leading zeros.
-fn number_of(s: &[u8]) -> Number {
-    let Read::Number(n, end) = text::start().decimal(s, 65535) else {
-        return Number::Not;
-    };
-    if end.at_end(s) {
-        return Number::Is(small(n));
-    }
-    Number::Not
 }
 
 // A dash and two digits at a place.
@@ -70,10 +54,10 @@ fn date_of(s: &[u8]) -> InForm {
 }
 
 // Argument i as a number. A longer word than the buffer is none.
-fn number_at(i: usize) -> Number {
+fn number_at(i: usize) -> Whole {
     let mut word = [0u8; 16];
     let n = os::arg(i, &mut word);
-    number_of(&word[..n])
+    text::whole_number(&word[..n], 65535)
 }
 
 // Argument i as a Gregorian date.
@@ -93,10 +77,10 @@ fn one_word() -> Asked {
 
 // Two words: a BS month.
 fn two_words() -> Asked {
-    let Number::Is(y) = number_at(4) else {
+    let Whole::Is(y) = number_at(4) else {
         return Asked::Other;
     };
-    let Number::Is(m) = number_at(5) else {
+    let Whole::Is(m) = number_at(5) else {
         return Asked::Other;
     };
     Asked::Month(y, m)
@@ -107,7 +91,7 @@ fn three_words() -> Asked {
     let Asked::Month(y, m) = two_words() else {
         return Asked::Other;
     };
-    let Number::Is(d) = number_at(6) else {
+    let Whole::Is(d) = number_at(6) else {
         return Asked::Other;
     };
     Asked::Day(y, m, d)

@@ -8,4 +8,6 @@ pub mod Writes
 pub mod Turns
 pub mod Lines
 pub mod Said
+pub mod Wholes
 pub mod Ways
+pub mod Dashes

@@ -2,6 +2,7 @@
 use Prim.Native.Nat.{ℕ, zero, suc, _+_, _-_, _*_, _/_, _%_, _^_}
 use mathlib.Core.Bool.{Bool, true, false, cond, _&&_}
 use mathlib.Core.List.{List, [], _∷_}
+use mathlib.Core.Option.{Option, some, none}
 use lib.Dec.{ltb, leb, eqb}
 use lib.IntN.{ℤ, pos, negsuc}
 use lib.ListN.{drop}
@@ -102,6 +103,10 @@ unfoldable pub decimal : ℕ → List ℕ → Got ℕ
 decimal limit s =
     cond (starts 48 s) (cond (startsDigit (drop 1 s)) no (got 0 (drop 1 s)))
     (cond (startsDigit s) (scan limit 0 s) no)
+
+-- the number at most the limit that a whole text is, without leading zeros
+unfoldable pub wholeNumber : ℕ → List ℕ → Option ℕ
+wholeNumber limit s = found (decimal limit s) (λ n t. cond (isEnd t) (some n) none) none
 
 -- a whole number from -2,147,483,648 to 2,147,483,647, in the fewest digits; a minus sign stands before a number below zero alone
 abbrev pub above : Got ℕ → Got ℤ

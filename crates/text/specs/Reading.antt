@@ -2,6 +2,7 @@
 use Prim.Native.Nat.{ℕ, _≤_}
 use mathlib.Core.Path.{_≡_}
 use mathlib.Core.List.{List}
+use mathlib.Core.Option.{Option, some, none}
 use lib.IntN.{ℤ}
 use lib.ListN.{length, drop}
 use Rattle.text.specs.Digits.{Got, got, no}
@@ -11,6 +12,8 @@ use Rattle.text.specs.declared.reading.Signed.{Signed}
 use Rattle.text.specs.declared.reading.Signed.the-variants as signed
 use Rattle.text.specs.declared.reading.Passed.{Passed}
 use Rattle.text.specs.declared.reading.Passed.the-variants as passed
+use Rattle.text.specs.declared.reading.Whole.{Whole}
+use Rattle.text.specs.declared.reading.Whole.the-variants as whole
 
 -- the value, and the text from the next place on
 abbrev pub readSays : List ℕ → Read → Got ℕ
@@ -24,6 +27,11 @@ signedSays s signed.NotOne = no
 abbrev pub passedSays : List ℕ → Passed → Got (Unit {0})
 passedSays s (passed.To next) = got tt (drop (next .at) s)
 passedSays s passed.Not = no
+
+-- the number alone
+abbrev pub wholeSays : Whole → Option ℕ
+wholeSays (whole.Is n) = some n
+wholeSays whole.Not = none
 
 -- the place after what was read
 abbrev pub readEnd : Read → ℕ

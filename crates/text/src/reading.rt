@@ -4,8 +4,8 @@ ghost use Prim.Native.Nat.{_^_, _<_, _≤_};
 ghost use lib.IntN.{pos, negsuc};
 ghost use lib.ListN.{length, drop};
 ghost use Rattle.text.specs.Digits as Digits;
-ghost use Rattle.text.specs.Digits.{startsDigit, starts, isEnd, past, fixed};
-ghost use Rattle.text.specs.Reading.{Says, readSays, readEnd, signedSays, signedEnd, passedSays, passedEnd};
+ghost use Rattle.text.specs.Digits.{startsDigit, starts, isEnd, past, fixed, wholeNumber};
+ghost use Rattle.text.specs.Reading.{Says, readSays, readEnd, signedSays, signedEnd, passedSays, passedEnd, wholeSays};
 
 // A place in a text.
 pub struct Cursor {
@@ -27,6 +27,12 @@ pub enum Signed {
 // The place after a text that was expected, or that it does not stand there.
 pub enum Passed {
     To(Cursor),
+    Not,
+}
+
+// The number that a whole text is, or none.
+pub enum Whole {
+    Is(u16),
     Not,
 }
 
@@ -223,4 +229,17 @@ impl Cursor {
         };
         Signed::Number(from_zero(n), next)
     }
+}
+
+// The number at most the limit that a whole text is, without leading zeros.
+pub fn whole_number(s: &[u8], limit: u16) -> Whole
+    ensures { λ r. ⌜ wholeSays r ≡ wholeNumber limit (now (s .entry)) ⌝ }
+{
+    let Read::Number(n, next) = start().decimal(s, limit as u64) else {
+        return Whole::Not;
+    };
+    if !next.at_end(s) {
+        return Whole::Not;
+    }
+    Whole::Is(n as u16)
 }
