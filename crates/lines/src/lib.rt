@@ -1,6 +1,7 @@
 // What a descriptor brings, a line at a time: each line stands at the start of a lent buffer.
 ghost use mathlib.Core.Path.{_≡_};
-ghost use Prim.Native.Nat.{_-_, _≤_};
+ghost use Rattle.text.specs.Kept.{Fills};
+ghost use Rattle.lines.specs.Lines.{started, ended, given, lastOf, front, NextLine};
 use text::Filled;
 use text::Held;
 
@@ -25,7 +26,7 @@ enum Came {
 
 // Before the first line, with so many steps to go.
 pub fn start(steps: u64) -> Input
-    ensures { λ r. ⌜ r .left ≡ steps ⌝ }
+    ensures { λ r. ⌜ (r ≡ started steps) × (r .left ≡ steps) ⌝ }
 {
     Input {
         left: steps,
@@ -37,6 +38,7 @@ pub fn start(steps: u64) -> Input
     }
 }
 
+// One piece more, if one comes.
 fn read_piece(fd: i32, piece: &mut [u8]) -> Came {
     let got = libc::read(fd, piece);
     if got < 0 {
@@ -50,7 +52,7 @@ fn read_piece(fd: i32, piece: &mut [u8]) -> Came {
 
 // No line any more, at the input's end or before it.
 fn over(failed: bool) -> Input
-    ensures { λ r. ⌜ r .left ≤ 0 ⌝ }
+    ensures { λ r. ⌜ r ≡ ended failed ⌝ }
 {
     Input {
         left: 0,
@@ -64,7 +66,7 @@ fn over(failed: bool) -> Input
 
 // The line that is held. One that was too long for the buffer is handed over empty.
 fn handed(held: Held, left: u64, from: usize, to: usize) -> Input
-    ensures { λ r. ⌜ r .left ≤ left ⌝ }
+    ensures { λ r. ⌜ r ≡ given held left from to ⌝ }
 {
     let long = held.skipping;
     if long {
@@ -89,7 +91,7 @@ fn handed(held: Held, left: u64, from: usize, to: usize) -> Input
 
 // What is held at the end of the input: a last line needs no line feed.
 fn last(held: Held, left: u64) -> Input
-    ensures { λ r. ⌜ r .left ≤ left ⌝ }
+    ensures { λ r. ⌜ r ≡ lastOf held left ⌝ }
 {
     let skipping = held.skipping;
     if skipping {
@@ -102,7 +104,9 @@ fn last(held: Held, left: u64) -> Input
 }
 
 // More of a line from what is left of the piece.
-fn fill_on(piece: &[u8], from: usize, to: usize, line: &mut [u8], held: Held) -> Filled {
+fn fill_on(piece: &[u8], from: usize, to: usize, line: &mut [u8], held: Held) -> Filled
+    ensures { λ r. ⌜ Fills (front (now (piece .entry)) to) from (now (line .entry)) held (now (line .exit)) r ⌝ }
+{
     if to <= piece.len() {
         return text::fill(&piece[..to], from, line, held);
     }
@@ -111,7 +115,7 @@ fn fill_on(piece: &[u8], from: usize, to: usize, line: &mut [u8], held: Held) ->
 
 // The next line of the input. Pieces and line are kept in the lent buffers. A read that fails ends the input.
 pub fn next_line(fd: i32, input: Input, piece: &mut [u8], line: &mut [u8]) -> Input
-    ensures { λ r. ⌜ r .left ≤ input .left - 1 ⌝ }
+    ensures { λ r. ⌜ NextLine input (now (piece .entry)) (now (line .entry)) (now (piece .exit)) (now (line .exit)) r ⌝ }
 {
     let mut held = text::nothing();
     let mut left = input.left;

@@ -1,5 +1,10 @@
 // Standard input, a line at a time, and the turns of a program that answers each line.
-ghost use Prim.Native.Nat.{_-_, _≤_};
+ghost use mathlib.Core.Path.{_≡_};
+ghost use mathlib.Core.Bool.{false};
+ghost use Rattle.lines.specs.Lines.{started};
+ghost use Rattle.replay.specs.Gathered as Gathered;
+ghost use Rattle.replay.specs.Gathered.{gathered};
+ghost use Rattle.replay.specs.Turns.{noTurn, turnOf, inputOf, TurnAfter};
 use crate::output;
 use crate::output::Out;
 use libc::STDERR_FILENO;
@@ -19,7 +24,7 @@ pub struct Turn {
 
 // The end of the turns. An input that could not be read to its end is told on standard error.
 fn ended(unread: bool, o: Out) -> Turn
-    ensures { λ r. ⌜ r .left ≤ 0 ⌝ }
+    ensures { λ r. ⌜ r ≡ noTurn o ⌝ }
 {
     if unread {
         io::write_all(STDERR_FILENO, b"standard input cannot be read to its end\n");
@@ -35,7 +40,7 @@ fn ended(unread: bool, o: Out) -> Turn
 
 // The turn of a line, or the end: what was answered is written out then. A write that failed is the end too.
 fn turn_of(input: Input, o: Out, out: &[u8]) -> Turn
-    ensures { λ r. ⌜ r .left ≤ input .left ⌝ }
+    ensures { λ r. ⌜ r ≡ turnOf input o (r .out .failed) ⌝ }
 {
     if o.failed {
         return ended(false, o.finish(out));
@@ -53,14 +58,16 @@ fn turn_of(input: Input, o: Out, out: &[u8]) -> Turn
 }
 
 // The turn of the first line.
-pub fn begin(piece: &mut [u8], line: &mut [u8], out: &[u8]) -> Turn {
+pub fn begin(piece: &mut [u8], line: &mut [u8], out: &[u8]) -> Turn
+    ensures { λ r. ⌜ TurnAfter (started 18446744073709551615) (now (piece .entry)) (now (line .entry)) (now (piece .exit)) (now (line .exit)) (now (out .entry)) (record { buffer = now (out .entry); at = 0; begun = false }) r ⌝ }
+{
     let input = lines::next_line(STDIN_FILENO, lines::start(u64::MAX), piece, line);
     turn_of(input, output::empty(), out)
 }
 
 // The turn of the next line, after this one was answered.
 pub fn next(t: Turn, o: Out, piece: &mut [u8], line: &mut [u8], out: &mut [u8]) -> Turn
-    ensures { λ r. ⌜ r .left ≤ t .left - 1 ⌝ }
+    ensures { λ r. ⌜ TurnAfter (inputOf t) (now (piece .entry)) (now (line .entry)) (now (piece .exit)) (now (line .exit)) (now (out .exit)) (Gathered.ended (gathered (now (out .entry)) o)) r ⌝ }
 {
     let input = Input {
         left: t.left,

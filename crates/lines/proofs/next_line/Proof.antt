@@ -1,14 +1,16 @@
 -- `lines::next_line` meets its contract: the steps fall. Assumes nothing.
-use Prim.Native.Nat.{_≤_}
+use Prim.Native.Nat.{_-_, _≤_}
 use mathlib.Core.Path.{_≡_, refl, _∙_}
 use native.Mathlib.Omega.{arith}
-use lib.ListN.{length}
+use lib.ListN.{length, drop}
+use Rattle.lines.specs.Lines.{front}
+use Rattle.lines.proofs.Pieces.{Reads, reads-first, reads-more, next-fed, next-last, next-unread}
 use borrow.Author.Needs.{needs}
 use Rattle.lines.proofs.next_line.Statement.{statement}
 use Rattle.lines.proofs.next_line.Tie as tie
 
 abbrev Inv-loop : tie.InvT-loop
-Inv-loop fd piece₀ line₀ held₀ left₀ from₀ to₀ piece line held left from to = (length piece ≡ length piece₀) × (length line ≡ length line₀) × (left ≤ left₀)
+Inv-loop fd piece₀ line₀ held₀ left₀ from₀ to₀ piece line held left from to = (length piece ≡ length piece₀) × (length line ≡ length line₀) × (left ≤ left₀) × Reads (length line₀) (drop from₀ (front piece₀ to₀)) line held (drop from (front piece to))
 
 abbrev μ-loop : tie.MeasureT-loop
 μ-loop fd piece₀ line₀ held₀ left₀ from₀ to₀ piece line held left from to = left
@@ -17,7 +19,7 @@ nothing-requires : tie.Need-nothing-requires Inv-loop μ-loop
 nothing-requires c κs = search needs
 
 loop-holds : tie.Need-loop-holds Inv-loop μ-loop
-loop-holds c = (refl, refl, omega arith)
+loop-holds c = (refl, refl, omega arith, let a = c .before .before .before .args in reads-first (length (a .line .now)) (drop (a .input .from) (front (a .piece .now) (a .input .to))) (a .line .now) (c .nothing .result) (c .nothing .ensures .0) (c .nothing .ensures .1))
 
 sub-left : tie.Need-sub-left Inv-loop μ-loop
 sub-left c = search needs
@@ -38,7 +40,10 @@ same-length-2 : tie.Need-same-length-2 Inv-loop μ-loop
 same-length-2 c = c .before .before .before .before .before .before .fill-on .kept .1 .1 .1 .0 ∙ c .before .before .before .before .before .before .before .before .before .before .loop .inv .1
 
 returns : tie.Need-returns Inv-loop μ-loop
-returns c = search needs
+returns c = let l = c .before .before .before .before .before .before .before .before .before .before .loop in
+    let a = c .before .before .before .before .before .before .before .before .before .before .before .before .before .before .args in
+    let f = rw (c .before .before .h .given .1) at (c .before .before .before .before .before .before .fill-on .ensures) in
+    rw (c .handed .ensures) (next-fed (a .input) (a .piece .now) (a .line .now) (l .left - 1) (omega arith) (l .piece) (l .to) (l .inv .3) (l .inv .1) f)
 
 enum-known-h-2 : tie.Need-enum-known-h-2 Inv-loop μ-loop
 enum-known-h-2 c = search needs
@@ -53,7 +58,9 @@ loop-less : tie.Need-loop-less Inv-loop μ-loop
 loop-less c = search needs
 
 loop-again : tie.Need-loop-again Inv-loop μ-loop
-loop-again c = let l = c .before .before .before .before .before .before .before .before .before .before .before .before .before .before .before .before .loop in (c .before .before .before .before .before .read-piece .kept .1 .0 ∙ l .inv .0, c .before .before .before .before .before .before .before .before .before .before .before .before .fill-on .kept .1 .1 .1 .0 ∙ l .inv .1, omega arith)
+loop-again c = let l = c .before .before .before .before .before .before .before .before .before .before .before .before .before .before .before .before .loop in
+    let f = rw (c .before .before .before .before .before .before .before .before .h2 .given .1) at (c .before .before .before .before .before .before .before .before .before .before .before .before .fill-on .ensures) in
+    (c .before .before .before .before .before .read-piece .kept .1 .0 ∙ l .inv .0, c .before .before .before .before .before .before .before .before .before .before .before .before .fill-on .kept .1 .1 .1 .0 ∙ l .inv .1, omega arith, reads-more (l .inv .3) (l .inv .1) f)
 
 enum-told : tie.Need-enum-told Inv-loop μ-loop
 enum-told c = search needs
@@ -68,7 +75,10 @@ same-length-4 : tie.Need-same-length-4 Inv-loop μ-loop
 same-length-4 c = c .before .before .before .before .before .before .before .before .before .before .before .before .fill-on .kept .1 .1 .1 .0 ∙ c .before .before .before .before .before .before .before .before .before .before .before .before .before .before .before .before .loop .inv .1
 
 returns-2 : tie.Need-returns-2 Inv-loop μ-loop
-returns-2 c = search needs
+returns-2 c = let l = c .before .before .before .before .before .before .before .before .before .before .before .before .before .before .before .before .loop in
+    let a = c .before .before .before .before .before .before .before .before .before .before .before .before .before .before .before .before .before .before .before .before .args in
+    let f = rw (c .before .before .before .before .before .before .before .before .h2 .given .1) at (c .before .before .before .before .before .before .before .before .before .before .before .before .fill-on .ensures) in
+    rw (c .last .ensures) (next-last (a .input) (a .piece .now) (a .line .now) (l .left - 1) (omega arith) (l .inv .3) (l .inv .1) (c .before .before .before .before .before .before .before .before .before .before .before .before .fill-on .kept .1 .1 .1 .0 ∙ l .inv .1) f)
 
 enum-told-2 : tie.Need-enum-told-2 Inv-loop μ-loop
 enum-told-2 c = search needs
@@ -83,7 +93,7 @@ same-length-6 : tie.Need-same-length-6 Inv-loop μ-loop
 same-length-6 c = c .before .before .before .before .before .before .before .before .before .before .before .before .fill-on .kept .1 .1 .1 .0 ∙ c .before .before .before .before .before .before .before .before .before .before .before .before .before .before .before .before .loop .inv .1
 
 returns-3 : tie.Need-returns-3 Inv-loop μ-loop
-returns-3 c = search needs
+returns-3 c = rw (c .over .ensures) next-unread
 
 over-requires-2 : tie.Need-over-requires-2 Inv-loop μ-loop
 over-requires-2 c κs = search needs
@@ -95,7 +105,7 @@ same-length-8 : tie.Need-same-length-8 Inv-loop μ-loop
 same-length-8 c = c .before .before .loop .inv .1
 
 returns-4 : tie.Need-returns-4 Inv-loop μ-loop
-returns-4 c = search needs
+returns-4 c = rw (c .over2 .ensures) next-unread
 
 pub next-line-spec : {M : Type 1} → statement M
 next-line-spec =

@@ -1,0 +1,2 @@
+-- What the contracts of `lines` are written in.
+pub mod Lines
