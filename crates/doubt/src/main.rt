@@ -153,7 +153,7 @@ fn year_in(i: usize) -> Whole {
     text::whole_number(&buffer[..n], 65535)
 }
 
-fn run(rows: &mut [u16], rules: &mut [u16], names: &mut [u8], path: &mut [u8], out: &mut [u8]) {
+fn run(rows: &mut [u16], rules: &mut [u16], names: &mut [u8], out: &mut [u8]) {
     let count = os::arg_count();
     if (count != 4) & (count != 5) {
         asked::complain(b"expected arguments: TABLE FIRST LAST [RULES]\n");
@@ -167,10 +167,10 @@ fn run(rows: &mut [u16], rules: &mut [u16], names: &mut [u8], path: &mut [u8], o
         asked::complain(b"LAST: expected a number up to 65535\n");
         return;
     };
-    let TableRead::Is(table, n) = asked::table_in(1, path, rows) else {
+    let TableRead::Is(table, n) = files::table_at(1, rows) else {
         return;
     };
-    let RulesRead::Are(k) = asked::rules_asked(4, count, path, rules, names) else {
+    let RulesRead::Are(k) = files::rules_asked(4, count, rules, names) else {
         return;
     };
     answer_parts(table, rows, n, first, last, rules, k, names, out);
@@ -180,7 +180,6 @@ fn main() {
     let mut rows = [0u16; 1677];
     let mut rules = [0u16; 2600];
     let mut names = [0u8; 20800];
-    let mut path = [0u8; 4096];
     let mut out = [0u8; 8192];
-    run(&mut rows, &mut rules, &mut names, &mut path, &mut out);
+    run(&mut rows, &mut rules, &mut names, &mut out);
 }

@@ -1,10 +1,14 @@
 // The two data files of the engine, read into lent buffers: a year table and a list of rules. A line is judged as specs/Line.antt says,
 // and a whole file as specs/File.antt does. What a file holds is outside every contract: for some file each answer and each lent element is that.
+mod arguments;
 mod names;
 mod problems;
 mod reading;
 mod row;
 
+pub use arguments::rules_asked;
+pub use arguments::rules_at;
+pub use arguments::table_at;
 use conversion::Table;
 pub use names::put_name;
 pub use problems::Problem;

@@ -11,42 +11,6 @@ use gregorian::Date;
 use words::Asked;
 use words::InForm;
 
-// The year table of the first argument, with how many numbers its rows have.
-enum HasTable {
-    Is(Table, usize),
-    Not,
-}
-
-// How many numbers the rules of the second argument have.
-enum HasRules {
-    Are(usize),
-    Not,
-}
-
-fn table_of(rows: &mut [u16]) -> HasTable {
-    let mut path = [0u8; 4096];
-    let n = os::arg(1, &mut path);
-    match files::read_table(&path[..n], rows) {
-        TableRead::Is(table, count) => HasTable::Is(table, count),
-        TableRead::Not(p) => {
-            files::report(&path[..n], p);
-            HasTable::Not
-        }
-    }
-}
-
-fn rules_of(rules: &mut [u16], names: &mut [u8]) -> HasRules {
-    let mut path = [0u8; 4096];
-    let n = os::arg(2, &mut path);
-    match files::read_rules(&path[..n], rules, names) {
-        RulesRead::Are(count) => HasRules::Are(count),
-        RulesRead::Not(p) => {
-            files::report(&path[..n], p);
-            HasRules::Not
-        }
-    }
-}
-
 // Today, or a day that no table has where the third argument is no date.
 fn today() -> Date {
     match words::date_at(3) {
@@ -69,10 +33,10 @@ fn show(asked: Asked, table: Table, rows: &[u16], n: usize, rules: &[u16], k: us
 }
 
 fn run(asked: Asked, rows: &mut [u16], rules: &mut [u16], names: &mut [u8]) {
-    let HasTable::Is(table, n) = table_of(rows) else {
+    let TableRead::Is(table, n) = files::table_at(1, rows) else {
         return;
     };
-    let HasRules::Are(k) = rules_of(rules, names) else {
+    let RulesRead::Are(k) = files::rules_at(2, rules, names) else {
         return;
     };
     show(asked, table, rows, n, rules, k, names);

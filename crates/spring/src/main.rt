@@ -316,18 +316,6 @@ fn answer_parts(
     }
 }
 
-// The table in the file that argument i names.
-fn table_in(i: usize, rows: &mut [u16]) -> TableRead {
-    let mut path = [0u8; 4096];
-    asked::table_in(i, &mut path, rows)
-}
-
-// The rules in the file that argument 3 names, or none.
-fn rules_in(count: usize, rules: &mut [u16], names: &mut [u8]) -> RulesRead {
-    let mut path = [0u8; 4096];
-    asked::rules_asked(3, count, &mut path, rules, names)
-}
-
 // The answer over the tables that were read and the rules that are asked.
 fn answer_with(
     old_table: Table,
@@ -341,7 +329,7 @@ fn answer_with(
     names: &mut [u8],
     out: &mut [u8],
 ) {
-    let RulesRead::Are(k) = rules_in(count, rules, names) else {
+    let RulesRead::Are(k) = files::rules_asked(3, count, rules, names) else {
         return;
     };
     answer_parts(old_table, old, n, new_table, new, m, rules, k, names, out);
@@ -353,10 +341,10 @@ fn run(old: &mut [u16], new: &mut [u16], rules: &mut [u16], names: &mut [u8], ou
         asked::complain(b"expected arguments: OLD NEW [RULES]\n");
         return;
     }
-    let TableRead::Is(old_table, n) = table_in(1, old) else {
+    let TableRead::Is(old_table, n) = files::table_at(1, old) else {
         return;
     };
-    let TableRead::Is(new_table, m) = table_in(2, new) else {
+    let TableRead::Is(new_table, m) = files::table_at(2, new) else {
         return;
     };
     answer_with(
