@@ -1,2 +1,4 @@
 pub mod Nears
 pub mod Wholes
+pub mod Pieces
+pub mod Lines

@@ -12,11 +12,16 @@ use gregorian::UtDay;
 use panchanga::clock;
 use replay::Out;
 ghost use mathlib.Core.Path.{_≡_};
-ghost use mathlib.Core.Bool.{true, false};
+ghost use mathlib.Core.Bool.{true, false, _||_};
+ghost use mathlib.Core.List.{[], _∷_};
 ghost use Prim.Native.Nat.{_+_, _*_, _≤_};
 ghost use lib.ListN.{length};
+ghost use Rattle.files.specs.Line.{nameOf};
+ghost use Rattle.rules.specs.Rules.{ruleAt, rulesOf};
 ghost use Rattle.conversion.specs.Flat.{accepted};
 ghost use Rattle.doubtful.specs.Numbers.{monthBefore, monthAfter, oneMore, firstPage, pageWith, withOut};
+ghost use Rattle.doubtful.specs.Pieces.{Puts};
+ghost use Rattle.doubtful.specs.Page.{momentPieces, wherePieces, openingPieces, nonePieces, isOf, endOf, rulePieces, itemPieces, listPieces, rulesPieces, afterPieces, beforePieces, nearPieces, countPieces};
 
 // What is written, whether the year of the lines has its heading, and how many new moons are near a boundary, of these on a month's first day; how many
 // open nothing; and how many lunar months none opens.
@@ -86,7 +91,9 @@ fn head(p: Page, out: &mut [u8], year: u16) -> Page {
 }
 
 // One rule more of a list: the mark before it, its name as a number and as text.
-fn put_rule(o: Out, out: &mut [u8], mark: &[u8], name: u16, names: &[u8], i: usize) -> Out {
+fn put_rule(o: Out, out: &mut [u8], mark: &[u8], name: u16, names: &[u8], i: usize) -> Out
+    ensures { λ r. ⌜ Puts (now (out .entry)) o (rulePieces (now (mark .entry)) name (nameOf i (now (names .entry)))) (now (out .exit)) r ⌝ }
+{
     let a = words::put_labelled(o, out, mark, name as u64);
     let b = words::put_text(a, out, b" ");
     words::put_name(b, out, names, i)
@@ -101,6 +108,8 @@ struct Listed {
 // Rule i, if it is a computed one of the lunar month.
 fn put_next(l: Listed, out: &mut [u8], month: u16, rules: &[u16], names: &[u8], i: usize) -> Listed
     requires { ⌜ i * 8 + 8 ≤ length (now rules) ⌝ }
+    ensures { λ q. ⌜ Puts (now (out .entry)) (l .out) (itemPieces (now (names .entry)) month i (l .some) (ruleAt (now (rules .entry)) i)) (now (out .exit)) (q .out) ⌝ }
+    ensures { λ q. ⌜ q .some ≡ (l .some || isOf month (ruleAt (now (rules .entry)) i)) ⌝ }
 {
     let r = rules::rule_at(rules, i);
     let o = l.out;
@@ -120,7 +129,9 @@ fn put_next(l: Listed, out: &mut [u8], month: u16, rules: &[u16], names: &[u8], 
 }
 
 // The end of a line of rules.
-fn put_end(l: Listed, out: &mut [u8]) -> Out {
+fn put_end(l: Listed, out: &mut [u8]) -> Out
+    ensures { λ r. ⌜ Puts (now (out .entry)) (l .out) (endOf (l .some) ∷ []) (now (out .exit)) r ⌝ }
+{
     let o = l.out;
     if l.some {
         return words::put_text(o, out, b"\n");
@@ -129,7 +140,9 @@ fn put_end(l: Listed, out: &mut [u8]) -> Out {
 }
 
 // The computed rules of a lunar month, to the line's end.
-fn put_rules(o: Out, out: &mut [u8], month: u16, rules: &[u16], names: &[u8]) -> Out {
+fn put_rules(o: Out, out: &mut [u8], month: u16, rules: &[u16], names: &[u8]) -> Out
+    ensures { λ r. ⌜ Puts (now (out .entry)) o (listPieces (now (names .entry)) month 0 false (rulesOf (now (rules .entry)))) (now (out .exit)) r ⌝ }
+{
     let mut l = Listed {
         out: o,
         some: false,
@@ -144,7 +157,9 @@ fn put_rules(o: Out, out: &mut [u8], month: u16, rules: &[u16], names: &[u8]) ->
 }
 
 // A line with the rules of a lunar month.
-fn put_month_rules(o: Out, out: &mut [u8], month: u16, rules: &[u16], names: &[u8]) -> Out {
+fn put_month_rules(o: Out, out: &mut [u8], month: u16, rules: &[u16], names: &[u8]) -> Out
+    ensures { λ r. ⌜ Puts (now (out .entry)) o (rulesPieces (rulesOf (now (rules .entry))) (now (names .entry)) month) (now (out .exit)) r ⌝ }
+{
     let a = words::put_labelled(o, out, b"    rules of lunar month ", month as u64);
     let b = words::put_text(a, out, b":");
     put_rules(b, out, month, rules, names)
@@ -165,7 +180,9 @@ fn month_after(m: u16) -> u16
 }
 
 // The Nepal date and time of a new moon.
-fn put_moment(o: Out, out: &mut [u8], x: UtDay, n: u32) -> Out {
+fn put_moment(o: Out, out: &mut [u8], x: UtDay, n: u32) -> Out
+    ensures { λ r. ⌜ Puts (now (out .entry)) o (momentPieces (x .0) «n») (now (out .exit)) r ⌝ }
+{
     let a = words::put_text(o, out, b"  new moon ");
     let b = words::put_date(a, out, n);
     let c = words::put_text(b, out, b" ");
@@ -173,7 +190,9 @@ fn put_moment(o: Out, out: &mut [u8], x: UtDay, n: u32) -> Out {
 }
 
 // What a new moon opens by the engine's rule.
-fn put_opening(o: Out, out: &mut [u8], date: BsDate, opens: bool) -> Out {
+fn put_opening(o: Out, out: &mut [u8], date: BsDate, opens: bool) -> Out
+    ensures { λ r. ⌜ Puts (now (out .entry)) o (openingPieces date opens) (now (out .exit)) r ⌝ }
+{
     if opens {
         let a = words::put_labelled(o, out, b", opens lunar month ", date.month as u64);
         return words::put_text(a, out, b"\n");
@@ -184,7 +203,9 @@ fn put_opening(o: Out, out: &mut [u8], date: BsDate, opens: bool) -> Out {
 }
 
 // How long before or after what, in a month.
-fn put_where(o: Out, out: &mut [u8], minutes: u32, side: &[u8], date: BsDate) -> Out {
+fn put_where(o: Out, out: &mut [u8], minutes: u32, side: &[u8], date: BsDate) -> Out
+    ensures { λ r. ⌜ Puts (now (out .entry)) o (wherePieces minutes (now (side .entry)) date) (now (out .exit)) r ⌝ }
+{
     let a = words::put_text(o, out, b", ");
     let b = words::put_span(a, out, minutes);
     let c = words::put_text(b, out, side);
@@ -200,7 +221,9 @@ fn put_after(
     minutes: u32,
     rules: &[u16],
     names: &[u8],
-) -> Out {
+) -> Out
+    ensures { λ r. ⌜ Puts (now (out .entry)) o (afterPieces (rulesOf (now (rules .entry))) (now (names .entry)) date opens minutes) (now (out .exit)) r ⌝ }
+{
     let a = put_where(o, out, minutes, b" after the beginning of ", date);
     let b = put_opening(a, out, date, opens);
     let c = put_month_rules(b, out, month_before(date.month), rules, names);
@@ -216,7 +239,9 @@ fn put_before(
     minutes: u32,
     rules: &[u16],
     names: &[u8],
-) -> Out {
+) -> Out
+    ensures { λ r. ⌜ Puts (now (out .entry)) o (beforePieces (rulesOf (now (rules .entry))) (now (names .entry)) date opens minutes) (now (out .exit)) r ⌝ }
+{
     let a = put_where(o, out, minutes, b" before the end of ", date);
     let b = put_opening(a, out, date, opens);
     let c = put_month_rules(b, out, date.month, rules, names);
@@ -349,7 +374,9 @@ fn put_moons(
 }
 
 // The line of a solar month without a new moon.
-fn put_none(o: Out, out: &mut [u8], year: u16, month: u16) -> Out {
+fn put_none(o: Out, out: &mut [u8], year: u16, month: u16) -> Out
+    ensures { λ r. ⌜ Puts (now (out .entry)) o (nonePieces year month) (now (out .exit)) r ⌝ }
+{
     let a = words::put_text(o, out, b"  no new moon in ");
     let b = words::put_month(a, out, year, month);
     let c = words::put_labelled(b, out, b": nothing opens lunar month ", month as u64);
@@ -445,7 +472,9 @@ pub fn put_year(
 }
 
 // How many new moons are near a boundary.
-fn put_near(p: Page, o: Out, out: &mut [u8]) -> Out {
+fn put_near(p: Page, o: Out, out: &mut [u8]) -> Out
+    ensures { λ r. ⌜ Puts (now (out .entry)) o (nearPieces (p .near) (p .first)) (now (out .exit)) r ⌝ }
+{
     let a = words::put_number(o, out, p.near as u64);
     let b = words::put_labelled(
         a,
@@ -457,7 +486,9 @@ fn put_near(p: Page, o: Out, out: &mut [u8]) -> Out {
 }
 
 // The counts of a page, to the line's end.
-pub fn put_counts(p: Page, o: Out, out: &mut [u8]) -> Out {
+pub fn put_counts(p: Page, o: Out, out: &mut [u8]) -> Out
+    ensures { λ r. ⌜ Puts (now (out .entry)) o (countPieces p) (now (out .exit)) r ⌝ }
+{
     let a = put_near(p, o, out);
     let b = words::put_labelled(a, out, b"new moons that open nothing ", p.second as u64);
     let c = words::put_labelled(
