@@ -2,3 +2,4 @@ pub mod Nears
 pub mod Wholes
 pub mod Pieces
 pub mod Lines
+pub mod Sheets

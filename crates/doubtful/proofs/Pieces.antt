@@ -35,6 +35,9 @@ one-piece e w b = record { same = rw (w .stored, w .end, b, e) }
 pub puts-as : {l : List ℕ} {o : Out} {xs ys : List Text} {m : List ℕ} {r : Out} → xs ≡ ys → Puts l o xs m r → Puts l o ys m r
 puts-as {l} {o} {xs} {ys} {m} {r} e p = subst (λ (x : List Text). Puts l o x m r) e p
 
+pub puts-out : {l : List ℕ} {o : Out} {xs : List Text} {m : List ℕ} {q r : Out} → q ≡ r → Puts l o xs m r → Puts l o xs m q
+puts-out {l} {o} {xs} {m} e p = subst (λ (x : Out). Puts l o xs m x) (sym e) p
+
 -- ---- the date of a day number
 
 module _ (n : ℕ) {a : DateAnswer} (e : dateSays a ≡ dateAnswer n) where

@@ -3,3 +3,4 @@ pub mod Near
 pub mod Numbers
 pub mod Pieces
 pub mod Page
+pub mod Years

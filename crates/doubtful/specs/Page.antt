@@ -85,10 +85,11 @@ module _ (rules : List Rule) (names : List ℕ) where
 
 -- ---- the counts
 
+-- of new moons near a boundary
 unfoldable pub nearPieces : ℕ → ℕ → List Text
 nearPieces near first = digits near ∷ bytes " doubtful new moons, on a month's first day " ∷ digits first ∷ bytes "; " ∷ []
 
--- to the line's end
+-- of a page, to the line's end
 unfoldable pub countPieces : Page → List Text
 countPieces p =
     nearPieces (p .near) (p .first)

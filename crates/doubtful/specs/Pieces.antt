@@ -16,6 +16,7 @@ use Rattle.replay.specs.declared.output.Out.{Out}
 
 -- ---- a page
 
+-- bytes
 abbrev pub Text : Type 0
 Text = List ℕ
 
@@ -40,6 +41,7 @@ pub record Puts (before : List ℕ) (o : Out) (pieces : List Text) (after : List
 unfoldable pub ymdPieces : Date → List Text
 ymdPieces d = run 10 4 (d .year) ∷ bytes "-" ∷ run 10 2 (d .month) ∷ bytes "-" ∷ run 10 2 (d .day) ∷ []
 
+-- a date, where there is one
 abbrev pub datedPieces : Answer Date → List Text
 datedPieces (answered d) = ymdPieces d
 datedPieces (refused k) = bytes "no date" ∷ []

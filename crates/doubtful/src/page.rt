@@ -15,13 +15,14 @@ ghost use mathlib.Core.Path.{_≡_};
 ghost use mathlib.Core.Bool.{true, false, _||_};
 ghost use mathlib.Core.List.{[], _∷_};
 ghost use Prim.Native.Nat.{_+_, _*_, _≤_};
-ghost use lib.ListN.{length};
+ghost use lib.ListN.{length, take};
 ghost use Rattle.files.specs.Line.{nameOf};
 ghost use Rattle.rules.specs.Rules.{ruleAt, rulesOf};
-ghost use Rattle.conversion.specs.Flat.{accepted};
+ghost use Rattle.conversion.specs.Flat.{accepted, flat};
 ghost use Rattle.doubtful.specs.Numbers.{monthBefore, monthAfter, oneMore, firstPage, pageWith, withOut};
 ghost use Rattle.doubtful.specs.Pieces.{Puts};
 ghost use Rattle.doubtful.specs.Page.{momentPieces, wherePieces, openingPieces, nonePieces, isOf, endOf, rulePieces, itemPieces, listPieces, rulesPieces, afterPieces, beforePieces, nearPieces, countPieces};
+ghost use Rattle.doubtful.specs.Years.{tallyOf, withHeading, moreIf, doubted, sheet, headingPieces, datedLine, monthLine, monthLines, Opened, placedLine, moonLine, moonLines, yearPage, hasPlace, opensPlace};
 
 // What is written, whether the year of the lines has its heading, and how many new moons are near a boundary, of these on a month's first day; how many
 // open nothing; and how many lunar months none opens.
@@ -66,6 +67,13 @@ fn more(n: u32) -> u32
     if n < 4000000000 { n + 1 } else { n }
 }
 
+// One more where it counts.
+fn more_if(counts: bool, n: u32) -> u32
+    ensures { λ r. ⌜ r ≡ moreIf counts «n» ⌝ }
+{
+    if counts { more(n) } else { n }
+}
+
 // The page with what was written since, and its heading.
 fn written(p: Page, o: Out) -> Page
     ensures { λ r. ⌜ r ≡ withOut true p o ⌝ }
@@ -81,7 +89,10 @@ fn written(p: Page, o: Out) -> Page
 }
 
 // The heading of a year, once.
-fn head(p: Page, out: &mut [u8], year: u16) -> Page {
+fn head(p: Page, out: &mut [u8], year: u16) -> Page
+    ensures { λ r. ⌜ Puts (now (out .entry)) (p .out) (headingPieces (p .headed) year) (now (out .exit)) (r .out) ⌝ }
+    ensures { λ r. ⌜ tallyOf r ≡ withHeading true (tallyOf p) ⌝ }
+{
     if p.headed {
         return p;
     }
@@ -249,13 +260,15 @@ fn put_before(
 }
 
 // The page with one doubtful new moon more.
-fn tallied(p: Page, o: Out, near: bool, first: bool, opens: bool) -> Page {
+fn tallied(p: Page, o: Out, near: bool, first: bool, opens: bool) -> Page
+    ensures { λ r. ⌜ (r .out ≡ o) × (tallyOf r ≡ doubted near first opens (tallyOf p)) ⌝ }
+{
     Page {
         out: o,
         headed: true,
-        near: if near { more(p.near) } else { p.near },
-        first: if first { more(p.first) } else { p.first },
-        second: if opens { p.second } else { more(p.second) },
+        near: more_if(near, p.near),
+        first: more_if(first, p.first),
+        second: more_if(!opens, p.second),
         empty: p.empty,
     }
 }
@@ -271,7 +284,9 @@ fn put_dated(
     opens: bool,
     rules: &[u16],
     names: &[u8],
-) -> Page {
+) -> Page
+    ensures { λ r. ⌜ sheet (now (out .exit)) r ≡ datedLine (rulesOf (now (rules .entry))) (now (names .entry)) (x .0) «n» date opens len (sheet (now (out .entry)) p) ⌝ }
+{
     match crate::near(x, n, date.day, len) {
         Nearness::After(minutes) => {
             let h = head(p, out, date.year);
@@ -310,7 +325,9 @@ fn put_dated(
 }
 
 // Whether a new moon is the one that opens a lunar month.
-fn opens_month(m: Months, month: u16, x: f64) -> bool {
+fn opens_month(m: Months, month: u16, x: f64) -> bool
+    ensures { λ r. ⌜ r ≡ opensPlace m month x ⌝ }
+{
     if month < 1 {
         return false;
     }
@@ -321,7 +338,34 @@ fn opens_month(m: Months, month: u16, x: f64) -> bool {
     m.has[j] & (m.moon[j] == x)
 }
 
-// A new moon of the year, if it is doubtful.
+// A new moon on a date of the year, if it is doubtful.
+fn put_placed(
+    p: Page,
+    out: &mut [u8],
+    table: Table,
+    rows: &[u16],
+    year: u16,
+    x: UtDay,
+    n: u32,
+    date: BsDate,
+    m: Months,
+    rules: &[u16],
+    names: &[u8],
+) -> Page
+    requires { ⌜ (accepted table (now rows) ≡ true) × Opened (flat table (now rows)) year m ⌝ }
+    ensures { λ r. ⌜ sheet (now (out .exit)) r ≡ placedLine (flat table (now (rows .entry))) year (rulesOf (now (rules .entry))) (now (names .entry)) (x .0) «n» date (sheet (now (out .entry)) p) ⌝ }
+{
+    match conversion::month_days(table, rows, date.year, date.month) {
+        MonthDays::Days(len) => {
+            let opens = opens_month(m, date.month, x.0);
+            put_dated(p, out, x, n, date, len, opens, rules, names)
+        }
+        MonthDays::NoYear => p,
+        MonthDays::NoMonth => p,
+    }
+}
+
+// A new moon, if it is doubtful and its day is one of the year.
 fn put_moon(
     p: Page,
     out: &mut [u8],
@@ -333,7 +377,8 @@ fn put_moon(
     rules: &[u16],
     names: &[u8],
 ) -> Page
-    requires { ⌜ accepted table (now rows) ≡ true ⌝ }
+    requires { ⌜ (accepted table (now rows) ≡ true) × Opened (flat table (now rows)) year m ⌝ }
+    ensures { λ r. ⌜ sheet (now (out .exit)) r ≡ moonLine (flat table (now (rows .entry))) year (rulesOf (now (rules .entry))) (now (names .entry)) (x .0) (sheet (now (out .entry)) p) ⌝ }
 {
     let Dated::On(n, date) = crate::date_of(table, rows, x) else {
         return p;
@@ -341,11 +386,7 @@ fn put_moon(
     if date.year != year {
         return p;
     }
-    let MonthDays::Days(len) = conversion::month_days(table, rows, date.year, date.month) else {
-        return p;
-    };
-    let opens = opens_month(m, date.month, x.0);
-    put_dated(p, out, x, n, date, len, opens, rules, names)
+    put_placed(p, out, table, rows, year, x, n, date, m, rules, names)
 }
 
 // The doubtful ones of the first n new moons that were found around a year.
@@ -361,7 +402,9 @@ fn put_moons(
     rules: &[u16],
     names: &[u8],
 ) -> Page
-    requires { ⌜ (accepted table (now rows) ≡ true) × (n ≤ 1024) × (length (now found) ≡ 1024) ⌝ }
+    requires { ⌜ (accepted table (now rows) ≡ true) × Opened (flat table (now rows)) year m ⌝ }
+    requires { ⌜ (n ≤ 1024) × (length (now found) ≡ 1024) ⌝ }
+    ensures { λ r. ⌜ sheet (now (out .exit)) r ≡ moonLines (flat table (now (rows .entry))) year (rulesOf (now (rules .entry))) (now (names .entry)) (take «n» (now (found .entry))) (sheet (now (out .entry)) p) ⌝ }
 {
     let mut q = p;
     let mut i = 0;
@@ -392,7 +435,9 @@ fn put_unopened(
     month: u16,
     rules: &[u16],
     names: &[u8],
-) -> Page {
+) -> Page
+    ensures { λ r. ⌜ sheet (now (out .exit)) r ≡ monthLine (rulesOf (now (rules .entry))) (now (names .entry)) year opened month (sheet (now (out .entry)) p) ⌝ }
+{
     if opened {
         return p;
     }
@@ -411,7 +456,9 @@ fn put_unopened(
 }
 
 // The lunar months of the year that no new moon opens.
-fn put_empty(p: Page, out: &mut [u8], year: u16, m: Months, rules: &[u16], names: &[u8]) -> Page {
+fn put_empty(p: Page, out: &mut [u8], year: u16, m: Months, rules: &[u16], names: &[u8]) -> Page
+    ensures { λ r. ⌜ sheet (now (out .exit)) r ≡ monthLines (rulesOf (now (rules .entry))) (now (names .entry)) year (hasPlace m) 0 12 (sheet (now (out .entry)) p) ⌝ }
+{
     let mut q = p;
     let mut j: u16 = 0;
     while j < 12 {
@@ -449,6 +496,7 @@ pub fn put_year(
     names: &[u8],
 ) -> Page
     requires { ⌜ accepted table (now rows) ≡ true ⌝ }
+    ensures { λ r. ⌜ sheet (now (out .exit)) r ≡ yearPage (flat table (now (rows .entry))) year (rulesOf (now (rules .entry))) (now (names .entry)) (sheet (now (out .entry)) p) ⌝ }
 {
     let mut found = [0.0; 1024];
     let YearDays::Days(first, last) = months::year_days(table, rows, year) else {
