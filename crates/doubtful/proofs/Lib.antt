@@ -1,1 +1,4 @@
 pub mod Nears
+pub mod Pieces
+pub mod Lines
+pub mod Sheets

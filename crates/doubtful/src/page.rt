@@ -12,11 +12,17 @@ use gregorian::UtDay;
 use panchanga::clock;
 use replay::Out;
 ghost use mathlib.Core.Path.{_≡_};
-ghost use mathlib.Core.Bool.{true, false};
+ghost use mathlib.Core.Bool.{true, false, _||_};
+ghost use mathlib.Core.List.{[], _∷_};
 ghost use Prim.Native.Nat.{_+_, _*_, _≤_};
-ghost use lib.ListN.{length};
-ghost use Rattle.conversion.specs.Flat.{accepted};
+ghost use lib.ListN.{length, take};
+ghost use Rattle.files.specs.Line.{nameOf};
+ghost use Rattle.rules.specs.Rules.{ruleAt, rulesOf};
+ghost use Rattle.conversion.specs.Flat.{accepted, flat};
 ghost use Rattle.doubtful.specs.Numbers.{monthBefore, monthAfter, oneMore, firstPage, pageWith, withOut};
+ghost use Rattle.doubtful.specs.Pieces.{Puts};
+ghost use Rattle.doubtful.specs.Page.{momentPieces, wherePieces, openingPieces, nonePieces, isOf, endOf, rulePieces, itemPieces, listPieces, rulesPieces, afterPieces, beforePieces, nearPieces, countPieces};
+ghost use Rattle.doubtful.specs.Years.{tallyOf, withHeading, moreIf, doubted, sheet, headingPieces, datedLine, monthLine, monthLines, Opened, placedLine, moonLine, moonLines, yearPage, hasPlace, opensPlace};
 
 // What is written, whether the year of the lines has its heading, and how many new moons are near a boundary, of these on a month's first day; how many
 // open nothing; and how many lunar months none opens.
@@ -61,6 +67,13 @@ fn more(n: u32) -> u32
     if n < 4000000000 { n + 1 } else { n }
 }
 
+// One more where it counts.
+fn more_if(counts: bool, n: u32) -> u32
+    ensures { λ r. ⌜ r ≡ moreIf counts «n» ⌝ }
+{
+    if counts { more(n) } else { n }
+}
+
 // The page with what was written since, and its heading.
 fn written(p: Page, o: Out) -> Page
     ensures { λ r. ⌜ r ≡ withOut true p o ⌝ }
@@ -76,7 +89,10 @@ fn written(p: Page, o: Out) -> Page
 }
 
 // The heading of a year, once.
-fn head(p: Page, out: &mut [u8], year: u16) -> Page {
+fn head(p: Page, out: &mut [u8], year: u16) -> Page
+    ensures { λ r. ⌜ Puts (now (out .entry)) (p .out) (headingPieces (p .headed) year) (now (out .exit)) (r .out) ⌝ }
+    ensures { λ r. ⌜ tallyOf r ≡ withHeading true (tallyOf p) ⌝ }
+{
     if p.headed {
         return p;
     }
@@ -86,7 +102,9 @@ fn head(p: Page, out: &mut [u8], year: u16) -> Page {
 }
 
 // One rule more of a list: the mark before it, its name as a number and as text.
-fn put_rule(o: Out, out: &mut [u8], mark: &[u8], name: u16, names: &[u8], i: usize) -> Out {
+fn put_rule(o: Out, out: &mut [u8], mark: &[u8], name: u16, names: &[u8], i: usize) -> Out
+    ensures { λ r. ⌜ Puts (now (out .entry)) o (rulePieces (now (mark .entry)) name (nameOf i (now (names .entry)))) (now (out .exit)) r ⌝ }
+{
     let a = words::put_labelled(o, out, mark, name as u64);
     let b = words::put_text(a, out, b" ");
     words::put_name(b, out, names, i)
@@ -101,6 +119,8 @@ struct Listed {
 // Rule i, if it is a computed one of the lunar month.
 fn put_next(l: Listed, out: &mut [u8], month: u16, rules: &[u16], names: &[u8], i: usize) -> Listed
     requires { ⌜ i * 8 + 8 ≤ length (now rules) ⌝ }
+    ensures { λ q. ⌜ Puts (now (out .entry)) (l .out) (itemPieces (now (names .entry)) month i (l .some) (ruleAt (now (rules .entry)) i)) (now (out .exit)) (q .out) ⌝ }
+    ensures { λ q. ⌜ q .some ≡ (l .some || isOf month (ruleAt (now (rules .entry)) i)) ⌝ }
 {
     let r = rules::rule_at(rules, i);
     let o = l.out;
@@ -120,7 +140,9 @@ fn put_next(l: Listed, out: &mut [u8], month: u16, rules: &[u16], names: &[u8], 
 }
 
 // The end of a line of rules.
-fn put_end(l: Listed, out: &mut [u8]) -> Out {
+fn put_end(l: Listed, out: &mut [u8]) -> Out
+    ensures { λ r. ⌜ Puts (now (out .entry)) (l .out) (endOf (l .some) ∷ []) (now (out .exit)) r ⌝ }
+{
     let o = l.out;
     if l.some {
         return words::put_text(o, out, b"\n");
@@ -129,7 +151,9 @@ fn put_end(l: Listed, out: &mut [u8]) -> Out {
 }
 
 // The computed rules of a lunar month, to the line's end.
-fn put_rules(o: Out, out: &mut [u8], month: u16, rules: &[u16], names: &[u8]) -> Out {
+fn put_rules(o: Out, out: &mut [u8], month: u16, rules: &[u16], names: &[u8]) -> Out
+    ensures { λ r. ⌜ Puts (now (out .entry)) o (listPieces (now (names .entry)) month 0 false (rulesOf (now (rules .entry)))) (now (out .exit)) r ⌝ }
+{
     let mut l = Listed {
         out: o,
         some: false,
@@ -144,7 +168,9 @@ fn put_rules(o: Out, out: &mut [u8], month: u16, rules: &[u16], names: &[u8]) ->
 }
 
 // A line with the rules of a lunar month.
-fn put_month_rules(o: Out, out: &mut [u8], month: u16, rules: &[u16], names: &[u8]) -> Out {
+fn put_month_rules(o: Out, out: &mut [u8], month: u16, rules: &[u16], names: &[u8]) -> Out
+    ensures { λ r. ⌜ Puts (now (out .entry)) o (rulesPieces (rulesOf (now (rules .entry))) (now (names .entry)) month) (now (out .exit)) r ⌝ }
+{
     let a = words::put_labelled(o, out, b"    rules of lunar month ", month as u64);
     let b = words::put_text(a, out, b":");
     put_rules(b, out, month, rules, names)
@@ -165,7 +191,9 @@ fn month_after(m: u16) -> u16
 }
 
 // The Nepal date and time of a new moon.
-fn put_moment(o: Out, out: &mut [u8], x: UtDay, n: u32) -> Out {
+fn put_moment(o: Out, out: &mut [u8], x: UtDay, n: u32) -> Out
+    ensures { λ r. ⌜ Puts (now (out .entry)) o (momentPieces (x .0) «n») (now (out .exit)) r ⌝ }
+{
     let a = words::put_text(o, out, b"  new moon ");
     let b = words::put_date(a, out, n);
     let c = words::put_text(b, out, b" ");
@@ -173,7 +201,9 @@ fn put_moment(o: Out, out: &mut [u8], x: UtDay, n: u32) -> Out {
 }
 
 // What a new moon opens by the engine's rule.
-fn put_opening(o: Out, out: &mut [u8], date: BsDate, opens: bool) -> Out {
+fn put_opening(o: Out, out: &mut [u8], date: BsDate, opens: bool) -> Out
+    ensures { λ r. ⌜ Puts (now (out .entry)) o (openingPieces date opens) (now (out .exit)) r ⌝ }
+{
     if opens {
         let a = words::put_labelled(o, out, b", opens lunar month ", date.month as u64);
         return words::put_text(a, out, b"\n");
@@ -184,7 +214,9 @@ fn put_opening(o: Out, out: &mut [u8], date: BsDate, opens: bool) -> Out {
 }
 
 // How long before or after what, in a month.
-fn put_where(o: Out, out: &mut [u8], minutes: u32, side: &[u8], date: BsDate) -> Out {
+fn put_where(o: Out, out: &mut [u8], minutes: u32, side: &[u8], date: BsDate) -> Out
+    ensures { λ r. ⌜ Puts (now (out .entry)) o (wherePieces minutes (now (side .entry)) date) (now (out .exit)) r ⌝ }
+{
     let a = words::put_text(o, out, b", ");
     let b = words::put_span(a, out, minutes);
     let c = words::put_text(b, out, side);
@@ -200,7 +232,9 @@ fn put_after(
     minutes: u32,
     rules: &[u16],
     names: &[u8],
-) -> Out {
+) -> Out
+    ensures { λ r. ⌜ Puts (now (out .entry)) o (afterPieces (rulesOf (now (rules .entry))) (now (names .entry)) date opens minutes) (now (out .exit)) r ⌝ }
+{
     let a = put_where(o, out, minutes, b" after the beginning of ", date);
     let b = put_opening(a, out, date, opens);
     let c = put_month_rules(b, out, month_before(date.month), rules, names);
@@ -216,7 +250,9 @@ fn put_before(
     minutes: u32,
     rules: &[u16],
     names: &[u8],
-) -> Out {
+) -> Out
+    ensures { λ r. ⌜ Puts (now (out .entry)) o (beforePieces (rulesOf (now (rules .entry))) (now (names .entry)) date opens minutes) (now (out .exit)) r ⌝ }
+{
     let a = put_where(o, out, minutes, b" before the end of ", date);
     let b = put_opening(a, out, date, opens);
     let c = put_month_rules(b, out, date.month, rules, names);
@@ -224,13 +260,15 @@ fn put_before(
 }
 
 // The page with one doubtful new moon more.
-fn tallied(p: Page, o: Out, near: bool, first: bool, opens: bool) -> Page {
+fn tallied(p: Page, o: Out, near: bool, first: bool, opens: bool) -> Page
+    ensures { λ r. ⌜ (r .out ≡ o) × (tallyOf r ≡ doubted near first opens (tallyOf p)) ⌝ }
+{
     Page {
         out: o,
         headed: true,
-        near: if near { more(p.near) } else { p.near },
-        first: if first { more(p.first) } else { p.first },
-        second: if opens { p.second } else { more(p.second) },
+        near: more_if(near, p.near),
+        first: more_if(first, p.first),
+        second: more_if(!opens, p.second),
         empty: p.empty,
     }
 }
@@ -246,7 +284,9 @@ fn put_dated(
     opens: bool,
     rules: &[u16],
     names: &[u8],
-) -> Page {
+) -> Page
+    ensures { λ r. ⌜ sheet (now (out .exit)) r ≡ datedLine (rulesOf (now (rules .entry))) (now (names .entry)) (x .0) «n» date opens len (sheet (now (out .entry)) p) ⌝ }
+{
     match crate::near(x, n, date.day, len) {
         Nearness::After(minutes) => {
             let h = head(p, out, date.year);
@@ -285,7 +325,9 @@ fn put_dated(
 }
 
 // Whether a new moon is the one that opens a lunar month.
-fn opens_month(m: Months, month: u16, x: f64) -> bool {
+fn opens_month(m: Months, month: u16, x: f64) -> bool
+    ensures { λ r. ⌜ r ≡ opensPlace m month x ⌝ }
+{
     if month < 1 {
         return false;
     }
@@ -296,7 +338,34 @@ fn opens_month(m: Months, month: u16, x: f64) -> bool {
     m.has[j] & (m.moon[j] == x)
 }
 
-// A new moon of the year, if it is doubtful.
+// A new moon on a date of the year, if it is doubtful.
+fn put_placed(
+    p: Page,
+    out: &mut [u8],
+    table: Table,
+    rows: &[u16],
+    year: u16,
+    x: UtDay,
+    n: u32,
+    date: BsDate,
+    m: Months,
+    rules: &[u16],
+    names: &[u8],
+) -> Page
+    requires { ⌜ (accepted table (now rows) ≡ true) × Opened (flat table (now rows)) year m ⌝ }
+    ensures { λ r. ⌜ sheet (now (out .exit)) r ≡ placedLine (flat table (now (rows .entry))) year (rulesOf (now (rules .entry))) (now (names .entry)) (x .0) «n» date (sheet (now (out .entry)) p) ⌝ }
+{
+    match conversion::month_days(table, rows, date.year, date.month) {
+        MonthDays::Days(len) => {
+            let opens = opens_month(m, date.month, x.0);
+            put_dated(p, out, x, n, date, len, opens, rules, names)
+        }
+        MonthDays::NoYear => p,
+        MonthDays::NoMonth => p,
+    }
+}
+
+// A new moon, if it is doubtful and its day is one of the year.
 fn put_moon(
     p: Page,
     out: &mut [u8],
@@ -308,7 +377,8 @@ fn put_moon(
     rules: &[u16],
     names: &[u8],
 ) -> Page
-    requires { ⌜ accepted table (now rows) ≡ true ⌝ }
+    requires { ⌜ (accepted table (now rows) ≡ true) × Opened (flat table (now rows)) year m ⌝ }
+    ensures { λ r. ⌜ sheet (now (out .exit)) r ≡ moonLine (flat table (now (rows .entry))) year (rulesOf (now (rules .entry))) (now (names .entry)) (x .0) (sheet (now (out .entry)) p) ⌝ }
 {
     let Dated::On(n, date) = crate::date_of(table, rows, x) else {
         return p;
@@ -316,11 +386,7 @@ fn put_moon(
     if date.year != year {
         return p;
     }
-    let MonthDays::Days(len) = conversion::month_days(table, rows, date.year, date.month) else {
-        return p;
-    };
-    let opens = opens_month(m, date.month, x.0);
-    put_dated(p, out, x, n, date, len, opens, rules, names)
+    put_placed(p, out, table, rows, year, x, n, date, m, rules, names)
 }
 
 // The doubtful ones of the first n new moons that were found around a year.
@@ -336,7 +402,9 @@ fn put_moons(
     rules: &[u16],
     names: &[u8],
 ) -> Page
-    requires { ⌜ (accepted table (now rows) ≡ true) × (n ≤ 1024) × (length (now found) ≡ 1024) ⌝ }
+    requires { ⌜ (accepted table (now rows) ≡ true) × Opened (flat table (now rows)) year m ⌝ }
+    requires { ⌜ (n ≤ 1024) × (length (now found) ≡ 1024) ⌝ }
+    ensures { λ r. ⌜ sheet (now (out .exit)) r ≡ moonLines (flat table (now (rows .entry))) year (rulesOf (now (rules .entry))) (now (names .entry)) (take «n» (now (found .entry))) (sheet (now (out .entry)) p) ⌝ }
 {
     let mut q = p;
     let mut i = 0;
@@ -349,7 +417,9 @@ fn put_moons(
 }
 
 // The line of a solar month without a new moon.
-fn put_none(o: Out, out: &mut [u8], year: u16, month: u16) -> Out {
+fn put_none(o: Out, out: &mut [u8], year: u16, month: u16) -> Out
+    ensures { λ r. ⌜ Puts (now (out .entry)) o (nonePieces year month) (now (out .exit)) r ⌝ }
+{
     let a = words::put_text(o, out, b"  no new moon in ");
     let b = words::put_month(a, out, year, month);
     let c = words::put_labelled(b, out, b": nothing opens lunar month ", month as u64);
@@ -365,7 +435,9 @@ fn put_unopened(
     month: u16,
     rules: &[u16],
     names: &[u8],
-) -> Page {
+) -> Page
+    ensures { λ r. ⌜ sheet (now (out .exit)) r ≡ monthLine (rulesOf (now (rules .entry))) (now (names .entry)) year opened month (sheet (now (out .entry)) p) ⌝ }
+{
     if opened {
         return p;
     }
@@ -384,7 +456,9 @@ fn put_unopened(
 }
 
 // The lunar months of the year that no new moon opens.
-fn put_empty(p: Page, out: &mut [u8], year: u16, m: Months, rules: &[u16], names: &[u8]) -> Page {
+fn put_empty(p: Page, out: &mut [u8], year: u16, m: Months, rules: &[u16], names: &[u8]) -> Page
+    ensures { λ r. ⌜ sheet (now (out .exit)) r ≡ monthLines (rulesOf (now (rules .entry))) (now (names .entry)) year (hasPlace m) 0 12 (sheet (now (out .entry)) p) ⌝ }
+{
     let mut q = p;
     let mut j: u16 = 0;
     while j < 12 {
@@ -422,6 +496,7 @@ pub fn put_year(
     names: &[u8],
 ) -> Page
     requires { ⌜ accepted table (now rows) ≡ true ⌝ }
+    ensures { λ r. ⌜ sheet (now (out .exit)) r ≡ yearPage (flat table (now (rows .entry))) year (rulesOf (now (rules .entry))) (now (names .entry)) (sheet (now (out .entry)) p) ⌝ }
 {
     let mut found = [0.0; 1024];
     let YearDays::Days(first, last) = months::year_days(table, rows, year) else {
@@ -445,7 +520,9 @@ pub fn put_year(
 }
 
 // How many new moons are near a boundary.
-fn put_near(p: Page, o: Out, out: &mut [u8]) -> Out {
+fn put_near(p: Page, o: Out, out: &mut [u8]) -> Out
+    ensures { λ r. ⌜ Puts (now (out .entry)) o (nearPieces (p .near) (p .first)) (now (out .exit)) r ⌝ }
+{
     let a = words::put_number(o, out, p.near as u64);
     let b = words::put_labelled(
         a,
@@ -457,7 +534,9 @@ fn put_near(p: Page, o: Out, out: &mut [u8]) -> Out {
 }
 
 // The counts of a page, to the line's end.
-pub fn put_counts(p: Page, o: Out, out: &mut [u8]) -> Out {
+pub fn put_counts(p: Page, o: Out, out: &mut [u8]) -> Out
+    ensures { λ r. ⌜ Puts (now (out .entry)) o (countPieces p) (now (out .exit)) r ⌝ }
+{
     let a = put_near(p, o, out);
     let b = words::put_labelled(a, out, b"new moons that open nothing ", p.second as u64);
     let c = words::put_labelled(

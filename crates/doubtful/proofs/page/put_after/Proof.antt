@@ -1,0 +1,44 @@
+-- `doubtful::page::put_after` meets its contract. Assumes nothing.
+use Rattle.doubtful.specs.Page.{afterPieces}
+use Rattle.doubtful.proofs.Pieces.{then}
+use borrow.Author.Needs.{needs}
+use Rattle.doubtful.proofs.page.put_after.Statement.{statement}
+use Rattle.doubtful.proofs.page.put_after.Tie as tie
+
+slice-aggregate-put-where : tie.Need-slice-aggregate-put-where
+slice-aggregate-put-where c = search needs
+
+put-where-requires : tie.Need-put-where-requires
+put-where-requires c κs = search needs
+
+put-opening-requires : tie.Need-put-opening-requires
+put-opening-requires c κs = search needs
+
+month-before-requires : tie.Need-month-before-requires
+month-before-requires c κs = search needs
+
+put-month-rules-requires : tie.Need-put-month-rules-requires
+put-month-rules-requires c κs = search needs
+
+put-month-rules-requires-2 : tie.Need-put-month-rules-requires-2
+put-month-rules-requires-2 c κs = search needs
+
+same-length : tie.Need-same-length
+same-length c = search needs
+
+returns : tie.Need-returns
+unfolding afterPieces
+returns c = rw (← c .before .before .before .before .before .before .before .month-before .ensures) (then (c .before .before .before .before .before .before .before .before .before .before .before .before .before .before .before .put-where .ensures) (then (c .before .before .before .before .before .before .before .before .before .before .before .put-opening .ensures) (then (c .before .before .before .before .before .before .put-month-rules .ensures) (c .before .before .put-month-rules2 .ensures))))
+
+pub put-after-spec : {M : Type 1} → statement M
+put-after-spec =
+    tie.close
+    (tie.spec
+    slice-aggregate-put-where
+    put-where-requires
+    put-opening-requires
+    month-before-requires
+    put-month-rules-requires
+    put-month-rules-requires-2
+    same-length
+    returns)

@@ -1,0 +1,40 @@
+-- `doubtful::page::put_where` meets its contract. Assumes nothing.
+use Rattle.doubtful.specs.Page.{wherePieces}
+use Rattle.doubtful.proofs.Pieces.{then}
+use borrow.Author.Needs.{needs}
+use Rattle.doubtful.proofs.page.put_where.Statement.{statement}
+use Rattle.doubtful.proofs.page.put_where.Tie as tie
+
+slice-aggregate-put-text : tie.Need-slice-aggregate-put-text
+slice-aggregate-put-text c = search needs
+
+put-text-requires : tie.Need-put-text-requires
+put-text-requires c κs = search needs
+
+put-span-requires : tie.Need-put-span-requires
+put-span-requires c κs = search needs
+
+put-text-requires-2 : tie.Need-put-text-requires-2
+put-text-requires-2 c κs = search needs
+
+put-month-requires : tie.Need-put-month-requires
+put-month-requires c κs = search needs
+
+same-length : tie.Need-same-length
+same-length c = search needs
+
+returns : tie.Need-returns
+unfolding wherePieces
+returns c = then (c .before .before .before .before .before .before .before .before .before .before .before .before .before .before .put-text .ensures) (then (c .before .before .before .before .before .before .before .before .before .before .put-span .ensures) (then (c .before .before .before .before .before .before .put-text2 .ensures) (c .before .before .put-month .ensures)))
+
+pub put-where-spec : {M : Type 1} → statement M
+put-where-spec =
+    tie.close
+    (tie.spec
+    slice-aggregate-put-text
+    put-text-requires
+    put-span-requires
+    put-text-requires-2
+    put-month-requires
+    same-length
+    returns)

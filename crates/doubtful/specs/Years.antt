@@ -1,0 +1,172 @@
+-- What a BS year puts on a page: its heading once, its doubtful new moons, and its lunar months that no new moon opens. Assumes nothing.
+use Prim.Native.Nat.{ℕ, zero, suc, _+_, _-_, _<_}
+use mathlib.Core.Bool.{Bool, true, false, cond, not, _&&_}
+use mathlib.Core.Path.{_≡_}
+use mathlib.Core.List.{List, [], _∷_, _++_}
+use mathlib.Core.Option.{Option, some, none}
+use lib.Dec.{eqb}
+use lib.ListN.{getD}
+use lib.Ieee.{Float, eq}
+use Rattle.paper.specs.Answers.{Answer, answered, refused}
+use Rattle.text.specs.Digits.{digits}
+use Rattle.text.specs.Quoted.{bytes}
+use Rattle.replay.specs.Gathered.{Gathered, gathered}
+use Rattle.conversion.specs.declared.BsDate.{BsDate}
+use Rattle.conversion.specs.Calendar.{Calendar, monthOk, monthLen}
+use Rattle.rules.specs.declared.Rule.{Rule}
+use Rattle.rules.specs.Days.{holds}
+use Rattle.rules.specs.Festivals.{opening}
+use Rattle.festivals.specs.Kathmandu.{moonsAround, kathmandu}
+use Rattle.festivals.specs.Months.{yearDays, monthAt}
+use Rattle.festivals.specs.declared.months.Months.{Months}
+use Rattle.doubtful.specs.Near.{datedMoon, nearness}
+use Rattle.doubtful.specs.Numbers.{oneMore}
+use Rattle.doubtful.specs.Pieces.{Text, putPieces}
+use Rattle.doubtful.specs.Page.{momentPieces, openingPieces, nonePieces, rulesPieces, afterPieces, beforePieces}
+use Rattle.doubtful.specs.declared.page.Page.{Page}
+
+-- ---- counts
+
+-- whether the year has its heading; the new moons near a boundary, of these those on a month's first day; those that open nothing; and the lunar
+-- months that none opens
+pub record Tally : Type 0 where
+  pub headed : Bool
+  pub near : ℕ
+  pub first : ℕ
+  pub second : ℕ
+  pub empty : ℕ
+
+-- of a page
+abbrev pub tallyOf : Page → Tally
+tallyOf p = record { headed = p .headed; near = p .near; first = p .first; second = p .second; empty = p .empty }
+
+-- the same counts, and whether there is a heading
+abbrev pub withHeading : Bool → Tally → Tally
+withHeading headed t = record { headed = headed; near = t .near; first = t .first; second = t .second; empty = t .empty }
+
+-- one more where it counts
+abbrev pub moreIf : Bool → ℕ → ℕ
+moreIf counts n = cond counts (oneMore n) n
+
+-- a new moon more: whether it is near a boundary, on a month's first day, and opens a lunar month
+unfoldable pub doubted : Bool → Bool → Bool → Tally → Tally
+doubted near first opens t =
+    record {
+      headed = true;
+      near = moreIf near (t .near);
+      first = moreIf first (t .first);
+      second = moreIf (not opens) (t .second);
+      empty = t .empty;
+    }
+
+-- a lunar month more that nothing opens
+unfoldable pub unopened : Tally → Tally
+unopened t = record { headed = true; near = t .near; first = t .first; second = t .second; empty = oneMore (t .empty) }
+
+-- ---- a sheet: what is written, and the counts
+
+pub record Sheet : Type 0 where
+  pub written : Gathered
+  pub tally : Tally
+
+-- of a page and its lent buffer
+abbrev pub sheet : List ℕ → Page → Sheet
+sheet buffer p = record { written = gathered buffer (p .out); tally = tallyOf p }
+
+-- the heading of a year, once
+unfoldable pub headingPieces : Bool → ℕ → List Text
+headingPieces headed y = cond headed [] (bytes "BS " ∷ digits y ∷ bytes "\n" ∷ [])
+
+-- lines under the heading of a year, and what they count
+unfoldable pub under : ℕ → List Text → (Tally → Tally) → Sheet → Sheet
+under y pieces count s =
+    record { written = putPieces (s .written) (headingPieces (s .tally .headed) y ++ pieces); tally = count (s .tally) }
+
+-- ---- a new moon
+
+module _ (rules : List Rule) (names : List ℕ) (x : Float) (n : ℕ) (t : BsDate) (opens : Bool) where
+  -- so many minutes after the beginning of a month, or before its end
+  abbrev pub besideLine : Bool → ℕ → Sheet → Sheet
+  besideLine true minutes = under (t .year) (momentPieces x n ++ afterPieces rules names t opens minutes) (doubted true true opens)
+  besideLine false minutes = under (t .year) (momentPieces x n ++ beforePieces rules names t opens minutes) (doubted true false opens)
+
+  -- far from both it is doubtful if it opens nothing
+  abbrev pub nearLine : Option (Bool × ℕ) → Sheet → Sheet
+  nearLine (some d) s = besideLine (d .0) (d .1) s
+  nearLine none s = cond opens s (under (t .year) (momentPieces x n ++ openingPieces t opens) (doubted false false opens) s)
+
+  -- a new moon of day n, which is t, in a month of so many days
+  unfoldable pub datedLine : ℕ → Sheet → Sheet
+  datedLine len s = nearLine (nearness x n (t .day) len) s
+
+-- ---- a lunar month
+
+module _ (rules : List Rule) (names : List ℕ) (y : ℕ) where
+  -- lunar month m of year y, unless it is opened
+  unfoldable pub monthLine : Bool → ℕ → Sheet → Sheet
+  monthLine opened m s = cond opened s (under y (nonePieces y m ++ rulesPieces rules names m) unopened s)
+
+  -- k lunar months, the first of which is the one after j; whether a month is opened, by its place from 0 on
+  unfoldable pub monthLines : (ℕ → Bool) → ℕ → ℕ → Sheet → Sheet
+  monthLines opened j zero s = s
+  monthLines opened j (suc k) s = monthLines opened (j + 1) k (monthLine (opened j) (j + 1) s)
+
+-- ---- a year
+
+module _ (c : Calendar) (y : ℕ) where
+  -- a new moon is the one that opens lunar month m
+  unfoldable pub opensMonth : ℕ → Float → Bool
+  opensMonth m x = holds (opening kathmandu c y m) (λ o. eq o x)
+
+  -- a new moon opens the lunar month of place j
+  unfoldable pub openedAt : ℕ → Bool
+  openedAt j = holds (opening kathmandu c y (j + 1)) (λ o. true)
+
+  -- these are the new moons that open the months of the year
+  abbrev pub Opened : Months → Type 0
+  Opened m = (j : ℕ) → j < 12 → monthAt m j ≡ opening kathmandu c y (j + 1)
+
+  module _ (rules : List Rule) (names : List ℕ) where
+    -- a new moon of day n, which is t, by the length of its month
+    abbrev pub lengthLine : Float → ℕ → BsDate → Answer ℕ → Sheet → Sheet
+    lengthLine x n t (answered len) s = datedLine rules names x n t (opensMonth (t .month) x) len s
+    lengthLine x n t (refused k) s = s
+
+    -- the same, where the table has its month
+    unfoldable pub placedLine : Float → ℕ → BsDate → Sheet → Sheet
+    placedLine x n t s = lengthLine x n t (monthLen c (t .year) (t .month)) s
+
+    -- by its day in Nepal and its date, which may be of another year
+    abbrev pub dayLine : Float → Option (ℕ × BsDate) → Sheet → Sheet
+    dayLine x (some d) s = cond (eqb (d .1 .year) y) (placedLine x (d .0) (d .1) s) s
+    dayLine x none s = s
+
+    -- a new moon, if it is doubtful and its day is one of the year
+    unfoldable pub moonLine : Float → Sheet → Sheet
+    moonLine x s = dayLine x (datedMoon c x) s
+
+    -- new moons, the first first
+    unfoldable pub moonLines : List Float → Sheet → Sheet
+    moonLines [] s = s
+    moonLines (x ∷ xs) s = moonLines xs (moonLine x s)
+
+    -- from its first day to its last: the new moons around them, and then the lunar months that none opens
+    abbrev pub daysPage : Option (ℕ × ℕ) → Sheet → Sheet
+    daysPage (some d) s =
+        monthLines rules names y openedAt 0 12
+        (moonLines (moonsAround (d .0) (d .1)) (record { written = s .written; tally = withHeading false (s .tally) }))
+    daysPage none s = s
+
+    -- a year of the table; another puts nothing
+    unfoldable pub yearPage : Sheet → Sheet
+    yearPage s = daysPage (yearDays c y) s
+
+-- ---- what the twelve places of a year say
+
+-- place j has a new moon
+abbrev pub hasPlace : Months → ℕ → Bool
+hasPlace m j = getD (m .has) j false
+
+-- a new moon is the one at a month's place
+unfoldable pub opensPlace : Months → ℕ → Float → Bool
+opensPlace m month x = monthOk month && holds (monthAt m (month - 1)) (λ o. eq o x)
