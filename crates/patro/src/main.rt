@@ -8,19 +8,29 @@ use conversion::Table;
 use files::RulesRead;
 use files::TableRead;
 use gregorian::Date;
+use refusals::Refusal;
 use words::Asked;
-use words::InForm;
 
-// Today, or a day that no table has where the third argument is no date.
+// Today by the third argument.
 fn today() -> Date {
-    match words::date_at(3) {
-        InForm::Is(date) => date,
-        InForm::Not => Date {
-            year: 1900,
-            month: 1,
-            day: 1,
-        },
+    let mut word = [0u8; 16];
+    let n = os::arg(3, &mut word);
+    words::today(&word[..n])
+}
+
+// What the words from the fourth argument on ask. A word that is longer than its buffer is empty.
+fn from_words() -> Asked {
+    let mut first = [0u8; 16];
+    let mut second = [0u8; 16];
+    let mut third = [0u8; 16];
+    let a = os::arg(4, &mut first);
+    let b = os::arg(5, &mut second);
+    let c = os::arg(6, &mut third);
+    let count = os::arg_count();
+    if count < 4 {
+        return Asked::Other;
     }
+    words::asked_by(count - 4, &first[..a], &second[..b], &third[..c])
 }
 
 // Shows what is asked from the numbers at the front of the two buffers.
@@ -46,8 +56,8 @@ fn main() {
     let mut rows = [0u16; 1677];
     let mut rules = [0u16; 2600];
     let mut names = [0u8; 20800];
-    match words::from_words() {
-        Asked::Other => refusals::other_words(),
-        asked => run(asked, &mut rows, &mut rules, &mut names),
+    match from_words() {
+        Asked::Other => refusals::say(Refusal::OtherWords),
+        question => run(question, &mut rows, &mut rules, &mut names),
     }
 }

@@ -1,11 +1,13 @@
 // A page, worked out by the engine, laid out and written.
 use crate::refusals;
+use crate::refusals::Refusal;
 use crate::words::Asked;
 use conversion::BsAnswer;
 use conversion::Table;
 use gregorian::Date;
 use grid::GridAnswer;
 use grid::Month;
+use libc::STDERR_FILENO;
 use libc::STDOUT_FILENO;
 use wall::Page;
 
@@ -24,11 +26,14 @@ enum Shown {
 // Writes the first n bytes of a page.
 fn write_page(out: &[u8], n: usize) {
     if out.len() <= n {
-        refusals::no_room();
+        refusals::say(Refusal::NoRoom);
         return;
     }
     if !io::write_all(STDOUT_FILENO, &out[..n]) {
-        refusals::say(b"patro: standard output could not be written\n");
+        io::write_all(
+            STDERR_FILENO,
+            b"patro: standard output could not be written\n",
+        );
     }
 }
 
@@ -38,12 +43,12 @@ fn told(answer: GridAnswer) -> Worked {
         GridAnswer::Is(month) => {
             return Worked::Out(month);
         }
-        GridAnswer::BadTable => refusals::bad_table(),
-        GridAnswer::BadRules => refusals::bad_rules(),
-        GridAnswer::NoSuchDate => refusals::no_such_date(),
-        GridAnswer::NoYear => refusals::no_year(),
-        GridAnswer::NoMonth => refusals::no_month(),
-        GridAnswer::NoRoom => refusals::no_room(),
+        GridAnswer::BadTable => refusals::say(Refusal::BadTable),
+        GridAnswer::BadRules => refusals::say(Refusal::BadRules),
+        GridAnswer::NoSuchDate => refusals::say(Refusal::NoSuchDate),
+        GridAnswer::NoYear => refusals::say(Refusal::NoYear),
+        GridAnswer::NoMonth => refusals::say(Refusal::NoMonth),
+        GridAnswer::NoRoom => refusals::say(Refusal::NoRoom),
     }
     Worked::Refused
 }
@@ -117,11 +122,11 @@ fn show_page(
         }
         Shown::Day(day) => {
             if day == 0 {
-                refusals::no_day();
+                refusals::say(Refusal::NoDay);
                 return;
             }
             if m.days < day {
-                refusals::no_day();
+                refusals::say(Refusal::NoDay);
                 return;
             }
             let cell = cell_of(&cells, day);
@@ -154,9 +159,9 @@ fn show_date(today: Date, date: Date, table: Table, rows: &[u16], rules: &[u16],
             rules,
             names,
         ),
-        BsAnswer::BadTable => refusals::bad_table(),
-        BsAnswer::NoSuchDate => refusals::no_such_date(),
-        BsAnswer::Outside => refusals::outside(),
+        BsAnswer::BadTable => refusals::say(Refusal::BadTable),
+        BsAnswer::NoSuchDate => refusals::say(Refusal::NoSuchDate),
+        BsAnswer::Outside => refusals::say(Refusal::Outside),
     }
 }
 
@@ -166,6 +171,6 @@ pub fn show(asked: Asked, today: Date, table: Table, rows: &[u16], rules: &[u16]
         Asked::Month(y, m) => show_page(today, y, m, Shown::Month, table, rows, rules, names),
         Asked::Day(y, m, d) => show_page(today, y, m, Shown::Day(d), table, rows, rules, names),
         Asked::Date(date) => show_date(today, date, table, rows, rules, names),
-        Asked::Other => refusals::other_words(),
+        Asked::Other => refusals::say(Refusal::OtherWords),
     }
 }

@@ -1,44 +1,72 @@
-// The refusals in words, each a line on standard error.
+// Why there is no page, in words.
+ghost use Rattle.text.specs.Written.{Wrote};
+ghost use Rattle.patro.specs.Refusals.{refusalText};
 use libc::STDERR_FILENO;
 
-pub fn say(line: &[u8]) {
-    io::write_all(STDERR_FILENO, line);
+// A refusal of document 01, of which 1 to 7 and 9 can be; or words of another form.
+pub enum Refusal {
+    BadTable,
+    BadRules,
+    NoSuchDate,
+    NoYear,
+    NoMonth,
+    NoDay,
+    Outside,
+    NoRoom,
+    OtherWords,
 }
 
-pub fn bad_table() {
-    say(b"patro: refused, 1: the year table is not good\n");
+// Writes the line that says so, and answers the place after it.
+pub fn put_refusal(out: &mut [u8], at: usize, why: Refusal) -> usize
+    ensures { λ r. ⌜ Wrote (now (out .entry)) at (refusalText why) (now (out .exit)) r ⌝ }
+{
+    match why {
+        Refusal::BadTable => text::put(out, at, b"patro: refused, 1: the year table is not good\n"),
+        Refusal::BadRules => text::put(out, at, b"patro: refused, 2: the rules are not good\n"),
+        Refusal::NoSuchDate => text::put(
+            out,
+            at,
+            b"patro: refused, 3: there is no such Gregorian date from 1900 to 2149\n",
+        ),
+        Refusal::NoYear => text::put(
+            out,
+            at,
+            b"patro: refused, 4: the BS year is not in the year table\n",
+        ),
+        Refusal::NoMonth => text::put(out, at, b"patro: refused, 5: the BS month is not 1 to 12\n"),
+        Refusal::NoDay => text::put(
+            out,
+            at,
+            b"patro: refused, 6: the BS day is 0 or past the month's end\n",
+        ),
+        Refusal::Outside => text::put(
+            out,
+            at,
+            b"patro: refused, 7: the Gregorian date is before or after the year table\n",
+        ),
+        Refusal::NoRoom => text::put(
+            out,
+            at,
+            b"patro: refused, 9: the page is longer than this program can hold\n",
+        ),
+        Refusal::OtherWords => text::put(
+            out,
+            at,
+            b"patro: not in form: give a BS year and month (2083 7), a BS date (2083 7 29) or a Gregorian date (2026-11-15)\n",
+        ),
+    }
 }
 
-pub fn bad_rules() {
-    say(b"patro: refused, 2: the rules are not good\n");
+// Writes the first n bytes of a buffer to standard error.
+fn write_front(out: &[u8], n: usize) {
+    if n <= out.len() {
+        io::write_all(STDERR_FILENO, &out[..n]);
+    }
 }
 
-pub fn no_such_date() {
-    say(b"patro: refused, 3: there is no such Gregorian date from 1900 to 2149\n");
-}
-
-pub fn no_year() {
-    say(b"patro: refused, 4: the BS year is not in the year table\n");
-}
-
-pub fn no_month() {
-    say(b"patro: refused, 5: the BS month is not 1 to 12\n");
-}
-
-pub fn no_day() {
-    say(b"patro: refused, 6: the BS day is 0 or past the month's end\n");
-}
-
-pub fn outside() {
-    say(b"patro: refused, 7: the Gregorian date is before or after the year table\n");
-}
-
-pub fn no_room() {
-    say(b"patro: refused, 9: the page is longer than this program can hold\n");
-}
-
-pub fn other_words() {
-    say(
-        b"patro: not in form: give a BS year and month (2083 7), a BS date (2083 7 29) or a Gregorian date (2026-11-15)\n",
-    );
+// Writes that line to standard error.
+pub fn say(why: Refusal) {
+    let mut out = [0u8; 128];
+    let n = put_refusal(&mut out, 0, why);
+    write_front(&out, n);
 }

@@ -1,8 +1,8 @@
 // What is asked: the words of the command line, read.
+ghost use mathlib.Core.Path.{_≡_};
+ghost use Rattle.patro.specs.Words.{dateIn, orFirst, askedDate, askedMonth, askedDay, askedBy};
 use gregorian::Date;
-use text::Cursor;
-use text::Passed;
-use text::Read;
+use text::Numbers;
 use text::Whole;
 
 // A BS month, a BS date, a Gregorian date, or words of another form.
@@ -19,95 +19,81 @@ pub enum InForm {
     Not,
 }
 
-// A number that was read, up to 65,535.
-fn small(n: u64) -> u16 {
-    if n < 65536 { n as u16 } else { 65535 }
-}
-
-// A dash and two digits at a place.
-fn next_two(s: &[u8], c: Cursor) -> Read {
-    let Passed::To(d) = c.pass(s, b"-") else {
-        return Read::NotOne;
-    };
-    d.wide(s, 2)
-}
-
 // A whole word as YYYY-MM-DD.
-fn date_of(s: &[u8]) -> InForm {
-    let Read::Number(y, a) = text::start().wide(s, 4) else {
+fn date_of(s: &[u8]) -> InForm
+    ensures { λ r. ⌜ r ≡ dateIn (now (s .entry)) ⌝ }
+{
+    let Numbers::Are(year, month, day) = text::dashed(s, text::start(), 4, 2) else {
         return InForm::Not;
     };
-    let Read::Number(m, b) = next_two(s, a) else {
-        return InForm::Not;
-    };
-    let Read::Number(d, end) = next_two(s, b) else {
-        return InForm::Not;
-    };
-    if end.at_end(s) {
-        return InForm::Is(Date {
-            year: small(y),
-            month: small(m),
-            day: small(d),
-        });
-    }
-    InForm::Not
+    InForm::Is(Date { year, month, day })
 }
 
-// Argument i as a number. A longer word than the buffer is none.
-fn number_at(i: usize) -> Whole {
-    let mut word = [0u8; 16];
-    let n = os::arg(i, &mut word);
-    text::whole_number(&word[..n], 65535)
-}
-
-// Argument i as a Gregorian date.
-pub fn date_at(i: usize) -> InForm {
-    let mut word = [0u8; 16];
-    let n = os::arg(i, &mut word);
-    date_of(&word[..n])
+// Today by a word, or a day that no table has where the word is no date.
+pub fn today(s: &[u8]) -> Date
+    ensures { λ r. ⌜ r ≡ orFirst (dateIn (now (s .entry))) ⌝ }
+{
+    let InForm::Is(date) = date_of(s) else {
+        return Date {
+            year: 1900,
+            month: 1,
+            day: 1,
+        };
+    };
+    date
 }
 
 // One word: a Gregorian date.
-fn one_word() -> Asked {
-    match date_at(4) {
-        InForm::Is(date) => Asked::Date(date),
-        InForm::Not => Asked::Other,
-    }
+fn one_word(s: &[u8]) -> Asked
+    ensures { λ r. ⌜ r ≡ askedDate (dateIn (now (s .entry))) ⌝ }
+{
+    let InForm::Is(date) = date_of(s) else {
+        return Asked::Other;
+    };
+    Asked::Date(date)
 }
 
 // Two words: a BS month.
-fn two_words() -> Asked {
-    let Whole::Is(y) = number_at(4) else {
+fn two_words(a: &[u8], b: &[u8]) -> Asked
+    ensures { λ r. ⌜ r ≡ askedMonth (now (a .entry)) (now (b .entry)) ⌝ }
+{
+    let Whole::Is(y) = text::whole_number(a, 65535) else {
         return Asked::Other;
     };
-    let Whole::Is(m) = number_at(5) else {
+    let Whole::Is(m) = text::whole_number(b, 65535) else {
         return Asked::Other;
     };
     Asked::Month(y, m)
 }
 
 // Three words: a BS date.
-fn three_words() -> Asked {
-    let Asked::Month(y, m) = two_words() else {
+fn three_words(a: &[u8], b: &[u8], c: &[u8]) -> Asked
+    ensures { λ r. ⌜ r ≡ askedDay (now (a .entry)) (now (b .entry)) (now (c .entry)) ⌝ }
+{
+    let Whole::Is(y) = text::whole_number(a, 65535) else {
         return Asked::Other;
     };
-    let Whole::Is(d) = number_at(6) else {
+    let Whole::Is(m) = text::whole_number(b, 65535) else {
+        return Asked::Other;
+    };
+    let Whole::Is(d) = text::whole_number(c, 65535) else {
         return Asked::Other;
     };
     Asked::Day(y, m, d)
 }
 
-// The words from the fourth argument on.
-pub fn from_words() -> Asked {
-    let count = os::arg_count();
-    if count == 5 {
-        return one_word();
+// What is asked by so many words, three at most.
+pub fn asked_by(count: usize, a: &[u8], b: &[u8], c: &[u8]) -> Asked
+    ensures { λ r. ⌜ r ≡ askedBy count (now (a .entry)) (now (b .entry)) (now (c .entry)) ⌝ }
+{
+    if count == 1 {
+        return one_word(a);
     }
-    if count == 6 {
-        return two_words();
+    if count == 2 {
+        return two_words(a, b);
     }
-    if count == 7 {
-        return three_words();
+    if count == 3 {
+        return three_words(a, b, c);
     }
     Asked::Other
 }

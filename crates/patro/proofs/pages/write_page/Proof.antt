@@ -6,8 +6,8 @@ use borrow.Author.Needs.{needs}
 use Rattle.patro.proofs.pages.write_page.Statement.{statement}
 use Rattle.patro.proofs.pages.write_page.Tie as tie
 
-no-room-requires : tie.Need-no-room-requires
-no-room-requires c κs = search needs
+say-requires : tie.Need-say-requires
+say-requires c κs = search needs
 
 returns : tie.Need-returns
 returns c = search needs
@@ -18,11 +18,11 @@ slice-aggregate-write-all c = sym (length-take-le (c .before .before .before .ar
 write-all-requires : tie.Need-write-all-requires
 write-all-requires c κs = search needs
 
-slice-aggregate-say : tie.Need-slice-aggregate-say
-slice-aggregate-say c = search needs
+slice-aggregate-write-all-2 : tie.Need-slice-aggregate-write-all-2
+slice-aggregate-write-all-2 c = search needs
 
-say-requires : tie.Need-say-requires
-say-requires c κs = search needs
+write-all-requires-2 : tie.Need-write-all-requires-2
+write-all-requires-2 c κs = search needs
 
 returns-2 : tie.Need-returns-2
 returns-2 c = search needs
@@ -34,11 +34,11 @@ pub write-page-spec : {M : Type 1} → statement M
 write-page-spec =
     tie.close
     (tie.spec
-    no-room-requires
+    say-requires
     returns
     slice-aggregate-write-all
     write-all-requires
-    slice-aggregate-say
-    say-requires
+    slice-aggregate-write-all-2
+    write-all-requires-2
     returns-2
     returns-3)

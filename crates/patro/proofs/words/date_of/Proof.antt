@@ -1,0 +1,34 @@
+-- `patro::words::date_of` meets its contract. Assumes nothing.
+use Rattle.patro.proofs.Readings.{date-none, date-some}
+use borrow.Author.Needs.{needs}
+use Rattle.patro.proofs.words.date_of.Statement.{statement}
+use Rattle.patro.proofs.words.date_of.Tie as tie
+
+start-requires : tie.Need-start-requires
+start-requires c κs = search needs
+
+dashed-requires : tie.Need-dashed-requires
+dashed-requires c κs = search needs
+
+enum-known-year : tie.Need-enum-known-year
+enum-known-year c = search needs
+
+enum-told : tie.Need-enum-told
+enum-told c = search needs
+
+returns : tie.Need-returns
+returns c = date-none (c .before .before .before .before .before .args .s .now) (c .before .before .before .start .result .at) (c .before .before .before .start .ensures) (c .before .before .dashed .ensures) (c .enum-told .given .1)
+
+returns-2 : tie.Need-returns-2
+returns-2 c = date-some (c .before .before .before .before .before .before .args .s .now) (c .before .before .before .before .start .result .at) (c .before .before .before .before .start .ensures) (c .before .before .before .dashed .ensures) (c .before .year .given .1)
+
+pub date-of-spec : {M : Type 1} → statement M
+date-of-spec =
+    tie.close
+    (tie.spec
+    start-requires
+    dashed-requires
+    enum-known-year
+    enum-told
+    returns
+    returns-2)
