@@ -2,3 +2,4 @@
 pub mod Forms
 pub mod Loans
 pub mod Keys
+pub mod Runs

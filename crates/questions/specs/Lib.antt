@@ -3,3 +3,4 @@ pub mod Lending
 pub mod Lists
 pub mod Months
 pub mod Questions
+pub mod Runs

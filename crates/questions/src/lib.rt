@@ -1,9 +1,9 @@
 // The answers to the line language: what lines lend, and what each question is answered over it.
 ghost use mathlib.Core.Path.{_≡_};
-ghost use Prim.Native.Nat.{_-_, _≤_};
 ghost use Rattle.conversion.specs.Flat.{flat};
 ghost use Rattle.replay.specs.Gathered.{Gathers};
 ghost use Rattle.questions.specs.Questions.{replyTo, wordsBy, answerWords};
+ghost use Rattle.questions.specs.Runs.{Lends, Answers, TurnDone};
 
 mod lending;
 mod lists;
@@ -84,7 +84,7 @@ fn step(
     line: &mut [u8],
     out: &mut [u8],
 ) -> Stepped
-    ensures { λ r. ⌜ r .turn .left ≤ t .left - 1 ⌝ }
+    ensures { λ r. ⌜ TurnDone t (record { lent = lent; rows = now (rows .entry); rules = now (rules .entry) }) (now (piece .entry)) (now (line .entry)) (now (out .entry)) (now (rows .exit)) (now (rules .exit)) (now (piece .exit)) (now (line .exit)) (now (out .exit)) r ⌝ }
 {
     let w = replay::split(line, t.len);
     let o = t.out;
@@ -104,7 +104,9 @@ fn run(
     piece: &mut [u8],
     line: &mut [u8],
     out: &mut [u8],
-) {
+)
+    ensures { λ _. ⌜ Answers (record { lent = «first»; rows = now (rows .entry); rules = now (rules .entry) }) (now (out .entry)) (now (rows .exit)) (now (rules .exit)) (now (out .exit)) ⌝ }
+{
     let mut t = replay::begin(piece, line, out);
     let mut lent = first;
     while 0 < t.left {
@@ -115,7 +117,9 @@ fn run(
 }
 
 // Answers every line of standard input on standard output, over what is lent at first and what lines lend in its place.
-pub fn answer_from(first: Lent, rows: &mut [u16], rules: &mut [u16]) {
+pub fn answer_from(first: Lent, rows: &mut [u16], rules: &mut [u16])
+    ensures { λ _. ⌜ Lends (record { lent = «first»; rows = now (rows .entry); rules = now (rules .entry) }) (now (rows .exit)) (now (rules .exit)) ⌝ }
+{
     let mut piece = [0u8; 4096];
     let mut line = [0u8; 4096];
     let mut out = [0u8; 8192];

@@ -1,12 +1,15 @@
--- `questions::run` is proved: the turns left fall. Assumes nothing.
-use mathlib.Core.Path.{_≡_}
+-- `questions::run` meets its contract: what is lent and gathered is that of the lines so far. Assumes nothing.
+use mathlib.Core.Path.{_≡_, refl, _∙_}
 use lib.ListN.{length}
+use native.Mathlib.Omega.{arith}
+use Rattle.replay.proofs.Turns.{turn-goes}
+use Rattle.questions.proofs.Runs.{Runs, runs-first, runs-turn, runs-all}
 use borrow.Author.Needs.{needs}
 use Rattle.questions.proofs.run.Statement.{statement}
 use Rattle.questions.proofs.run.Tie as tie
 
 abbrev Inv-loop : tie.InvT-loop
-Inv-loop rows₀ rules₀ piece₀ line₀ out₀ t₀ lent₀ rows rules piece line out t lent = (length rows ≡ length rows₀) × (length rules ≡ length rules₀) × (length piece ≡ length piece₀) × (length line ≡ length line₀) × (length out ≡ length out₀)
+Inv-loop rows₀ rules₀ piece₀ line₀ out₀ t₀ lent₀ rows rules piece line out t lent = (length rows ≡ length rows₀) × (length rules ≡ length rules₀) × (length piece ≡ length piece₀) × (length line ≡ length line₀) × (length out ≡ length out₀) × Runs (record { lent = lent₀; rows = rows₀; rules = rules₀ }) out₀ rows rules out t lent
 
 abbrev μ-loop : tie.MeasureT-loop
 μ-loop rows₀ rules₀ piece₀ line₀ out₀ t₀ lent₀ rows rules piece line out t lent = t .left
@@ -15,16 +18,25 @@ begin-requires : tie.Need-begin-requires Inv-loop μ-loop
 begin-requires c κs = search needs
 
 loop-holds : tie.Need-loop-holds Inv-loop μ-loop
-loop-holds c = search needs
+loop-holds c = let a = c .before .before .before .before .before .before .before .before .before .before .before .before .before .args in
+    (refl, refl, refl, refl, refl, runs-first (a .first) (a .rows .now) (a .rules .now) (turn-goes (c .before .before .before .before .begin .ensures)))
 
 step-requires : tie.Need-step-requires Inv-loop μ-loop
 step-requires c κs = search needs
 
 loop-less : tie.Need-loop-less Inv-loop μ-loop
-loop-less c = search needs
+loop-less c = omega (arith, c .before .before .before .before .before .before .before .before .before .before .before .before .step .ensures .turn .fewer, c .before .before .before .before .before .before .before .before .before .before .before .before .before .before .before .before .before .before .if1 .taken)
 
 loop-again : tie.Need-loop-again Inv-loop μ-loop
-loop-again c = search needs
+loop-again c =
+    let l = c .before .before .before .before .before .before .before .before .before .before .before .before .before .before .before .before .before .before .before .before .loop in
+    let s = c .before .before .before .before .before .before .before .before .before .before .before .before .step in
+    (s .kept .1 .1 .0 ∙ l .inv .0,
+      s .kept .1 .1 .1 .0 ∙ l .inv .1,
+      s .kept .1 .1 .1 .1 .0 ∙ l .inv .2,
+      s .kept .1 .1 .1 .1 .1 .0 ∙ l .inv .3,
+      s .kept .1 .1 .1 .1 .1 .1 .0 ∙ l .inv .4,
+      runs-turn (l .inv .5) (c .before .before .before .before .before .before .before .before .before .before .before .before .before .before .before .before .before .before .if1 .taken) (s .ensures))
 
 same-length : tie.Need-same-length Inv-loop μ-loop
 same-length c = search needs
@@ -42,7 +54,7 @@ same-length-5 : tie.Need-same-length-5 Inv-loop μ-loop
 same-length-5 c = search needs
 
 returns : tie.Need-returns Inv-loop μ-loop
-returns c = search needs
+returns c = runs-all (c .before .before .loop .inv .5)
 
 pub run-spec : {M : Type 1} → statement M
 run-spec =
