@@ -9,7 +9,7 @@ use Rattle.gregorian.specs.declared.Date.{Date}
 use Rattle.gregorian.specs.declared.DateAnswer.{DateAnswer}
 use Rattle.gregorian.specs.declared.DateAnswer.the-variants as DA
 use Rattle.gregorian.specs.Answers.{dateSays, dateAnswer}
-use Rattle.replay.specs.Gathered.{Gathered, gathered, room}
+use Rattle.replay.specs.Gathered.{Gathered, gathered, room, stored}
 use Rattle.replay.specs.declared.output.Out.{Out}
 use Rattle.doubtful.specs.Pieces.{Text, putPiece, putPieces, Puts, ymdPieces, datedPieces, datePieces}
 
@@ -28,7 +28,7 @@ then {l} {o} {xs} {m} {p} {ys} a b = record { same = b .same ∙ ap (λ (g : Gat
 
 -- a text that is written where there is room for a piece
 pub one-piece : {l : List ℕ} {o : Out} {at : ℕ} {text m : List ℕ} {r : Out} → at ≡ room 128 l (o .at) → Wrote l at text m (r .at) → r .begun ≡ false → Puts l o (text ∷ []) m r
-unfolding putPiece
+unfolding stored
 one-piece e w b = record { same = rw (w .stored, w .end, b, e) }
 
 -- the same pieces in other words

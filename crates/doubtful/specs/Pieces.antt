@@ -1,17 +1,15 @@
 -- A page as texts put one after the other, which are gathered in a lent buffer until they are written out; and dates, times and months as such
 -- pieces. Assumes nothing.
-use Prim.Native.Nat.{ℕ, _+_, _-_, _/_, _%_, min}
+use Prim.Native.Nat.{ℕ, _-_, _/_, _%_, min}
 use mathlib.Core.Bool.{false}
 use mathlib.Core.Path.{_≡_}
 use mathlib.Core.List.{List, [], _∷_}
-use lib.ListN.{length}
-use lib.Seq.{sets}
 use Rattle.paper.specs.Answers.{Answer, answered, refused}
 use Rattle.text.specs.Digits.{run, digits}
 use Rattle.text.specs.Quoted.{bytes}
 use Rattle.gregorian.specs.declared.Date.{Date}
 use Rattle.gregorian.specs.Answers.{dateAnswer}
-use Rattle.replay.specs.Gathered.{Gathered, gathered, room}
+use Rattle.replay.specs.Gathered.{Gathered, gathered, stored}
 use Rattle.replay.specs.declared.output.Out.{Out}
 
 -- ---- a page
@@ -20,11 +18,9 @@ use Rattle.replay.specs.declared.output.Out.{Out}
 abbrev pub Text : Type 0
 Text = List ℕ
 
--- a text stored behind what is gathered, or at the front where fewer than 128 bytes are free and all is written out. What has no room is not stored
-unfoldable pub putPiece : Gathered → Text → Gathered
-putPiece g text =
-    let a = room 128 (g .buffer) (g .at) in
-    record { buffer = sets (g .buffer) a text; at = a + min (length text) (length (g .buffer) - a); begun = false }
+-- a text of at most 128 bytes
+abbrev pub putPiece : Gathered → Text → Gathered
+putPiece g text = stored 128 g text false
 
 -- pieces, the first first
 abbrev pub putPieces : Gathered → List Text → Gathered

@@ -26,9 +26,9 @@ pub then : {l : List ℕ} {o : Out} {xs : List (List ℕ)} {m : List ℕ} {p : O
 then {l} {o} {xs} {m} {p} {ys} a b = record { same = b .same ∙ ap (λ (g : Gathered). puts g ys) (a .same) ∙ sym (puts-append (gathered l o) xs ys) }
 
 -- a text that is written where there is room for a word
-pub stored-there : (l : List ℕ) (o : Out) (text m : List ℕ) (at : ℕ) (begun : Bool) → Wrote l (room 32 l (o .at)) text m at → record { buffer = m; at = at; begun = begun } ≡ stored (gathered l o) text begun
+pub stored-there : (more : ℕ) (l : List ℕ) (o : Out) (text m : List ℕ) (at : ℕ) (begun : Bool) → Wrote l (room more l (o .at)) text m at → record { buffer = m; at = at; begun = begun } ≡ stored more (gathered l o) text begun
 unfolding stored
-stored-there l o text m at begun w = rw (w .stored, w .end)
+stored-there more l o text m at begun w = rw (w .stored, w .end)
 
 -- where there is room, and where there is none
 pub room-there : (more : ℕ) (l : List ℕ) (at : ℕ) → at + more ≤ length l → at ≡ room more l at
@@ -41,12 +41,12 @@ room-front more l at h = rw (lt-leb (at + more) (length l) h)
 
 -- a space where one is due, and then a text, is one word more
 pub one-word : {l : List ℕ} {o : Out} {k : ℕ} {j : List ℕ} {text m : List ℕ} {r : Out} → Wrote l (room 32 l (o .at)) (spaceOf (o .begun)) j k → Wrote j k text m (r .at) → r .begun ≡ true → Gathers l o (text ∷ []) m r
-one-word {l} {o} {k} {j} {text} {m} {r} s w e = record { same = rw e (stored-there l o (spaceOf (o .begun) ++ text) m (r .at) true (texts.then s w)) }
+one-word {l} {o} {k} {j} {text} {m} {r} s w e = record { same = rw e (stored-there 32 l o (spaceOf (o .begun) ++ text) m (r .at) true (texts.then s w)) }
 
 -- the end of a line that has a word, and of one that has none
 pub ends : {l : List ℕ} {at : ℕ} {m : List ℕ} (o : Out) → o .begun ≡ true → Wrote l (room 32 l (o .at)) (10 ∷ []) m at → record { buffer = m; at = at; begun = false } ≡ ended (gathered l o)
 unfolding ended
-ends {l} {at} {m} o b w = stored-there l o (10 ∷ []) m at false w ∙ rw b
+ends {l} {at} {m} o b w = stored-there 32 l o (10 ∷ []) m at false w ∙ rw b
 
 pub ends-none : (l : List ℕ) (o : Out) → o .begun ≡ false → gathered l o ≡ ended (gathered l o)
 unfolding ended

@@ -21,19 +21,19 @@ gathered buffer o = record { buffer = buffer; at = o .at; begun = o .begun }
 unfoldable pub room : ℕ → List ℕ → ℕ → ℕ
 room more buffer at = cond (leb (at + more) (length buffer)) at 0
 
--- a text stored there. What has no room is not stored, but no word takes more than 32 bytes
-unfoldable pub stored : Gathered → List ℕ → Bool → Gathered
-stored g text begun =
-    let a = room 32 (g .buffer) (g .at) in
+-- a text stored where so many bytes are free. What has no room is not stored
+unfoldable pub stored : ℕ → Gathered → List ℕ → Bool → Gathered
+stored more g text begun =
+    let a = room more (g .buffer) (g .at) in
     record { buffer = sets (g .buffer) a text; at = a + min (length text) (length (g .buffer) - a); begun = begun }
 
 -- a space (32), where the line has a word
 abbrev pub spaceOf : Bool → List ℕ
 spaceOf begun = cond begun (32 ∷ []) []
 
--- a word more, and the space before it
+-- a word more, and the space before it: no word takes more than 32 bytes with it
 abbrev pub put : Gathered → List ℕ → Gathered
-put g word = stored g (spaceOf (g .begun) ++ word) true
+put g word = stored 32 g (spaceOf (g .begun) ++ word) true
 
 -- words, the first first
 abbrev pub puts : Gathered → List (List ℕ) → Gathered
@@ -42,7 +42,7 @@ puts g (w ∷ ws) = puts (put g w) ws
 
 -- the end of a line (10), if it has a word
 unfoldable pub ended : Gathered → Gathered
-ended g = cond (g .begun) (stored g (10 ∷ []) false) g
+ended g = cond (g .begun) (stored 32 g (10 ∷ []) false) g
 
 -- these words were put behind what was gathered
 pub record Gathers (before : List ℕ) (o : Out) (words : List (List ℕ)) (after : List ℕ) (r : Out) : Type 0 where
