@@ -48,9 +48,10 @@ module _ (r : Reading) (rows names s v : List ℕ) (w : ℕ) where
   unfolding taken wanted
   taken-first e = rw e
 
-  pub taken-row : r .awaits ≡ false → stored (made r rows names) s (take w v) ≡ taken (made r rows names) s (take (wanted w (r .awaits)) v)
+  pub taken-row : r .awaits ≡ false → {y : Made} → y ≡ stored (made r rows names) s (take w v)
+      → y ≡ taken (made r rows names) s (take (wanted w (r .awaits)) v)
   unfolding taken wanted
-  taken-row e = rw e
+  taken-row e t = t ∙ rw e
 
 -- ---- a line
 

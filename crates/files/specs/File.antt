@@ -51,6 +51,7 @@ pub record Made : Type 0 where
   pub rows : List ℕ
   pub names : List ℕ
 
+-- a reading and two lists
 abbrev pub made : Reading → List ℕ → List ℕ → Made
 made r rows names = record { reading = r; rows = rows; names = names }
 
@@ -112,9 +113,11 @@ withJudged x s ns judged.Good = taken x s ns
 withJudged x s ns judged.NoNumber = fails fault.NoNumber x
 withJudged x s ns judged.OtherCount = fails fault.OtherCount x
 
+-- a line as it is judged, where so many numbers are wanted
 unfoldable pub withLine : ℕ → Made → List ℕ → Made
 withLine w x s = withJudged x s (numbersOf (wordsOf s)) (judgedAs (wanted w (x .reading .awaits)) (rowOf s .form))
 
+-- a line that is too long is a fault
 abbrev pub withCame : ℕ → Made → Came → Made
 withCame w x (text s) = withLine w x s
 withCame w x long = fails fault.LongLine x
@@ -126,6 +129,7 @@ withNext w x l =
     (withCame w (made (numbered (x .reading)) (x .rows) (x .names)) l)
     (fails fault.TooMany x)
 
+-- nothing is wrong
 abbrev pub well : Fault → Bool
 well fault.Nothing = true
 well fault.LongLine = false
@@ -144,6 +148,7 @@ abbrev pub after : ℕ → Made → List Came → Made
 after w x [] = x
 after w x (l ∷ ls) = after w (unlessFaulty x (withNext w x l)) ls
 
+-- lines that break off are a fault
 abbrev pub ended : Made → End → Made
 ended x over = x
 ended x broken = unlessFaulty x (fails fault.NotRead x)
@@ -175,6 +180,7 @@ abbrev pub tableAs : Reading → Wrong → TableRead
 tableAs r (wrong.Is p) = tableRead.Not p
 tableAs r wrong.Nothing = tableRead.Is (r .table) (r .count)
 
+-- the table that a reading gives
 abbrev pub tableOf : Reading → TableRead
 tableOf r = tableAs r (wrongWith 13 r)
 
@@ -189,6 +195,7 @@ abbrev pub rulesAs : Reading → Wrong → RulesRead
 rulesAs r (wrong.Is p) = rulesRead.Not p
 rulesAs r wrong.Nothing = rulesRead.Are (r .count)
 
+-- the rules that a reading gives
 abbrev pub rulesOf : Reading → RulesRead
 rulesOf r = rulesAs r (wrongWith 8 r)
 

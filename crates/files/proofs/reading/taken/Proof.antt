@@ -1,5 +1,5 @@
 -- `files::reading::taken` meets its contract. Assumes nothing.
-use mathlib.Core.Path.{refl, _∙_}
+use mathlib.Core.Path.{refl}
 use Rattle.files.proofs.Made.{instead, taken-first, taken-row}
 use borrow.Author.Needs.{needs}
 use Rattle.files.proofs.reading.taken.Statement.{statement}
@@ -23,7 +23,7 @@ same-length-2 c = search needs
 
 returns-2 : tie.Need-returns-2
 returns-2 c = let a = c .before .before .before .before .before .before .before .before .before .before .before .args in
-    c .before .before .before .before .stored .ensures ∙ taken-row (a .r) (a .rows .now) (a .names .now) (a .s .now) (a .values) (a .width) (c .before .before .before .before .before .before .before .if1 .left)
+    taken-row (a .r) (a .rows .now) (a .names .now) (a .s .now) (a .values) (a .width) (c .before .before .before .before .before .before .before .if1 .left) (c .before .before .before .before .stored .ensures)
 
 pub taken-spec : {M : Type 1} → statement M
 taken-spec =

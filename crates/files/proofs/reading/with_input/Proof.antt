@@ -3,7 +3,7 @@ use mathlib.Core.Bool.{true}
 use mathlib.Core.Path.{sym}
 use lib.ListN.{take}
 use lib.Seq.{length-take-le}
-use Rattle.files.specs.File.{cameAs}
+use Rattle.files.specs.File.{cameAs, made}
 use Rattle.files.proofs.Made.{makes-same, makes-broken, makes-line}
 use borrow.Author.Needs.{needs}
 use Rattle.files.proofs.reading.with_input.Statement.{statement}
@@ -32,7 +32,7 @@ same-length-2 c = search needs
 
 returns-3 : tie.Need-returns-3
 returns-3 c = let a = c .before .before .before .before .before .before .before .before .before .before .before .before .before .before .before .args in
-    makes-line (c .before .before .before .before .before .before .before .before .before .before .before .before .before .before .before .pre .1) (cameAs (a .input .long) (take (a .input .len) (a .line .now))) (c .before .before .before .before .with-next .ensures)
+    makes-line {x = made (a .r) (a .rows .now) (a .names .now)} (c .before .before .before .before .before .before .before .before .before .before .before .before .before .before .before .pre .1) (cameAs (a .input .long) (take (a .input .len) (a .line .now))) (c .before .before .before .before .with-next .ensures)
 
 with-next-requires-2 : tie.Need-with-next-requires-2
 with-next-requires-2 c κs = search needs
@@ -45,7 +45,7 @@ same-length-4 c = search needs
 
 returns-4 : tie.Need-returns-4
 returns-4 c = let a = c .before .before .before .before .before .before .before .before .before .before .before .before .before .before .args in
-    makes-line (c .before .before .before .before .before .before .before .before .before .before .before .before .before .before .pre .1) (cameAs true (a .line .now)) (c .before .before .before .before .with-next2 .ensures)
+    makes-line {x = made (a .r) (a .rows .now) (a .names .now)} (c .before .before .before .before .before .before .before .before .before .before .before .before .before .before .pre .1) (cameAs true (a .line .now)) (c .before .before .before .before .with-next2 .ensures)
 
 pub with-input-spec : {M : Type 1} → statement M
 with-input-spec =
