@@ -1,0 +1,2 @@
+-- What the contracts of `spring` are written in.
+pub mod Faults
