@@ -2,7 +2,6 @@
 use conversion::MonthDays;
 use conversion::Table;
 use doubtful::Page;
-use doubtful::asked;
 use files::RulesRead;
 use files::TableRead;
 use replay::Out;
@@ -92,19 +91,19 @@ fn answer_over(
     requires { ⌜ accepted table (now rows) ≡ true ⌝ }
 {
     if !rules::accepts_rules(rules) {
-        asked::complain(b"RULES: refused with 2\n");
+        files::complain(b"RULES: refused with 2\n");
         return;
     }
     if last < first {
-        asked::complain(b"LAST: expected a year not before FIRST\n");
+        files::complain(b"LAST: expected a year not before FIRST\n");
         return;
     }
     if !is_year(table, rows, first) {
-        asked::complain(b"FIRST: expected a BS year of the table\n");
+        files::complain(b"FIRST: expected a BS year of the table\n");
         return;
     }
     if !is_year(table, rows, last) {
-        asked::complain(b"LAST: expected a BS year of the table\n");
+        files::complain(b"LAST: expected a BS year of the table\n");
         return;
     }
     put_page(table, rows, first, last, rules, names, out);
@@ -124,7 +123,7 @@ fn answer(
         answer_over(table, rows, first, last, rules, names, out);
         return;
     }
-    asked::complain(b"TABLE: refused with 1; ./spring TABLE TABLE says where it breaks a rule\n");
+    files::complain(b"TABLE: refused with 1; ./spring TABLE TABLE says where it breaks a rule\n");
 }
 
 // The same with the parts of the lent buffers that were read.
@@ -156,15 +155,15 @@ fn year_in(i: usize) -> Whole {
 fn run(rows: &mut [u16], rules: &mut [u16], names: &mut [u8], out: &mut [u8]) {
     let count = os::arg_count();
     if (count != 4) & (count != 5) {
-        asked::complain(b"expected arguments: TABLE FIRST LAST [RULES]\n");
+        files::complain(b"expected arguments: TABLE FIRST LAST [RULES]\n");
         return;
     }
     let Whole::Is(first) = year_in(2) else {
-        asked::complain(b"FIRST: expected a number up to 65535\n");
+        files::complain(b"FIRST: expected a number up to 65535\n");
         return;
     };
     let Whole::Is(last) = year_in(3) else {
-        asked::complain(b"LAST: expected a number up to 65535\n");
+        files::complain(b"LAST: expected a number up to 65535\n");
         return;
     };
     let TableRead::Is(table, n) = files::table_at(1, rows) else {

@@ -1,5 +1,4 @@
 // New moons beside the beginning of a solar month, where the engine's rule and the almanac may part: how near they are, and a page of them.
-pub mod asked;
 mod page;
 mod words;
 

@@ -12,6 +12,8 @@ pub use arguments::table_at;
 use conversion::Table;
 pub use names::put_name;
 pub use problems::Problem;
+pub use problems::complain;
+pub use problems::complain_front;
 pub use problems::put_problem;
 pub use problems::report;
 use reading::Fault;

@@ -71,12 +71,17 @@ pub fn put_problem(out: &mut [u8], at: usize, path: &[u8], p: Problem) -> usize
 pub fn report(path: &[u8], p: Problem) {
     let mut out = [0u8; 4608];
     let n = put_problem(&mut out, 0, path, p);
-    write_front(&out, n);
+    complain_front(&out, n);
 }
 
-// Writes the first n bytes of a buffer to standard error.
-fn write_front(out: &[u8], n: usize) {
+// One line on standard error.
+pub fn complain(line: &[u8]) {
+    io::write_all(STDERR_FILENO, line);
+}
+
+// The line that the first n bytes of a buffer are, on standard error.
+pub fn complain_front(out: &[u8], n: usize) {
     if n <= out.len() {
-        io::write_all(STDERR_FILENO, &out[..n]);
+        complain(&out[..n]);
     }
 }

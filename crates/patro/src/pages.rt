@@ -7,7 +7,6 @@ use conversion::Table;
 use gregorian::Date;
 use grid::GridAnswer;
 use grid::Month;
-use libc::STDERR_FILENO;
 use libc::STDOUT_FILENO;
 use wall::Page;
 
@@ -30,10 +29,7 @@ fn write_page(out: &[u8], n: usize) {
         return;
     }
     if !io::write_all(STDOUT_FILENO, &out[..n]) {
-        io::write_all(
-            STDERR_FILENO,
-            b"patro: standard output could not be written\n",
-        );
+        files::complain(b"patro: standard output could not be written\n");
     }
 }
 

@@ -1,7 +1,6 @@
 // Why there is no page, in words.
 ghost use Rattle.text.specs.Written.{Wrote};
 ghost use Rattle.patro.specs.Refusals.{refusalText};
-use libc::STDERR_FILENO;
 
 // A refusal of document 01, of which 1 to 7 and 9 can be; or words of another form.
 pub enum Refusal {
@@ -57,16 +56,9 @@ pub fn put_refusal(out: &mut [u8], at: usize, why: Refusal) -> usize
     }
 }
 
-// Writes the first n bytes of a buffer to standard error.
-fn write_front(out: &[u8], n: usize) {
-    if n <= out.len() {
-        io::write_all(STDERR_FILENO, &out[..n]);
-    }
-}
-
 // Writes that line to standard error.
 pub fn say(why: Refusal) {
     let mut out = [0u8; 128];
     let n = put_refusal(&mut out, 0, why);
-    write_front(&out, n);
+    files::complain_front(&out, n);
 }

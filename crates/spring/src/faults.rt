@@ -4,7 +4,6 @@ ghost use Rattle.text.specs.Written.{Wrote};
 ghost use Rattle.conversion.specs.Flat.{lens};
 ghost use Rattle.spring.specs.Faults.{rowText, monthText, sumText, cellText, ruleText, brokenText, changeText};
 use conversion::Table;
-use doubtful::asked;
 use std::num::wrapping_add_u64;
 use tables::Broken;
 
@@ -112,23 +111,16 @@ pub fn put_change(out: &mut [u8], at: usize, table: Table, i: usize) -> usize
     text::put(out, b, b" is another or missing\n")
 }
 
-// Writes the first n bytes of a buffer to standard error.
-fn complain_front(out: &[u8], n: usize) {
-    if n <= out.len() {
-        asked::complain(&out[..n]);
-    }
-}
-
 // The refusal of a table and the first rule that it breaks, on standard error.
 pub fn report_broken(which: &[u8], table: Table, rows: &[u16], b: Broken) {
     let mut line = [0u8; 256];
     let n = put_broken(&mut line, 0, which, table, rows, b);
-    complain_front(&line, n);
+    files::complain_front(&line, n);
 }
 
 // The first row that NEW has not as OLD has it, on standard error.
 pub fn report_change(table: Table, i: usize) {
     let mut line = [0u8; 256];
     let n = put_change(&mut line, 0, table, i);
-    complain_front(&line, n);
+    files::complain_front(&line, n);
 }

@@ -3,7 +3,6 @@ mod faults;
 
 use conversion::Table;
 use doubtful::Page;
-use doubtful::asked;
 use festivals::months;
 use festivals::months::YearDays;
 use files::RulesRead;
@@ -240,7 +239,7 @@ fn answer_both(table: Table, old: &[u16], new: &[u16], rules: &[u16], names: &[u
         return;
     }
     if !rules::accepts_rules(rules) {
-        asked::complain(b"RULES: refused with 2\n");
+        files::complain(b"RULES: refused with 2\n");
         return;
     }
     put_page(table, old, new, rules, names, out);
@@ -259,7 +258,7 @@ fn answer_new(
     requires { ⌜ accepted table (now old) ≡ true ⌝ }
 {
     if !same_first(table, new_table) {
-        asked::complain(b"NEW: not OLD with rows added: its first line is another\n");
+        files::complain(b"NEW: not OLD with rows added: its first line is another\n");
         return;
     }
     if conversion::accepts(table, new) {
@@ -338,7 +337,7 @@ fn answer_with(
 fn run(old: &mut [u16], new: &mut [u16], rules: &mut [u16], names: &mut [u8], out: &mut [u8]) {
     let count = os::arg_count();
     if (count != 3) & (count != 4) {
-        asked::complain(b"expected arguments: OLD NEW [RULES]\n");
+        files::complain(b"expected arguments: OLD NEW [RULES]\n");
         return;
     }
     let TableRead::Is(old_table, n) = files::table_at(1, old) else {
