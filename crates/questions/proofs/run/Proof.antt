@@ -30,13 +30,14 @@ loop-less c = omega (arith, c .before .before .before .before .before .before .b
 loop-again : tie.Need-loop-again Inv-loop μ-loop
 loop-again c =
     let l = c .before .before .before .before .before .before .before .before .before .before .before .before .before .before .before .before .before .before .before .before .loop in
-    let s = c .before .before .before .before .before .before .before .before .before .before .before .before .step in
-    (s .kept .1 .1 .0 ∙ l .inv .0,
+    let s = c .before .before .before .before .before .before .before .before .before .before .before .before .step in (
+      s .kept .1 .1 .0 ∙ l .inv .0,
       s .kept .1 .1 .1 .0 ∙ l .inv .1,
       s .kept .1 .1 .1 .1 .0 ∙ l .inv .2,
       s .kept .1 .1 .1 .1 .1 .0 ∙ l .inv .3,
       s .kept .1 .1 .1 .1 .1 .1 .0 ∙ l .inv .4,
-      runs-turn (l .inv .5) (c .before .before .before .before .before .before .before .before .before .before .before .before .before .before .before .before .before .before .if1 .taken) (s .ensures))
+      runs-turn (l .inv .5) (c .before .before .before .before .before .before .before .before .before .before .before .before .before .before .before .before .before .before .if1 .taken) (s .ensures),
+    )
 
 same-length : tie.Need-same-length Inv-loop μ-loop
 same-length c = search needs
