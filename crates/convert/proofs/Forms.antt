@@ -1,66 +1,18 @@
 -- What a line is: the definition that reads from the front finds exactly the lines that are the writing of three numbers. Assumes nothing.
-use Prim.Native.Nat.{ℕ, zero, suc, _+_, _≤_, _<_, _^_}
+use Prim.Native.Nat.{ℕ, _+_}
 use mathlib.Core.Path.{_≡_, refl, sym, ap, _∙_, subst}
 use mathlib.Core.Bool.{Bool, true, false, cond, true≢false}
 use mathlib.Core.List.{List, [], _∷_, _++_, append-nil}
-use native.Mathlib.Nat.{pow-le-pow-right}
 use native.Mathlib.Omega.{arith}
-use Rattle.text.specs.Digits.{startsDigit, isEnd, worth, Got, got, no, found, past, behind, wide}
+use Rattle.text.specs.Digits.{startsDigit, isEnd, worth, Got, got, no, past}
+use Rattle.text.specs.Dashed.{dash, numbers, ended}
+use Rattle.text.specs.declared.triples.Numbers.{Numbers}
+use Rattle.text.specs.declared.triples.Numbers.the-variants.{Are, Not}
 use Rattle.text.proofs.Texts.{past-append, append-past}
-use Rattle.text.proofs.Decimals.{digits-decimal}
-use Rattle.text.proofs.Runs.{never}
-use Rattle.text.proofs.Ways.{Way, decimals, wides, wide-only, behinds, boths}
-use Rattle.convert.specs.Lines.{number, numbers, numbersText, dash, ended, bsTag, adTag, asBs, asAd, lineForm, IsBs, IsAd, LineIs}
+use Rattle.text.proofs.Ways.{Way, decimals, wides, behinds, boths}
+use Rattle.convert.specs.Lines.{numbersText, bsTag, adTag, asBs, asAd, lineForm, IsBs, IsAd, LineIs}
 use Rattle.convert.specs.declared.line.Line.{Line}
 use Rattle.convert.specs.declared.line.Line.the-variants.{Bs, Ad, Other}
-use Rattle.convert.specs.declared.line.Numbers.{Numbers}
-use Rattle.convert.specs.declared.line.Numbers.the-variants.{Are, Not}
-
--- ---- the code's numbers
-
-pub number-wide : (w : ℕ) (s : List ℕ) → (w ≡ 0 → ⊥) → number w s ≡ wide w s
-number-wide zero s n = absurd (n refl)
-number-wide (suc k) s n = refl
-
-pub number-small : (w : ℕ) (s : List ℕ) (n : ℕ) (t : List ℕ) → w ≤ 4 → number w s ≡ got n t → n ≤ 65535
-number-small zero s n t h e = digits-decimal 65535 s n t e .most
-number-small (suc k) s n t h e =
-    let z : 0 < 10 = omega arith in
-    let p : 10 ^ suc k ≤ 10 ^ 4 = pow-le-pow-right z h in
-    omega (arith, wide-only (suc k) (omega arith) s n t e .0)
-
-pub next-small : (w : ℕ) (s : List ℕ) (n : ℕ) (t : List ℕ) → w ≤ 4 → behind dash (number w) s ≡ got n t → n ≤ 65535
-next-small w s n t h e = go (past dash s) e
-  where
-    go : (g : Got (Unit {0})) → found g (λ u r. number w r) no ≡ got n t → n ≤ 65535
-    go (got u r) q = number-small w r n t h q
-    go no q = absurd (never q)
-
-pub next-said : (w : ℕ) (s : List ℕ) {t : List ℕ} → past dash s ≡ got tt t → number w t ≡ behind dash (number w) s
-next-said w s e = rw e
-
-pub next-none : (w : ℕ) (s : List ℕ) → past dash s ≡ no → no ≡ behind dash (number w) s
-next-none w s e = rw e
-
--- three numbers, step by step
-module _ (f o : ℕ) (s : List ℕ) where
-  pub no-first : number f s ≡ no → Not ≡ ended (numbers f o s)
-  no-first e = rw e
-
-  module _ {y : ℕ} {t : List ℕ} (e : number f s ≡ got y t) where
-    pub no-second : behind dash (number o) t ≡ no → Not ≡ ended (numbers f o s)
-    no-second e2 = rw (e, e2)
-
-    module _ {m : ℕ} {u : List ℕ} (e2 : behind dash (number o) t ≡ got m u) where
-      pub no-third : behind dash (number o) u ≡ no → Not ≡ ended (numbers f o s)
-      no-third e3 = rw (e, e2, e3)
-
-      module _ {d : ℕ} {v : List ℕ} (e3 : behind dash (number o) u ≡ got d v) where
-        pub all-three : isEnd v ≡ true → Are y m d ≡ ended (numbers f o s)
-        all-three h = rw (e, e2, e3, h)
-
-        pub more-after : isEnd v ≡ false → Not ≡ ended (numbers f o s)
-        more-after h = rw (e, e2, e3, h)
 
 -- ---- the code's line
 

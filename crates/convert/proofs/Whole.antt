@@ -10,7 +10,8 @@ use lib.Dec.{leb}
 use lib.ListN.{length, length-append}
 use Rattle.text.specs.Kept.{Current, short, long}
 use Rattle.text.proofs.Lines.{comes}
-use Rattle.convert.specs.Lines.{dash, numberText, numbersText, lineForm, LineIs, IsBs, IsAd}
+use Rattle.text.specs.Dashed.{dash}
+use Rattle.convert.specs.Lines.{numberText, numbersText, lineForm, LineIs, IsBs, IsAd}
 use Rattle.convert.specs.declared.line.Line.{Line}
 use Rattle.convert.specs.declared.line.Line.the-variants.{Bs, Ad, Other}
 use Rattle.convert.specs.Replies.{lineReply, replyTo}

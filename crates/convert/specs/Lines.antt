@@ -1,13 +1,13 @@
 -- The lines that `convert` reads: bs=Y-M-D with numbers at most 65,535 and no leading zeros, and ad=YYYY-MM-DD. Assumes nothing.
 use Prim.Native.Nat.{ℕ, zero, suc, _≤_, _<_, _^_}
 use mathlib.Core.Path.{_≡_}
-use mathlib.Core.Bool.{cond}
 use mathlib.Core.List.{List, [], _∷_, _++_}
-use Rattle.text.specs.Digits.{run, digits, isEnd, Got, got, no, found, both, past, behind, wide, decimal}
+use Rattle.text.specs.Digits.{run, digits, found, past}
+use Rattle.text.specs.Dashed.{dash, numbers, ended}
+use Rattle.text.specs.declared.triples.Numbers.{Numbers}
+use Rattle.text.specs.declared.triples.Numbers.the-variants.{Are, Not}
 use Rattle.convert.specs.declared.line.Line.{Line}
 use Rattle.convert.specs.declared.line.Line.the-variants.{Bs, Ad, Other}
-use Rattle.convert.specs.declared.line.Numbers.{Numbers}
-use Rattle.convert.specs.declared.line.Numbers.the-variants.{Are, Not}
 
 -- ---- three numbers with a dash (45) between them
 
@@ -16,24 +16,9 @@ abbrev pub numberText : ℕ → ℕ → List ℕ
 numberText zero n = digits n
 numberText (suc k) n = run 10 (suc k) n
 
-abbrev pub number : ℕ → List ℕ → Got ℕ
-number zero s = decimal 65535 s
-number (suc k) s = wide (suc k) s
-
-abbrev pub dash : List ℕ
-dash = 45 ∷ []
-
 -- the first of one width, the others of another
 abbrev pub numbersText : ℕ → ℕ → ℕ → ℕ → ℕ → List ℕ
 numbersText first others y m d = numberText first y ++ ((dash ++ numberText others m) ++ (dash ++ numberText others d))
-
-abbrev pub numbers : ℕ → ℕ → List ℕ → Got (ℕ × (ℕ × ℕ))
-numbers first others = both (number first) (both (behind dash (number others)) (behind dash (number others)))
-
--- and nothing after them
-abbrev pub ended : Got (ℕ × (ℕ × ℕ)) → Numbers
-ended (got x t) = cond (isEnd t) (Are (x .0) (x .1 .0) (x .1 .1)) Not
-ended no = Not
 
 -- ---- a line
 

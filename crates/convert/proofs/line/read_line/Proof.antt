@@ -19,15 +19,15 @@ pass-requires c κs = search needs
 enum-known-c : tie.Need-enum-known-c
 enum-known-c c = search needs
 
-read-numbers-requires : tie.Need-read-numbers-requires
-read-numbers-requires c κs = search needs
+dashed-requires : tie.Need-dashed-requires
+dashed-requires c κs = search needs
 
 as-bs-requires : tie.Need-as-bs-requires
 as-bs-requires c κs = search needs
 
 returns : tie.Need-returns
 returns c = let s = c .before .before .before .before .before .before .before .before .before .args .s .now in
-    c .as-bs .ensures ∙ ap asBs (c .before .read-numbers .ensures) ∙ form-bs s (rw (c .before .before .before .before .before .before .before .start .ensures) at (passed-said (c .before .before .before .before .before .pass .result) (c .before .before .before .before .before .pass .ensures) (c .before .before .before .c .given .1)))
+    c .as-bs .ensures ∙ ap asBs (c .before .dashed .ensures) ∙ form-bs s (rw (c .before .before .before .before .before .before .before .start .ensures) at (passed-said (c .before .before .before .before .before .pass .result) (c .before .before .before .before .before .pass .ensures) (c .before .before .before .c .given .1)))
 
 enum-told : tie.Need-enum-told
 enum-told c = search needs
@@ -44,15 +44,15 @@ pass-requires-2 c κs = search needs
 enum-known-c-2 : tie.Need-enum-known-c-2
 enum-known-c-2 c = search needs
 
-read-numbers-requires-2 : tie.Need-read-numbers-requires-2
-read-numbers-requires-2 c κs = search needs
+dashed-requires-2 : tie.Need-dashed-requires-2
+dashed-requires-2 c κs = search needs
 
 as-ad-requires : tie.Need-as-ad-requires
 as-ad-requires c κs = search needs
 
 returns-2 : tie.Need-returns-2
 returns-2 c = let s = c .before .before .before .before .before .before .before .before .before .before .before .before .before .before .args .s .now in
-    c .as-ad .ensures ∙ ap asAd (c .before .read-numbers2 .ensures)
+    c .as-ad .ensures ∙ ap asAd (c .before .dashed2 .ensures)
     ∙ form-ad s (rw (c .before .before .before .before .before .before .before .before .before .before .before .before .start .ensures) at (passed-unsaid (c .before .before .before .before .before .before .before .before .before .before .pass .result) (c .before .before .before .before .before .before .before .before .before .before .pass .ensures) (c .before .before .before .before .before .before .before .before .enum-told .given .1)))
     (rw (c .before .before .before .before .before .before .before .start2 .ensures) at (passed-said (c .before .before .before .before .before .pass2 .result) (c .before .before .before .before .before .pass2 .ensures) (c .before .before .before .c2 .given .1)))
 
@@ -72,7 +72,7 @@ read-line-spec =
     slice-aggregate-pass
     pass-requires
     enum-known-c
-    read-numbers-requires
+    dashed-requires
     as-bs-requires
     returns
     enum-told
@@ -80,7 +80,7 @@ read-line-spec =
     slice-aggregate-pass-2
     pass-requires-2
     enum-known-c-2
-    read-numbers-requires-2
+    dashed-requires-2
     as-ad-requires
     returns-2
     enum-told-2
