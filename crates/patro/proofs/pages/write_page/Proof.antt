@@ -18,11 +18,11 @@ slice-aggregate-write-all c = sym (length-take-le (c .before .before .before .ar
 write-all-requires : tie.Need-write-all-requires
 write-all-requires c κs = search needs
 
-slice-aggregate-write-all-2 : tie.Need-slice-aggregate-write-all-2
-slice-aggregate-write-all-2 c = search needs
+slice-aggregate-complain : tie.Need-slice-aggregate-complain
+slice-aggregate-complain c = search needs
 
-write-all-requires-2 : tie.Need-write-all-requires-2
-write-all-requires-2 c κs = search needs
+complain-requires : tie.Need-complain-requires
+complain-requires c κs = search needs
 
 returns-2 : tie.Need-returns-2
 returns-2 c = search needs
@@ -38,7 +38,7 @@ write-page-spec =
     returns
     slice-aggregate-write-all
     write-all-requires
-    slice-aggregate-write-all-2
-    write-all-requires-2
+    slice-aggregate-complain
+    complain-requires
     returns-2
     returns-3)
