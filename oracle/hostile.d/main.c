@@ -303,7 +303,7 @@ static void drive(unsigned long calls)
             if (code == 0 && function->buffers[0].width > 0) call_exact();
         }
     }
-    printf("%-28s %8lu calls %8lu answered", function->name, calls, answered);
+    printf("%-28s %8lu calls, %lu with those made again; %lu answered", function->name, calls, made, answered);
     if (function->places[0] == 'o') printf(", %lu none", none);
     for (unsigned k = 1; k < 16; k++)
         if (refused[k] > 0) printf(", %lu refused with %u", refused[k], k);
@@ -315,13 +315,6 @@ static unsigned long setting(const char *name, unsigned long otherwise)
 {
     const char *text = getenv(name);
     return text ? strtoul(text, NULL, 10) : otherwise;
-}
-
-static int is_asked(const char *name, int count, char **names)
-{
-    for (int i = 1; i < count; i++)
-        if (strcmp(names[i], name) == 0) return 1;
-    return count < 2;
 }
 
 /* Drives each broken function in a process of its own, which must fail. */
@@ -346,24 +339,28 @@ static int self_test(void)
     return missed > 0;
 }
 
-int main(int count, char **names)
+/* Its one argument: a function to drive; or --names, which lists them; or --self-test. */
+int main(int count, char **words)
 {
     const size_t all = sizeof functions / sizeof *functions;
-    if (count == 2 && strcmp(names[1], "--names") == 0) {
-        for (size_t i = 0; i < all; i++) puts(functions[i].name);
+    const char *asked = count == 2 ? words[1] : "";
+    size_t i = 0;
+    if (strcmp(asked, "--names") == 0) {
+        for (; i < all; i++) puts(functions[i].name);
         return 0;
     }
     for (int number = 1; number < 32; number++)
         if (number == SIGSEGV || number == SIGBUS || number == SIGFPE || number == SIGILL || number == SIGABRT) signal(number, fault);
-    for (size_t i = 0; i < sizeof places / sizeof *places; i++) reserve(&places[i], 1);
-    for (size_t i = 0; i < 2; i++) reserve(&buffers[i], (size_t)1 << 19);
-    prepare(setting("HOSTILE_SEED", 1));
-    if (count == 2 && strcmp(names[1], "--self-test") == 0) return self_test();
-    for (size_t i = 0; i < all; i++) {
-        if (!is_asked(functions[i].name, count, names)) continue;
-        function = &functions[i];
-        drive(setting("HOSTILE_CALLS", 1000000));
+    for (size_t k = 0; k < sizeof places / sizeof *places; k++) reserve(&places[k], 1);
+    for (size_t k = 0; k < 2; k++) reserve(&buffers[k], (size_t)1 << 19);
+    while (i < all && strcmp(asked, functions[i].name) != 0) i++;
+    prepare(setting("HOSTILE_SEED", 1) + i);
+    if (strcmp(asked, "--self-test") == 0) return self_test();
+    if (i == all) {
+        fprintf(stderr, "hostile: no function of include/panel.h: %s\n", asked);
+        return 2;
     }
-    printf("hostile: %lu calls, with those made again; no fault, no write past an answer or on a refusal, no refusal that is not allowed\n", made);
+    function = &functions[i];
+    drive(setting("HOSTILE_CALLS", 1000000));
     return 0;
 }
