@@ -10,6 +10,11 @@ ghost use mathlib.Core.Path.{_≡_};
 ghost use mathlib.Core.Bool.{true};
 ghost use Rattle.conversion.specs.Flat.{accepted};
 
+// One line on standard error.
+fn complain(line: &[u8]) {
+    io::write_all(libc::STDERR_FILENO, line);
+}
+
 // Whether a year is one of an accepted table.
 fn is_year(table: Table, rows: &[u16], year: u16) -> bool
     requires { ⌜ accepted table (now rows) ≡ true ⌝ }
@@ -91,19 +96,19 @@ fn answer_over(
     requires { ⌜ accepted table (now rows) ≡ true ⌝ }
 {
     if !rules::accepts_rules(rules) {
-        files::complain(b"RULES: refused with 2\n");
+        complain(b"RULES: refused with 2\n");
         return;
     }
     if last < first {
-        files::complain(b"LAST: expected a year not before FIRST\n");
+        complain(b"LAST: expected a year not before FIRST\n");
         return;
     }
     if !is_year(table, rows, first) {
-        files::complain(b"FIRST: expected a BS year of the table\n");
+        complain(b"FIRST: expected a BS year of the table\n");
         return;
     }
     if !is_year(table, rows, last) {
-        files::complain(b"LAST: expected a BS year of the table\n");
+        complain(b"LAST: expected a BS year of the table\n");
         return;
     }
     put_page(table, rows, first, last, rules, names, out);
@@ -123,7 +128,7 @@ fn answer(
         answer_over(table, rows, first, last, rules, names, out);
         return;
     }
-    files::complain(b"TABLE: refused with 1; ./spring TABLE TABLE says where it breaks a rule\n");
+    complain(b"TABLE: refused with 1; ./spring TABLE TABLE says where it breaks a rule\n");
 }
 
 // The same with the parts of the lent buffers that were read.
@@ -155,15 +160,15 @@ fn year_in(i: usize) -> Whole {
 fn run(rows: &mut [u16], rules: &mut [u16], names: &mut [u8], out: &mut [u8]) {
     let count = os::arg_count();
     if (count != 4) & (count != 5) {
-        files::complain(b"expected arguments: TABLE FIRST LAST [RULES]\n");
+        complain(b"expected arguments: TABLE FIRST LAST [RULES]\n");
         return;
     }
     let Whole::Is(first) = year_in(2) else {
-        files::complain(b"FIRST: expected a number up to 65535\n");
+        complain(b"FIRST: expected a number up to 65535\n");
         return;
     };
     let Whole::Is(last) = year_in(3) else {
-        files::complain(b"LAST: expected a number up to 65535\n");
+        complain(b"LAST: expected a number up to 65535\n");
         return;
     };
     let TableRead::Is(table, n) = files::table_at(1, rows) else {
