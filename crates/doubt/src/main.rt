@@ -8,7 +8,12 @@ use replay::Out;
 use text::Whole;
 ghost use mathlib.Core.Path.{_≡_};
 ghost use mathlib.Core.Bool.{true};
-ghost use Rattle.conversion.specs.Flat.{accepted};
+ghost use Rattle.conversion.specs.Flat.{accepted, flat};
+ghost use Rattle.conversion.specs.Calendar.{yearOk};
+ghost use Rattle.rules.specs.Rules.{rulesOf};
+ghost use Rattle.doubtful.specs.Pieces.{Puts};
+ghost use Rattle.doubtful.specs.Years.{sheet};
+ghost use Rattle.doubt.specs.Range.{yearsTo, rangePieces};
 
 // One line on standard error.
 fn complain(line: &[u8]) {
@@ -18,6 +23,7 @@ fn complain(line: &[u8]) {
 // Whether a year is one of an accepted table.
 fn is_year(table: Table, rows: &[u16], year: u16) -> bool
     requires { ⌜ accepted table (now rows) ≡ true ⌝ }
+    ensures { λ r. ⌜ r ≡ yearOk (flat table (now (rows .entry))) year ⌝ }
 {
     match conversion::month_days(table, rows, year, 1) {
         MonthDays::Days(_) => true,
@@ -26,7 +32,7 @@ fn is_year(table: Table, rows: &[u16], year: u16) -> bool
     }
 }
 
-// The years from the first on, so many of them.
+// The first year and those after it, up to the last.
 fn put_years(
     p: Page,
     out: &mut [u8],
@@ -38,6 +44,7 @@ fn put_years(
     names: &[u8],
 ) -> Page
     requires { ⌜ accepted table (now rows) ≡ true ⌝ }
+    ensures { λ r. ⌜ sheet (now (out .exit)) r ≡ yearsTo (flat table (now (rows .entry))) (rulesOf (now (rules .entry))) (now (names .entry)) first last (sheet (now (out .entry)) p) ⌝ }
 {
     let mut q = p;
     let mut year = first;
@@ -49,7 +56,9 @@ fn put_years(
 }
 
 // Which years were asked.
-fn put_range(o: Out, out: &mut [u8], first: u16, last: u16) -> Out {
+fn put_range(o: Out, out: &mut [u8], first: u16, last: u16) -> Out
+    ensures { λ r. ⌜ Puts (now (out .entry)) o (rangePieces first last) (now (out .exit)) r ⌝ }
+{
     let a = doubtful::put_labelled(o, out, b"BS ", first as u64);
     let b = doubtful::put_labelled(a, out, b" to ", last as u64);
     doubtful::put_text(b, out, b": ")
