@@ -167,24 +167,6 @@ fn stored(
     counted(r, width)
 }
 
-// The reading with a line that has the numbers that are wanted.
-fn taken(
-    r: Reading,
-    values: [u16; 13],
-    width: usize,
-    rows: &mut [u16],
-    names: &mut [u8],
-    s: &[u8],
-) -> Reading
-    requires { ⌜ (length values ≡ 13) × (width ≤ 13) ⌝ }
-    ensures { λ q. ⌜ made q (now (rows .exit)) (now (names .exit)) ≡ File.taken (made r (now (rows .entry)) (now (names .entry))) (now (s .entry)) (take (File.wanted width (r .awaits)) values) ⌝ }
-{
-    if r.awaits {
-        return begun(r, values);
-    }
-    stored(r, values, width, rows, names, s)
-}
-
 // How many numbers are wanted in a line.
 fn wanted(awaits: bool, width: usize) -> usize
     ensures { λ n. ⌜ n ≡ File.wanted width awaits ⌝ }
@@ -202,7 +184,12 @@ fn with_line(r: Reading, width: usize, rows: &mut [u16], names: &mut [u8], s: &[
     let values = row.values;
     match fields::judge(form, wanted(r.awaits, width)) {
         Judged::Blank => r,
-        Judged::Good => taken(r, values, width, rows, names, s),
+        Judged::Good => {
+            if r.awaits {
+                return begun(r, values);
+            }
+            stored(r, values, width, rows, names, s)
+        }
         Judged::NoNumber => faulted(r, Fault::NoNumber),
         Judged::OtherCount => faulted(r, Fault::OtherCount),
     }
