@@ -8,11 +8,22 @@ use replay::Out;
 use text::Whole;
 ghost use mathlib.Core.Path.{_≡_};
 ghost use mathlib.Core.Bool.{true};
-ghost use Rattle.conversion.specs.Flat.{accepted};
+ghost use Rattle.conversion.specs.Flat.{accepted, flat};
+ghost use Rattle.conversion.specs.Calendar.{yearOk};
+ghost use Rattle.rules.specs.Rules.{rulesOf};
+ghost use Rattle.doubtful.specs.Pieces.{Puts};
+ghost use Rattle.doubtful.specs.Years.{sheet};
+ghost use Rattle.doubt.specs.Range.{yearsTo, rangePieces};
+
+// One line on standard error.
+fn complain(line: &[u8]) {
+    io::write_all(libc::STDERR_FILENO, line);
+}
 
 // Whether a year is one of an accepted table.
 fn is_year(table: Table, rows: &[u16], year: u16) -> bool
     requires { ⌜ accepted table (now rows) ≡ true ⌝ }
+    ensures { λ r. ⌜ r ≡ yearOk (flat table (now (rows .entry))) year ⌝ }
 {
     match conversion::month_days(table, rows, year, 1) {
         MonthDays::Days(_) => true,
@@ -21,7 +32,7 @@ fn is_year(table: Table, rows: &[u16], year: u16) -> bool
     }
 }
 
-// The years from the first on, so many of them.
+// The first year and those after it, up to the last.
 fn put_years(
     p: Page,
     out: &mut [u8],
@@ -33,6 +44,7 @@ fn put_years(
     names: &[u8],
 ) -> Page
     requires { ⌜ accepted table (now rows) ≡ true ⌝ }
+    ensures { λ r. ⌜ sheet (now (out .exit)) r ≡ yearsTo (flat table (now (rows .entry))) (rulesOf (now (rules .entry))) (now (names .entry)) first last (sheet (now (out .entry)) p) ⌝ }
 {
     let mut q = p;
     let mut year = first;
@@ -44,7 +56,9 @@ fn put_years(
 }
 
 // Which years were asked.
-fn put_range(o: Out, out: &mut [u8], first: u16, last: u16) -> Out {
+fn put_range(o: Out, out: &mut [u8], first: u16, last: u16) -> Out
+    ensures { λ r. ⌜ Puts (now (out .entry)) o (rangePieces first last) (now (out .exit)) r ⌝ }
+{
     let a = doubtful::put_labelled(o, out, b"BS ", first as u64);
     let b = doubtful::put_labelled(a, out, b" to ", last as u64);
     doubtful::put_text(b, out, b": ")
@@ -91,19 +105,19 @@ fn answer_over(
     requires { ⌜ accepted table (now rows) ≡ true ⌝ }
 {
     if !rules::accepts_rules(rules) {
-        files::complain(b"RULES: refused with 2\n");
+        complain(b"RULES: refused with 2\n");
         return;
     }
     if last < first {
-        files::complain(b"LAST: expected a year not before FIRST\n");
+        complain(b"LAST: expected a year not before FIRST\n");
         return;
     }
     if !is_year(table, rows, first) {
-        files::complain(b"FIRST: expected a BS year of the table\n");
+        complain(b"FIRST: expected a BS year of the table\n");
         return;
     }
     if !is_year(table, rows, last) {
-        files::complain(b"LAST: expected a BS year of the table\n");
+        complain(b"LAST: expected a BS year of the table\n");
         return;
     }
     put_page(table, rows, first, last, rules, names, out);
@@ -123,7 +137,7 @@ fn answer(
         answer_over(table, rows, first, last, rules, names, out);
         return;
     }
-    files::complain(b"TABLE: refused with 1; ./spring TABLE TABLE says where it breaks a rule\n");
+    complain(b"TABLE: refused with 1; ./spring TABLE TABLE says where it breaks a rule\n");
 }
 
 // The same with the parts of the lent buffers that were read.
@@ -155,15 +169,15 @@ fn year_in(i: usize) -> Whole {
 fn run(rows: &mut [u16], rules: &mut [u16], names: &mut [u8], out: &mut [u8]) {
     let count = os::arg_count();
     if (count != 4) & (count != 5) {
-        files::complain(b"expected arguments: TABLE FIRST LAST [RULES]\n");
+        complain(b"expected arguments: TABLE FIRST LAST [RULES]\n");
         return;
     }
     let Whole::Is(first) = year_in(2) else {
-        files::complain(b"FIRST: expected a number up to 65535\n");
+        complain(b"FIRST: expected a number up to 65535\n");
         return;
     };
     let Whole::Is(last) = year_in(3) else {
-        files::complain(b"LAST: expected a number up to 65535\n");
+        complain(b"LAST: expected a number up to 65535\n");
         return;
     };
     let TableRead::Is(table, n) = files::table_at(1, rows) else {

@@ -6,7 +6,7 @@ use mathlib.Core.List.{List, [], _∷_, _++_}
 use native.Mathlib.Omega.{arith}
 use lib.Dec.{eqb}
 use Rattle.text.specs.Quoted.{bytes}
-use Rattle.files.specs.Line.{nameOf}
+use Rattle.fields.specs.Line.{nameOf}
 use Rattle.rules.specs.declared.Rule.{Rule}
 use Rattle.rules.specs.Rules.{ruleAt, rulesFrom}
 use Rattle.replay.specs.Gathered.{Gathered, gathered}

@@ -7,7 +7,7 @@ use lib.Dec.{eqb}
 use lib.Ieee.{Float}
 use Rattle.text.specs.Digits.{digits}
 use Rattle.text.specs.Quoted.{bytes}
-use Rattle.files.specs.Line.{nameOf}
+use Rattle.fields.specs.Line.{nameOf}
 use Rattle.rules.specs.declared.Rule.{Rule}
 use Rattle.conversion.specs.declared.BsDate.{BsDate}
 use Rattle.panchanga.specs.Clock.{clockOf}

@@ -16,7 +16,7 @@ ghost use mathlib.Core.Bool.{true, false, _||_};
 ghost use mathlib.Core.List.{[], _∷_};
 ghost use Prim.Native.Nat.{_+_, _*_, _≤_};
 ghost use lib.ListN.{length, take};
-ghost use Rattle.files.specs.Line.{nameOf};
+ghost use Rattle.fields.specs.Line.{nameOf};
 ghost use Rattle.rules.specs.Rules.{ruleAt, rulesOf};
 ghost use Rattle.conversion.specs.Flat.{accepted, flat};
 ghost use Rattle.doubtful.specs.Numbers.{monthBefore, monthAfter, oneMore, firstPage, pageWith, withOut};

@@ -4,7 +4,7 @@ use gregorian::DateAnswer;
 use replay::Out;
 ghost use mathlib.Core.List.{[], _∷_};
 ghost use Rattle.text.specs.Digits.{run, digits};
-ghost use Rattle.files.specs.Line.{nameOf};
+ghost use Rattle.fields.specs.Line.{nameOf};
 ghost use Rattle.doubtful.specs.Pieces.{Puts, ymdPieces, datePieces, clockPieces, spanPieces, monthPieces};
 
 // A text of at most 128 bytes.
@@ -109,7 +109,7 @@ pub fn put_name(o: Out, out: &mut [u8], names: &[u8], i: usize) -> Out
 {
     let r = o.room(out, 128);
     Out {
-        at: files::put_name(out, r.at, names, i),
+        at: fields::put_name(out, r.at, names, i),
         begun: false,
         failed: r.failed,
     }

@@ -3,21 +3,39 @@ use Prim.Native.Nat.{ℕ, _+_, _/_, _≤_, _<_}
 use mathlib.Core.Path.{_≡_, refl, sym, ap, _∙_}
 use mathlib.Core.Bool.{Bool, true, false, cond}
 use mathlib.Core.List.{List, [], _∷_, _++_}
+use native.Mathlib.Nat.{add-zero}
 use native.Mathlib.Omega.{arith}
-use borrow.Author.Tests.{eqb-true, le-leb, lt-leb, lt-ltb, le-ltb}
-use lib.Dec.{eqb}
-use lib.ListN.{length, getD, take}
+use borrow.Author.Tests.{le-leb, lt-leb, lt-ltb, le-ltb}
+use lib.ListN.{length, getD, take, drop, set, drop-of-length-le}
 use lib.Seq.{sets, getD-take, length-take-le}
-use Rattle.paper.proofs.Stores.{front-of}
+use Rattle.paper.proofs.Stores.{sets-turn}
 use Rattle.files.specs.declared.TableRead.{TableRead}
 use Rattle.files.specs.declared.RulesRead.{RulesRead}
 use Rattle.files.specs.declared.reading.Fault.the-variants as fault
 use Rattle.files.specs.declared.reading.Reading.{Reading}
-use Rattle.files.specs.declared.row.Row.{Row}
-use Rattle.files.specs.declared.row.Judged.{Judged}
-use Rattle.files.specs.declared.row.Judged.the-variants as judged
-use Rattle.files.specs.Line.{Words, are, noNumber, tooMany, numbersOf, wordsOf, zeros, packed, rowOf, countedAs, judgedAs, named}
+use Rattle.fields.specs.declared.row.Row.{Row}
+use Rattle.fields.specs.declared.row.Judged.{Judged}
+use Rattle.fields.specs.declared.row.Judged.the-variants as judged
+use Rattle.fields.specs.Line.{numbersOf, wordsOf, rowOf, judgedAs, named}
+use Rattle.fields.proofs.Rows.{front-numbers}
 use Rattle.files.specs.File.{Came, cameAs, End, over, broken, Made, made, numbered, faulted, begun, counted, fails, stored, taken, wanted, withJudged, withLine, withNext, well, unlessFaulty, after, ended, Makes, shut, holds, begin, width, Reads, tableOf, ReadsTable, rulesOf, ReadsRules}
+
+-- ---- numbers that are stored
+
+module _ (l v : List ℕ) (at n : ℕ) (h : n ≤ length v) where
+  pub store-first : sets l (at + 0) (drop 0 (take n v)) ≡ sets l at (take n v)
+  store-first = rw add-zero
+
+  pub store-turn : (i : ℕ) → i < n → sets (set l (at + i) (getD v i 0)) (at + (i + 1)) (drop (i + 1) (take n v)) ≡ sets l (at + i) (drop i (take n v))
+  store-turn i k =
+      let e : getD (take n v) i 0 ≡ getD v i 0 = getD-take n v i 0 k in
+      let q : i < length (take n v) = omega (arith, length-take-le n v h) in
+      rw e at (sets-turn l (take n v) at i 0 q)
+
+  pub store-over : (i : ℕ) → n ≤ i → l ≡ sets l (at + i) (drop i (take n v))
+  store-over i k =
+      let q : length (take n v) ≤ i = omega (arith, length-take-le n v h) in
+      rw (drop-of-length-le (take n v) {i = i} q)
 
 -- ---- a row
 
@@ -54,25 +72,6 @@ module _ (r : Reading) (rows names s v : List ℕ) (w : ℕ) where
   taken-row e t = t ∙ rw e
 
 -- ---- a line
-
--- a line that has the numbers that are wanted has them in front
-pub good-front : (w : ℕ) (v : Words) → w ≤ 13 → judgedAs w (packed zeros 0 v .form) ≡ judged.Good → take w (packed zeros 0 v .values) ≡ numbersOf v
-unfolding countedAs
-good-front w (are ns) h e = go (eqb (0 + length ns) 0) (eqb (0 + length ns) w) refl e
-  where
-    go : (a b : Bool) → eqb (0 + length ns) w ≡ b → cond a judged.Blank (cond b judged.Good judged.OtherCount) ≡ judged.Good
-        → take w (sets zeros 0 ns) ≡ ns
-    go true b f q = absurd (let z : _≡_ {A = ℕ} 0 1 = cc in let n : ⊥ = omega arith in n)
-    go false true f q =
-        let l : length ns ≡ w = omega (arith, eqb-true (0 + length ns) w f) in
-        front-of ns zeros (sets zeros 0 ns) w refl l h
-    go false false f q = absurd (let z : _≡_ {A = ℕ} 0 1 = cc in let n : ⊥ = omega arith in n)
-good-front w noNumber h e = absurd (let z : _≡_ {A = ℕ} 0 1 = cc in let n : ⊥ = omega arith in n)
-good-front w tooMany h e = absurd (let z : _≡_ {A = ℕ} 0 1 = cc in let n : ⊥ = omega arith in n)
-
-front-numbers : (w : ℕ) (s : List ℕ) → w ≤ 13 → judgedAs w (rowOf s .form) ≡ judged.Good → take w (rowOf s .values) ≡ numbersOf (wordsOf s)
-unfolding rowOf
-front-numbers w s h e = good-front w (wordsOf s) h e
 
 wanted-small : (w : ℕ) (awaits : Bool) → w ≤ 13 → wanted w awaits ≤ 13
 unfolding wanted

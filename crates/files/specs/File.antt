@@ -1,4 +1,4 @@
--- A year table or a list of rules: a file, line by line, and what it makes of the lent lists. What a line is, Line.antt says; what a fault becomes,
+-- A year table or a list of rules: a file, line by line, and what it makes of the lent lists. What a line is, `fields` says; what a fault becomes,
 -- Problems.antt. Assumes nothing.
 use Prim.Native.Nat.{ℕ, _+_, _/_}
 use mathlib.Core.Bool.{Bool, true, false, cond}
@@ -16,9 +16,9 @@ use Rattle.files.specs.declared.Wrong.the-variants as wrong
 use Rattle.files.specs.declared.reading.Fault.{Fault}
 use Rattle.files.specs.declared.reading.Fault.the-variants as fault
 use Rattle.files.specs.declared.reading.Reading.{Reading}
-use Rattle.files.specs.declared.row.Judged.{Judged}
-use Rattle.files.specs.declared.row.Judged.the-variants as judged
-use Rattle.files.specs.Line.{wordsOf, numbersOf, rowOf, judgedAs, named}
+use Rattle.fields.specs.declared.row.Judged.{Judged}
+use Rattle.fields.specs.declared.row.Judged.the-variants as judged
+use Rattle.fields.specs.Line.{wordsOf, numbersOf, rowOf, judgedAs, named}
 use Rattle.files.specs.Problems.{wrongWith}
 
 -- ---- what a path names

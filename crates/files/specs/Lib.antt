@@ -1,4 +1,3 @@
 -- What the contracts of `files` are written in.
-pub mod Line
 pub mod Problems
 pub mod File

@@ -2,13 +2,20 @@
 ghost use Rattle.files.specs.File.{ReadsTable, ReadsRules};
 use crate::RulesRead;
 use crate::TableRead;
-use crate::problems;
+use crate::problems::Problem;
+
+// Says what is wrong with a file.
+fn report(path: &[u8], p: Problem) {
+    let mut out = [0u8; 4608];
+    let n = crate::put_problem(&mut out, 0, path, p);
+    io::write_all(libc::STDERR_FILENO, &out[..n]);
+}
 
 // Says what is wrong with a table, where something is.
 fn report_table(path: &[u8], r: TableRead) {
     match r {
         TableRead::Is(_, _) => {}
-        TableRead::Not(p) => problems::report(path, p),
+        TableRead::Not(p) => report(path, p),
     }
 }
 
@@ -16,7 +23,7 @@ fn report_table(path: &[u8], r: TableRead) {
 fn report_rules(path: &[u8], r: RulesRead) {
     match r {
         RulesRead::Are(_) => {}
-        RulesRead::Not(p) => problems::report(path, p),
+        RulesRead::Not(p) => report(path, p),
     }
 }
 

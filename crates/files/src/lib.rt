@@ -1,21 +1,15 @@
-// The two data files of the engine, read into lent buffers: a year table and a list of rules. A line is judged as specs/Line.antt says,
-// and a whole file as specs/File.antt does. What a file holds is outside every contract: for some file each answer and each lent element is that.
+// The two data files of the engine, read into lent buffers: a year table and a list of rules. What a line is, `fields` says, and
+// specs/File.antt what a whole file is. What a file holds is outside every contract: for some file each answer and each lent element is that.
 mod arguments;
-mod names;
 mod problems;
 mod reading;
-mod row;
 
 pub use arguments::rules_asked;
 pub use arguments::rules_at;
 pub use arguments::table_at;
 use conversion::Table;
-pub use names::put_name;
 pub use problems::Problem;
-pub use problems::complain;
-pub use problems::complain_front;
 pub use problems::put_problem;
-pub use problems::report;
 use reading::Fault;
 use reading::Reading;
 ghost use mathlib.Core.Path.{_≡_};

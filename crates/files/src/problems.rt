@@ -1,7 +1,6 @@
 // What can be wrong with a file, and the one line that says so.
 ghost use Rattle.text.specs.Written.{Wrote};
 ghost use Rattle.files.specs.Problems.{atLine, whatText, problemText};
-use libc::STDERR_FILENO;
 
 // The number is that of the line, from 1 on.
 pub enum Problem {
@@ -65,23 +64,4 @@ pub fn put_problem(out: &mut [u8], at: usize, path: &[u8], p: Problem) -> usize
     let a = text::put(out, at, path);
     let b = put_what(out, a, p);
     text::put(out, b, b"\n")
-}
-
-// Writes that line to standard error.
-pub fn report(path: &[u8], p: Problem) {
-    let mut out = [0u8; 4608];
-    let n = put_problem(&mut out, 0, path, p);
-    complain_front(&out, n);
-}
-
-// One line on standard error.
-pub fn complain(line: &[u8]) {
-    io::write_all(STDERR_FILENO, line);
-}
-
-// The line that the first n bytes of a buffer are, on standard error.
-pub fn complain_front(out: &[u8], n: usize) {
-    if n <= out.len() {
-        complain(&out[..n]);
-    }
 }

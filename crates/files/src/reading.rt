@@ -6,10 +6,8 @@ ghost use lib.ListN.{length, take};
 ghost use lib.Seq.{sets};
 ghost use Rattle.files.specs.File as File;
 ghost use Rattle.files.specs.File.{made, begin, well, withLine, withNext, cameAs, Makes, Reads};
-use crate::names;
-use crate::row;
-use crate::row::Judged;
 use conversion::Table;
+use fields::Judged;
 use lines::Input;
 
 // What is wrong with the line that was read last, or with the file.
@@ -164,27 +162,9 @@ fn stored(
     if rows.len() - width < count {
         return faulted(r, Fault::TooMany);
     }
-    names::keep_name(names, count / 8, s);
+    fields::keep_name(names, count / 8, s);
     store(rows, count, values, width);
     counted(r, width)
-}
-
-// The reading with a line that has the numbers that are wanted.
-fn taken(
-    r: Reading,
-    values: [u16; 13],
-    width: usize,
-    rows: &mut [u16],
-    names: &mut [u8],
-    s: &[u8],
-) -> Reading
-    requires { ⌜ (length values ≡ 13) × (width ≤ 13) ⌝ }
-    ensures { λ q. ⌜ made q (now (rows .exit)) (now (names .exit)) ≡ File.taken (made r (now (rows .entry)) (now (names .entry))) (now (s .entry)) (take (File.wanted width (r .awaits)) values) ⌝ }
-{
-    if r.awaits {
-        return begun(r, values);
-    }
-    stored(r, values, width, rows, names, s)
 }
 
 // How many numbers are wanted in a line.
@@ -199,12 +179,17 @@ fn with_line(r: Reading, width: usize, rows: &mut [u16], names: &mut [u8], s: &[
     requires { ⌜ width ≤ 13 ⌝ }
     ensures { λ q. ⌜ made q (now (rows .exit)) (now (names .exit)) ≡ withLine width (made r (now (rows .entry)) (now (names .entry))) (now (s .entry)) ⌝ }
 {
-    let row = row::read_row(s);
+    let row = fields::read_row(s);
     let form = row.form;
     let values = row.values;
-    match row::judge(form, wanted(r.awaits, width)) {
+    match fields::judge(form, wanted(r.awaits, width)) {
         Judged::Blank => r,
-        Judged::Good => taken(r, values, width, rows, names, s),
+        Judged::Good => {
+            if r.awaits {
+                return begun(r, values);
+            }
+            stored(r, values, width, rows, names, s)
+        }
         Judged::NoNumber => faulted(r, Fault::NoNumber),
         Judged::OtherCount => faulted(r, Fault::OtherCount),
     }
@@ -241,7 +226,7 @@ fn with_input(
     input: Input,
     line: &[u8],
 ) -> Reading
-    requires { ⌜ (width ≤ 13) × (well (r .fault) ≡ true) ⌝ }
+    requires { ⌜ (width ≤ 13) × (well (r .fault) ≡ true) × (input .len ≤ length (now line)) ⌝ }
     ensures { λ q. ⌜ Makes width (made r (now (rows .entry)) (now (names .entry))) (made q (now (rows .exit)) (now (names .exit))) ⌝ }
 {
     let n = input.len;
@@ -251,10 +236,7 @@ fn with_input(
     if input.left == 0 {
         return r;
     }
-    if n <= line.len() {
-        return with_next(r, width, rows, names, input.long, &line[..n]);
-    }
-    with_next(r, width, rows, names, true, line)
+    with_next(r, width, rows, names, input.long, &line[..n])
 }
 
 // The reading of all lines of a descriptor. The steps are enough for 10,000 lines and for 160 million bytes.

@@ -1,19 +1,26 @@
--- `doubt::put_years` is proved: the years left fall. Assumes nothing.
+-- `doubt::put_years` meets its contract: the years left come to the whole. Assumes nothing.
 use Prim.Native.Nat.{_-_}
-use mathlib.Core.Path.{_≡_}
+use mathlib.Core.Path.{_≡_, refl}
 use lib.ListN.{length}
+use Rattle.conversion.specs.Flat.{flat}
+use Rattle.rules.specs.Rules.{rulesOf}
+use Rattle.doubtful.specs.Years.{sheet}
+use Rattle.doubt.specs.Range.{yearsTo}
+use Rattle.doubt.proofs.Asked.{years-turn, years-last}
 use borrow.Author.Needs.{needs}
 use Rattle.doubt.proofs.put_years.Statement.{statement}
 use Rattle.doubt.proofs.put_years.Tie as tie
 
 abbrev Inv-loop : tie.InvT-loop
-Inv-loop out₀ table rows first last rules names q₀ year₀ out q year = length out ≡ length out₀
+Inv-loop out₀ table rows first last rules names q₀ year₀ out q year =
+    (length out ≡ length out₀)
+    × (yearsTo (flat table rows) (rulesOf rules) names year last (sheet out q) ≡ yearsTo (flat table rows) (rulesOf rules) names first last (sheet out₀ q₀))
 
 abbrev μ-loop : tie.MeasureT-loop
 μ-loop out₀ table rows first last rules names q₀ year₀ out q year = last - year
 
 loop-holds : tie.Need-loop-holds Inv-loop μ-loop
-loop-holds c = search needs
+loop-holds c = (search needs, refl)
 
 put-year-requires : tie.Need-put-year-requires Inv-loop μ-loop
 put-year-requires c κs = search needs
@@ -25,7 +32,7 @@ loop-less : tie.Need-loop-less Inv-loop μ-loop
 loop-less c = search needs
 
 loop-again : tie.Need-loop-again Inv-loop μ-loop
-loop-again c = search needs
+loop-again c = (search needs, years-turn _ _ _ (c .before .before .before .before .before .loop .year) (c .before .before .before .before .before .before .before .before .before .before .args .last) _ (c .before .before .put-year .ensures) (c .before .before .before .before .before .loop .inv .1) (c .before .before .before .before .loop-test .taken))
 
 put-year-requires-2 : tie.Need-put-year-requires-2 Inv-loop μ-loop
 put-year-requires-2 c κs = search needs
@@ -34,7 +41,7 @@ same-length : tie.Need-same-length Inv-loop μ-loop
 same-length c = search needs
 
 returns : tie.Need-returns Inv-loop μ-loop
-returns c = search needs
+returns c = years-last _ _ _ (c .before .before .before .before .before .loop .year) (c .before .before .before .before .before .before .before .before .before .before .args .last) _ (c .before .before .put-year2 .ensures) (c .before .before .before .before .before .loop .inv .1) (c .before .before .before .before .loop-test .left)
 
 pub put-years-spec : {M : Type 1} → statement M
 put-years-spec =

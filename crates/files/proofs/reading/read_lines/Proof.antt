@@ -27,7 +27,7 @@ next-line-requires : tie.Need-next-line-requires Inv-loop μ-loop
 next-line-requires c κs = search needs
 
 with-input-requires : tie.Need-with-input-requires Inv-loop μ-loop
-with-input-requires c κs = (c .before .before .before .before .before .before .before .before .before .before .before .before .before .before .before .before .before .before .pre .0, c .before .before .before .before .before .before .before .before .before .before .before .before .loop .inv .5)
+with-input-requires c κs = (c .before .before .before .before .before .before .before .before .before .before .before .before .before .before .before .before .before .before .pre .0, c .before .before .before .before .before .before .before .before .before .before .before .before .loop .inv .5, search needs)
 
 is-well-requires : tie.Need-is-well-requires Inv-loop μ-loop
 is-well-requires c κs = search needs

@@ -4,7 +4,7 @@ use Prim.Native.Nat.{_+_, _-_, _≤_}
 use mathlib.Core.Path.{_≡_, refl, _∙_}
 use lib.ListN.{length, take, drop, length-set}
 use lib.Seq.{sets}
-use Rattle.files.proofs.Rows.{store-first, store-turn, store-over}
+use Rattle.files.proofs.Made.{store-first, store-turn, store-over}
 use Rattle.files.proofs.reading.store.Statement.{statement}
 use Rattle.files.proofs.reading.store.Tie as tie
 

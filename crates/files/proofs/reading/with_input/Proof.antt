@@ -1,5 +1,4 @@
 -- `files::reading::with_input` meets its contract: one line came, or none. Assumes nothing.
-use mathlib.Core.Bool.{true}
 use mathlib.Core.Path.{sym}
 use lib.ListN.{take}
 use lib.Seq.{length-take-le}
@@ -19,7 +18,7 @@ returns-2 : tie.Need-returns-2
 returns-2 c = makes-same
 
 slice-aggregate-with-next : tie.Need-slice-aggregate-with-next
-slice-aggregate-with-next c = let a = c .before .before .before .before .before .before .before .before .before .before .args in sym (length-take-le (a .input .len) (a .line .now) (c .before .before .before .if3 .taken))
+slice-aggregate-with-next c = let a = c .before .before .before .before .before .before .before .before .before .args in sym (length-take-le (a .input .len) (a .line .now) (c .before .before .before .before .before .before .before .before .before .pre .2))
 
 with-next-requires : tie.Need-with-next-requires
 with-next-requires c κs = search needs
@@ -31,21 +30,8 @@ same-length-2 : tie.Need-same-length-2
 same-length-2 c = search needs
 
 returns-3 : tie.Need-returns-3
-returns-3 c = let a = c .before .before .before .before .before .before .before .before .before .before .before .before .before .before .before .args in
-    makes-line {x = made (a .r) (a .rows .now) (a .names .now)} (c .before .before .before .before .before .before .before .before .before .before .before .before .before .before .before .pre .1) (cameAs (a .input .long) (take (a .input .len) (a .line .now))) (c .before .before .before .before .with-next .ensures)
-
-with-next-requires-2 : tie.Need-with-next-requires-2
-with-next-requires-2 c κs = search needs
-
-same-length-3 : tie.Need-same-length-3
-same-length-3 c = search needs
-
-same-length-4 : tie.Need-same-length-4
-same-length-4 c = search needs
-
-returns-4 : tie.Need-returns-4
-returns-4 c = let a = c .before .before .before .before .before .before .before .before .before .before .before .before .before .before .args in
-    makes-line {x = made (a .r) (a .rows .now) (a .names .now)} (c .before .before .before .before .before .before .before .before .before .before .before .before .before .before .pre .1) (cameAs true (a .line .now)) (c .before .before .before .before .with-next2 .ensures)
+returns-3 c = let a = c .before .before .before .before .before .before .before .before .before .before .before .before .before .before .args in
+    makes-line {x = made (a .r) (a .rows .now) (a .names .now)} (c .before .before .before .before .before .before .before .before .before .before .before .before .before .before .pre .1) (cameAs (a .input .long) (take (a .input .len) (a .line .now))) (c .before .before .before .before .with-next .ensures)
 
 pub with-input-spec : {M : Type 1} → statement M
 with-input-spec =
@@ -58,8 +44,4 @@ with-input-spec =
     with-next-requires
     same-length
     same-length-2
-    returns-3
-    with-next-requires-2
-    same-length-3
-    same-length-4
-    returns-4)
+    returns-3)

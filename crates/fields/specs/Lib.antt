@@ -1,0 +1,2 @@
+-- What the contracts of `fields` are written in.
+pub mod Line
