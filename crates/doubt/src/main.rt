@@ -1,7 +1,6 @@
 // Which new moons of BS years to check against the gazette: those near the beginning of a solar month.
 use conversion::MonthDays;
 use conversion::Table;
-use doubtful::Page;
 use files::RulesRead;
 use files::TableRead;
 use replay::Out;
@@ -10,10 +9,8 @@ ghost use mathlib.Core.Path.{_≡_};
 ghost use mathlib.Core.Bool.{true};
 ghost use Rattle.conversion.specs.Flat.{accepted, flat};
 ghost use Rattle.conversion.specs.Calendar.{yearOk};
-ghost use Rattle.rules.specs.Rules.{rulesOf};
-ghost use Rattle.doubtful.specs.Pieces.{Puts};
-ghost use Rattle.doubtful.specs.Years.{sheet};
-ghost use Rattle.doubt.specs.Range.{yearsTo, rangePieces};
+ghost use Rattle.pieces.specs.Pieces.{Puts};
+ghost use Rattle.doubt.specs.Range.{rangePieces};
 
 // One line on standard error.
 fn complain(line: &[u8]) {
@@ -32,36 +29,13 @@ fn is_year(table: Table, rows: &[u16], year: u16) -> bool
     }
 }
 
-// The first year and those after it, up to the last.
-fn put_years(
-    p: Page,
-    out: &mut [u8],
-    table: Table,
-    rows: &[u16],
-    first: u16,
-    last: u16,
-    rules: &[u16],
-    names: &[u8],
-) -> Page
-    requires { ⌜ accepted table (now rows) ≡ true ⌝ }
-    ensures { λ r. ⌜ sheet (now (out .exit)) r ≡ yearsTo (flat table (now (rows .entry))) (rulesOf (now (rules .entry))) (now (names .entry)) first last (sheet (now (out .entry)) p) ⌝ }
-{
-    let mut q = p;
-    let mut year = first;
-    while year < last {
-        q = doubtful::put_year(q, out, table, rows, year, rules, names);
-        year += 1;
-    }
-    doubtful::put_year(q, out, table, rows, year, rules, names)
-}
-
 // Which years were asked.
 fn put_range(o: Out, out: &mut [u8], first: u16, last: u16) -> Out
     ensures { λ r. ⌜ Puts (now (out .entry)) o (rangePieces first last) (now (out .exit)) r ⌝ }
 {
-    let a = doubtful::put_labelled(o, out, b"BS ", first as u64);
-    let b = doubtful::put_labelled(a, out, b" to ", last as u64);
-    doubtful::put_text(b, out, b": ")
+    let a = pieces::put_labelled(o, out, b"BS ", first as u64);
+    let b = pieces::put_labelled(a, out, b" to ", last as u64);
+    pieces::put_text(b, out, b": ")
 }
 
 // The page over an accepted table.
@@ -76,7 +50,7 @@ fn put_page(
 )
     requires { ⌜ accepted table (now rows) ≡ true ⌝ }
 {
-    let p = put_years(
+    let p = doubtful::put_years(
         doubtful::begin(),
         out,
         table,

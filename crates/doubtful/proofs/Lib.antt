@@ -1,4 +1,1 @@
-pub mod Nears
-pub mod Pieces
-pub mod Lines
 pub mod Sheets

@@ -30,17 +30,17 @@ use Rattle.festivals.specs.Answers.{daysAre}
 use Rattle.festivals.specs.declared.months.Months.{Months}
 use Rattle.festivals.specs.declared.months.YearDays.{YearDays}
 use Rattle.festivals.specs.declared.months.YearDays.the-variants as YD
-use Rattle.doubtful.specs.Near.{datedMoon, datedSays, nearness, nearSays}
-use Rattle.doubtful.specs.Numbers.{oneMore, withOut}
-use Rattle.doubtful.specs.Pieces.{Text, putPieces, Puts}
-use Rattle.doubtful.specs.Page.{momentPieces, openingPieces, nonePieces, rulesPieces, afterPieces, beforePieces}
-use Rattle.doubtful.specs.Years.{Tally, tallyOf, withHeading, doubted, unopened, Sheet, sheet, headingPieces, under, nearLine, datedLine, monthLine, monthLines, opensMonth, openedAt, Opened, lengthLine, placedLine, dayLine, moonLine, moonLines, daysPage, yearPage, hasPlace, opensPlace}
+use Rattle.nearness.specs.Near.{datedMoon, datedSays, nearness, nearSays}
+use Rattle.pieces.specs.Pieces.{Text, putPieces, Puts}
+use Rattle.notes.specs.Lines.{momentPieces, openingPieces, nonePieces, rulesPieces, besidePieces}
+use Rattle.doubtful.specs.Tallies.{Tally, tallyOf, withHeading, withOut, oneMore, doubted, unopened, headingPieces}
+use Rattle.doubtful.specs.Years.{Sheet, sheet, under, nearLine, datedLine, monthLine, monthLines, opensMonth, openedAt, Opened, lengthLine, placedLine, dayLine, moonLine, moonLines, daysPage, yearPage, yearsPage, hasPlace, opensPlace}
 use Rattle.doubtful.specs.declared.page.Page.{Page}
-use Rattle.doubtful.specs.declared.Dated.{Dated}
-use Rattle.doubtful.specs.declared.Dated.the-variants as D
-use Rattle.doubtful.specs.declared.Nearness.{Nearness}
-use Rattle.doubtful.specs.declared.Nearness.the-variants as N
-use Rattle.doubtful.proofs.Pieces.{then}
+use Rattle.nearness.specs.declared.Dated.{Dated}
+use Rattle.nearness.specs.declared.Dated.the-variants as D
+use Rattle.nearness.specs.declared.Nearness.{Nearness}
+use Rattle.nearness.specs.declared.Nearness.the-variants as N
+use Rattle.pieces.proofs.Pieces.{then}
 
 -- ---- lines under a heading
 
@@ -72,11 +72,8 @@ module _ (rules : List Rule) (names : List ℕ) (x : Float) (n : ℕ) (t : BsDat
   unfolding datedLine
   near-is g = ap (λ (d : Option (Bool × ℕ)). nearLine rules names x n t opens d s) (sym g ∙ e)
 
-  pub dated-after : {minutes : ℕ} → q ≡ N.After minutes → under (t .year) (momentPieces x n ++ afterPieces rules names t opens minutes) (doubted true true opens) s ≡ datedLine rules names x n t opens len s
-  dated-after g = near-is (ap nearSays g)
-
-  pub dated-before : {minutes : ℕ} → q ≡ N.Before minutes → under (t .year) (momentPieces x n ++ beforePieces rules names t opens minutes) (doubted true false opens) s ≡ datedLine rules names x n t opens len s
-  dated-before g = near-is (ap nearSays g)
+  pub dated-beside : {after : Bool} {minutes : ℕ} → q ≡ N.Beside after minutes → under (t .year) (momentPieces x n ++ besidePieces rules names t opens after minutes) (doubted true after opens) s ≡ datedLine rules names x n t opens len s
+  dated-beside g = near-is (ap nearSays g)
 
   pub dated-far : q ≡ N.Far → opens ≡ false → under (t .year) (momentPieces x n ++ openingPieces t opens) (doubted false false opens) s ≡ datedLine rules names x n t opens len s
   dated-far g o =
@@ -230,3 +227,17 @@ module _ (c : Calendar) (y : ℕ) (rules : List Rule) (names : List ℕ) (l : Li
       ∙ months-same rules names y (hasPlace places) (openedAt c y) (opened-same c y places h) 0 12 (omega arith) u
       ∙ ap (monthLines rules names y (openedAt c y) 0 12) (m ∙ ap (λ (r : Page). moonLines c y rules names xs (sheet l r)) z ∙ ap (λ (ms : List Float). moonLines c y rules names ms (sheet l (withOut false p (p .out)))) f)
       ∙ year-is (ap daysAre g)
+
+-- ---- years, up to the last
+
+module _ (c : Calendar) (rules : List Rule) (names : List ℕ) where
+  pub years-none : (first last : ℕ) (s : Sheet) → last < first → s ≡ yearsPage c rules names first (last + 1 - first) s
+  unfolding yearsPage
+  years-none first last s h = let e : last + 1 - first ≡ 0 = omega arith in rw e
+
+  pub years-turn : (y last : ℕ) → y ≤ last → (s u v : Sheet) → u ≡ yearPage c y rules names s → yearsPage c rules names y (last + 1 - y) s ≡ v → yearsPage c rules names (y + 1) (last + 1 - (y + 1)) u ≡ v
+  unfolding yearsPage
+  years-turn y last h s u v e q = let k : last + 1 - y ≡ suc (last + 1 - (y + 1)) = omega arith in rw e (rw k at q)
+
+  pub years-last : (y last : ℕ) → y ≤ last → last ≤ y → (s u v : Sheet) → u ≡ yearPage c y rules names s → yearsPage c rules names y (last + 1 - y) s ≡ v → u ≡ v
+  years-last y last h k s u v e q = years-none (y + 1) last u (omega arith) ∙ years-turn y last h s u v e q

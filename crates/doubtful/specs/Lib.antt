@@ -1,6 +1,3 @@
 -- What the contracts of `doubtful` are written in.
-pub mod Near
-pub mod Numbers
-pub mod Pieces
-pub mod Page
+pub mod Tallies
 pub mod Years

@@ -1,6 +1,6 @@
 -- What a BS year puts on a page: its heading once, its doubtful new moons, and its lunar months that no new moon opens. Assumes nothing.
 use Prim.Native.Nat.{ℕ, zero, suc, _+_, _-_, _<_}
-use mathlib.Core.Bool.{Bool, true, false, cond, not, _&&_}
+use mathlib.Core.Bool.{Bool, true, false, cond, _&&_}
 use mathlib.Core.Path.{_≡_}
 use mathlib.Core.List.{List, [], _∷_, _++_}
 use mathlib.Core.Option.{Option, some, none}
@@ -8,8 +8,6 @@ use lib.Dec.{eqb}
 use lib.ListN.{getD}
 use lib.Ieee.{Float, eq}
 use Rattle.paper.specs.Answers.{Answer, answered, refused}
-use Rattle.text.specs.Digits.{digits}
-use Rattle.text.specs.Quoted.{bytes}
 use Rattle.replay.specs.Gathered.{Gathered, gathered}
 use Rattle.conversion.specs.declared.BsDate.{BsDate}
 use Rattle.conversion.specs.Calendar.{Calendar, monthOk, monthLen}
@@ -19,49 +17,11 @@ use Rattle.rules.specs.Festivals.{opening}
 use Rattle.festivals.specs.Kathmandu.{moonsAround, kathmandu}
 use Rattle.festivals.specs.Months.{yearDays, monthAt}
 use Rattle.festivals.specs.declared.months.Months.{Months}
-use Rattle.doubtful.specs.Near.{datedMoon, nearness}
-use Rattle.doubtful.specs.Numbers.{oneMore}
-use Rattle.doubtful.specs.Pieces.{Text, putPieces}
-use Rattle.doubtful.specs.Page.{momentPieces, openingPieces, nonePieces, rulesPieces, afterPieces, beforePieces}
+use Rattle.nearness.specs.Near.{datedMoon, nearness}
+use Rattle.pieces.specs.Pieces.{Text, putPieces}
+use Rattle.notes.specs.Lines.{momentPieces, openingPieces, nonePieces, rulesPieces, besidePieces}
+use Rattle.doubtful.specs.Tallies.{Tally, tallyOf, withHeading, doubted, unopened, headingPieces}
 use Rattle.doubtful.specs.declared.page.Page.{Page}
-
--- ---- counts
-
--- whether the year has its heading; the new moons near a boundary, of these those on a month's first day; those that open nothing; and the lunar
--- months that none opens
-pub record Tally : Type 0 where
-  pub headed : Bool
-  pub near : ℕ
-  pub first : ℕ
-  pub second : ℕ
-  pub empty : ℕ
-
--- of a page
-abbrev pub tallyOf : Page → Tally
-tallyOf p = record { headed = p .headed; near = p .near; first = p .first; second = p .second; empty = p .empty }
-
--- the same counts, and whether there is a heading
-abbrev pub withHeading : Bool → Tally → Tally
-withHeading headed t = record { headed = headed; near = t .near; first = t .first; second = t .second; empty = t .empty }
-
--- one more where it counts
-abbrev pub moreIf : Bool → ℕ → ℕ
-moreIf counts n = cond counts (oneMore n) n
-
--- a new moon more: whether it is near a boundary, on a month's first day, and opens a lunar month
-unfoldable pub doubted : Bool → Bool → Bool → Tally → Tally
-doubted near first opens t =
-    record {
-      headed = true;
-      near = moreIf near (t .near);
-      first = moreIf first (t .first);
-      second = moreIf (not opens) (t .second);
-      empty = t .empty;
-    }
-
--- a lunar month more that nothing opens
-unfoldable pub unopened : Tally → Tally
-unopened t = record { headed = true; near = t .near; first = t .first; second = t .second; empty = oneMore (t .empty) }
 
 -- ---- a sheet: what is written, and the counts
 
@@ -73,10 +33,6 @@ pub record Sheet : Type 0 where
 abbrev pub sheet : List ℕ → Page → Sheet
 sheet buffer p = record { written = gathered buffer (p .out); tally = tallyOf p }
 
--- the heading of a year, once
-unfoldable pub headingPieces : Bool → ℕ → List Text
-headingPieces headed y = cond headed [] (bytes "BS " ∷ digits y ∷ bytes "\n" ∷ [])
-
 -- lines under the heading of a year, and what they count
 unfoldable pub under : ℕ → List Text → (Tally → Tally) → Sheet → Sheet
 under y pieces count s =
@@ -85,14 +41,10 @@ under y pieces count s =
 -- ---- a new moon
 
 module _ (rules : List Rule) (names : List ℕ) (x : Float) (n : ℕ) (t : BsDate) (opens : Bool) where
-  -- so many minutes after the beginning of a month, or before its end
-  abbrev pub besideLine : Bool → ℕ → Sheet → Sheet
-  besideLine true minutes = under (t .year) (momentPieces x n ++ afterPieces rules names t opens minutes) (doubted true true opens)
-  besideLine false minutes = under (t .year) (momentPieces x n ++ beforePieces rules names t opens minutes) (doubted true false opens)
-
-  -- far from both it is doubtful if it opens nothing
+  -- after the beginning of a month or before its end it is doubtful, and on a first day if after; far from both, if it opens nothing
   abbrev pub nearLine : Option (Bool × ℕ) → Sheet → Sheet
-  nearLine (some d) s = besideLine (d .0) (d .1) s
+  nearLine (some d) s =
+      under (t .year) (momentPieces x n ++ besidePieces rules names t opens (d .0) (d .1)) (doubted true (d .0) opens) s
   nearLine none s = cond opens s (under (t .year) (momentPieces x n ++ openingPieces t opens) (doubted false false opens) s)
 
   -- a new moon of day n, which is t, in a month of so many days
@@ -160,6 +112,14 @@ module _ (c : Calendar) (y : ℕ) where
     -- a year of the table; another puts nothing
     unfoldable pub yearPage : Sheet → Sheet
     yearPage s = daysPage (yearDays c y) s
+
+-- ---- years
+
+module _ (c : Calendar) (rules : List Rule) (names : List ℕ) where
+  -- so many years, of which y is the first
+  unfoldable pub yearsPage : ℕ → ℕ → Sheet → Sheet
+  yearsPage y zero s = s
+  yearsPage y (suc k) s = yearsPage (y + 1) k (yearPage c y rules names s)
 
 -- ---- what the twelve places of a year say
 

@@ -7,11 +7,11 @@ use Rattle.spring.proofs.answer_new.Tie as tie
 same-first-requires : tie.Need-same-first-requires
 same-first-requires c κs = search needs
 
-slice-aggregate-complain : tie.Need-slice-aggregate-complain
-slice-aggregate-complain c = search needs
+slice-aggregate-write-all : tie.Need-slice-aggregate-write-all
+slice-aggregate-write-all c = search needs
 
-complain-requires : tie.Need-complain-requires
-complain-requires c κs = search needs
+write-all-requires : tie.Need-write-all-requires
+write-all-requires c κs = search needs
 
 returns : tie.Need-returns
 returns c = search needs
@@ -45,8 +45,8 @@ answer-new-spec =
     tie.close
     (tie.spec
     same-first-requires
-    slice-aggregate-complain
-    complain-requires
+    slice-aggregate-write-all
+    write-all-requires
     returns
     accepts-requires
     answer-both-requires

@@ -1,6 +1,6 @@
 -- `doubtful::page::more` meets its contract. Assumes nothing.
 use borrow.Author.Tests.{lt-ltb, le-ltb}
-use Rattle.doubtful.specs.Numbers.{oneMore}
+use Rattle.doubtful.specs.Tallies.{oneMore}
 use borrow.Author.Needs.{needs}
 use Rattle.doubtful.proofs.page.more.Statement.{statement}
 use Rattle.doubtful.proofs.page.more.Tie as tie

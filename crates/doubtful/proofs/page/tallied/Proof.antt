@@ -1,6 +1,6 @@
 -- `doubtful::page::tallied` meets its contract. Assumes nothing.
 use mathlib.Core.Path.{refl}
-use Rattle.doubtful.specs.Years.{doubted}
+use Rattle.doubtful.specs.Tallies.{doubted}
 use borrow.Author.Needs.{needs}
 use Rattle.doubtful.proofs.page.tallied.Statement.{statement}
 use Rattle.doubtful.proofs.page.tallied.Tie as tie

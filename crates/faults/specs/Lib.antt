@@ -1,0 +1,2 @@
+-- What the contracts of `faults` are written in.
+pub mod Faults

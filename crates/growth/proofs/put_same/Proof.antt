@@ -1,0 +1,44 @@
+-- `growth::put_same` meets its contract. Assumes nothing.
+use Rattle.growth.specs.Growth.{samePieces}
+use Rattle.pieces.proofs.Pieces.{then}
+use borrow.Author.Needs.{needs}
+use Rattle.growth.proofs.put_same.Statement.{statement}
+use Rattle.growth.proofs.put_same.Tie as tie
+
+slice-aggregate-put-text : tie.Need-slice-aggregate-put-text
+slice-aggregate-put-text c = search needs
+
+put-text-requires : tie.Need-put-text-requires
+put-text-requires c κs = search needs
+
+slice-aggregate-put-text-2 : tie.Need-slice-aggregate-put-text-2
+slice-aggregate-put-text-2 c = search needs
+
+put-text-requires-2 : tie.Need-put-text-requires-2
+put-text-requires-2 c κs = search needs
+
+slice-aggregate-put-text-3 : tie.Need-slice-aggregate-put-text-3
+slice-aggregate-put-text-3 c = search needs
+
+put-text-requires-3 : tie.Need-put-text-requires-3
+put-text-requires-3 c κs = search needs
+
+same-length : tie.Need-same-length
+same-length c = search needs
+
+returns : tie.Need-returns
+unfolding samePieces
+returns c = then (c .before .before .before .before .before .before .before .before .before .before .before .before .put-text .ensures) (then (c .before .before .before .before .before .before .before .put-text2 .ensures) (c .before .before .put-text3 .ensures))
+
+pub put-same-spec : {M : Type 1} → statement M
+put-same-spec =
+    tie.close
+    (tie.spec
+    slice-aggregate-put-text
+    put-text-requires
+    slice-aggregate-put-text-2
+    put-text-requires-2
+    slice-aggregate-put-text-3
+    put-text-requires-3
+    same-length
+    returns)

@@ -1,0 +1,2 @@
+-- What the contracts of `growth` are written in.
+pub mod Growth

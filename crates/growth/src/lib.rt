@@ -1,0 +1,215 @@
+// What a longer year table adds: the page on a table and the same with rows added.
+use conversion::Table;
+use festivals::months;
+use festivals::months::YearDays;
+use replay::Out;
+ghost use mathlib.Core.Path.{_≡_};
+ghost use mathlib.Core.Bool.{true};
+ghost use Rattle.replay.specs.Gathered.{gathered};
+ghost use Rattle.conversion.specs.Flat.{accepted, flat};
+ghost use Rattle.rules.specs.Rules.{rulesOf};
+ghost use Rattle.pieces.specs.Pieces.{Puts};
+ghost use Rattle.growth.specs.Growth.{sameFirst, lastYear, daysPieces, linePieces, spanPieces, tablesPieces, samePieces, newPieces, addedPieces, foundPage, addedPage, grownPage};
+
+// Whether two tables begin with the same year and day.
+pub fn same_first(a: Table, b: Table) -> bool
+    ensures { λ r. ⌜ r ≡ sameFirst a b ⌝ }
+{
+    (a.first_year == b.first_year) & (a.year == b.year) & (a.month == b.month) & (a.day == b.day)
+}
+
+// The year of the last row of an accepted table.
+fn last_year(table: Table, rows: &[u16]) -> u16
+    requires { ⌜ accepted table (now rows) ≡ true ⌝ }
+    ensures { λ r. ⌜ r ≡ lastYear (flat table (now (rows .entry))) ⌝ }
+{
+    table.first_year + (rows.len() / 13 - 1) as u16
+}
+
+// From one day to another.
+fn put_days(o: Out, out: &mut [u8], first: u32, last: u32) -> Out
+    ensures { λ r. ⌜ Puts (now (out .entry)) o (daysPieces first last) (now (out .exit)) r ⌝ }
+{
+    let a = pieces::put_text(o, out, b", ");
+    let b = pieces::put_date(a, out, first);
+    let c = pieces::put_text(b, out, b" to ");
+    pieces::put_date(c, out, last)
+}
+
+// One line on years and their days.
+fn put_line(
+    o: Out,
+    out: &mut [u8],
+    label: &[u8],
+    year: u16,
+    last: u16,
+    first_day: u32,
+    last_day: u32,
+) -> Out
+    ensures { λ r. ⌜ Puts (now (out .entry)) o (linePieces (now (label .entry)) year last «first_day» «last_day») (now (out .exit)) r ⌝ }
+{
+    let a = pieces::put_labelled(o, out, label, year as u64);
+    let b = pieces::put_labelled(a, out, b" to ", last as u64);
+    let c = put_days(b, out, first_day, last_day);
+    pieces::put_text(c, out, b"\n")
+}
+
+// One line on the years of an accepted table from one to another.
+fn put_span(
+    o: Out,
+    out: &mut [u8],
+    label: &[u8],
+    table: Table,
+    rows: &[u16],
+    year: u16,
+    last: u16,
+) -> Out
+    requires { ⌜ accepted table (now rows) ≡ true ⌝ }
+    ensures { λ r. ⌜ Puts (now (out .entry)) o (spanPieces (flat table (now (rows .entry))) (now (label .entry)) year last) (now (out .exit)) r ⌝ }
+{
+    let YearDays::Days(first_day, _) = months::year_days(table, rows, year) else {
+        return o;
+    };
+    let YearDays::Days(_, last_day) = months::year_days(table, rows, last) else {
+        return o;
+    };
+    put_line(o, out, label, year, last, first_day, last_day)
+}
+
+// The lines on both tables.
+fn put_tables(o: Out, out: &mut [u8], table: Table, old: &[u16], new: &[u16]) -> Out
+    requires { ⌜ (accepted table (now old) ≡ true) × (accepted table (now new) ≡ true) ⌝ }
+    ensures { λ r. ⌜ Puts (now (out .entry)) o (tablesPieces (flat table (now (old .entry))) (flat table (now (new .entry)))) (now (out .exit)) r ⌝ }
+{
+    let first = table.first_year;
+    let a = put_span(
+        o,
+        out,
+        b"OLD: accepted, BS ",
+        table,
+        old,
+        first,
+        last_year(table, old),
+    );
+    put_span(
+        a,
+        out,
+        b"NEW: accepted, BS ",
+        table,
+        new,
+        first,
+        last_year(table, new),
+    )
+}
+
+// What stays, and by which theorem.
+fn put_same(o: Out, out: &mut [u8]) -> Out
+    ensures { λ r. ⌜ Puts (now (out .entry)) o samePieces (now (out .exit)) r ⌝ }
+{
+    let a = pieces::put_text(
+        o,
+        out,
+        b"What OLD answers NEW answers with the same numbers: dates, month lengths, month steps, day lists, month grids.\n",
+    );
+    let b = pieces::put_text(
+        a,
+        out,
+        b"  theorem `steady`, crates/steady/proofs/Steady.antt",
+    );
+    pieces::put_text(
+        b,
+        out,
+        b"; for dates `steady`, crates/conversion/proofs/Theorems.antt\n",
+    )
+}
+
+// What is new, and by which theorem.
+fn put_new(o: Out, out: &mut [u8]) -> Out
+    ensures { λ r. ⌜ Puts (now (out .entry)) o newPieces (now (out .exit)) r ⌝ }
+{
+    let a = pieces::put_text(
+        o,
+        out,
+        b"What NEW answers OLD refuses exactly if it lies in an added year.\n",
+    );
+    pieces::put_text(a, out, b"  the same theorem, its fields `added`\n")
+}
+
+// The added years from one to another, and what cannot have changed.
+fn put_years(o: Out, out: &mut [u8], table: Table, new: &[u16], year: u16, last: u16) -> Out
+    requires { ⌜ accepted table (now new) ≡ true ⌝ }
+    ensures { λ r. ⌜ Puts (now (out .entry)) o (addedPieces (flat table (now (new .entry))) year last) (now (out .exit)) r ⌝ }
+{
+    let a = put_span(o, out, b"Added: BS ", table, new, year, last);
+    let b = put_same(a, out);
+    put_new(b, out)
+}
+
+// The doubtful new moons of the years from one to another, and how many there are.
+fn put_found(
+    o: Out,
+    out: &mut [u8],
+    table: Table,
+    new: &[u16],
+    year: u16,
+    last: u16,
+    rules: &[u16],
+    names: &[u8],
+) -> Out
+    requires { ⌜ accepted table (now new) ≡ true ⌝ }
+    ensures { λ r. ⌜ gathered (now (out .exit)) r ≡ foundPage (flat table (now (new .entry))) (rulesOf (now (rules .entry))) (now (names .entry)) year last (gathered (now (out .entry)) o) ⌝ }
+{
+    let p = doubtful::put_years(
+        doubtful::page_with(o),
+        out,
+        table,
+        new,
+        year,
+        last,
+        rules,
+        names,
+    );
+    let q = p.out;
+    doubtful::put_counts(p, q, out)
+}
+
+// The years after one, up to the last.
+fn put_added(
+    o: Out,
+    out: &mut [u8],
+    table: Table,
+    new: &[u16],
+    year: u16,
+    last: u16,
+    rules: &[u16],
+    names: &[u8],
+) -> Out
+    requires { ⌜ accepted table (now new) ≡ true ⌝ }
+    ensures { λ r. ⌜ gathered (now (out .exit)) r ≡ addedPage (flat table (now (new .entry))) (rulesOf (now (rules .entry))) (now (names .entry)) year last (gathered (now (out .entry)) o) ⌝ }
+{
+    if last <= year {
+        return pieces::put_text(o, out, b"Added: nothing\n");
+    }
+    let next = year + 1;
+    let a = put_years(o, out, table, new, next, last);
+    put_found(a, out, table, new, next, last, rules, names)
+}
+
+// The page on an accepted table and the same with rows added.
+pub fn put_page(
+    o: Out,
+    out: &mut [u8],
+    table: Table,
+    old: &[u16],
+    new: &[u16],
+    rules: &[u16],
+    names: &[u8],
+) -> Out
+    requires { ⌜ (accepted table (now old) ≡ true) × (accepted table (now new) ≡ true) ⌝ }
+    ensures { λ r. ⌜ gathered (now (out .exit)) r ≡ grownPage (flat table (now (new .entry))) (rulesOf (now (rules .entry))) (now (names .entry)) (flat table (now (old .entry))) (gathered (now (out .entry)) o) ⌝ }
+{
+    let a = put_tables(o, out, table, old, new);
+    let year = last_year(table, old);
+    let last = last_year(table, new);
+    put_added(a, out, table, new, year, last, rules, names)
+}

@@ -1,0 +1,17 @@
+-- `nearness::minutes_to` meets its contract. Assumes nothing.
+use lib.Ieee.{ofBits}
+use Rattle.paper.specs.Floats.{near}
+use Rattle.nearness.specs.Near.{minutesTo}
+use borrow.Author.Needs.{needs}
+use Rattle.nearness.proofs.minutes_to.Statement.{statement}
+use Rattle.nearness.proofs.minutes_to.Tie as tie
+
+rounded-requires : tie.Need-rounded-requires
+rounded-requires c κs = search needs
+
+returns : tie.Need-returns
+unfolding minutesTo near ofBits
+returns c = c .rounded .ensures
+
+pub minutes-to-spec : {M : Type 1} → statement M
+minutes-to-spec = tie.close (tie.spec rounded-requires returns)

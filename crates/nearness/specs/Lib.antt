@@ -1,0 +1,2 @@
+-- What the contracts of `nearness` are written in.
+pub mod Near

@@ -1,0 +1,2 @@
+-- What the contracts of `notes` are written in.
+pub mod Lines

@@ -1,0 +1,2 @@
+-- What the contracts of `pieces` are written in.
+pub mod Pieces

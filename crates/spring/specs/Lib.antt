@@ -1,2 +1,0 @@
--- What the contracts of `spring` are written in.
-pub mod Faults
