@@ -1,1 +1,5 @@
+pub mod Cells
+pub mod Drawing
+pub mod Parts
 pub mod Readings
+pub mod Unique

@@ -1,3 +1,4 @@
 -- What the contracts of `patro` are written in.
 pub mod Refusals
 pub mod Words
+pub mod Pages

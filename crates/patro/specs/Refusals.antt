@@ -1,9 +1,21 @@
--- The line that says why there is no page. Assumes nothing.
+-- Why there is no page: its number, and the line that says so. Assumes nothing.
 use Prim.Native.Nat.{ℕ}
 use mathlib.Core.List.{List}
 use Rattle.text.specs.Quoted.{bytes}
 use Rattle.patro.specs.declared.refusals.Refusal.{Refusal}
 use Rattle.patro.specs.declared.refusals.Refusal.the-variants as R
+
+-- document 01's number; words of another form are none of its refusals
+abbrev pub refusalNumber : Refusal → ℕ
+refusalNumber R.BadTable = 1
+refusalNumber R.BadRules = 2
+refusalNumber R.NoSuchDate = 3
+refusalNumber R.NoYear = 4
+refusalNumber R.NoMonth = 5
+refusalNumber R.NoDay = 6
+refusalNumber R.Outside = 7
+refusalNumber R.NoRoom = 9
+refusalNumber R.OtherWords = 0
 
 unfoldable pub refusalText : Refusal → List ℕ
 refusalText R.BadTable = bytes "patro: refused, 1: the year table is not good\n"

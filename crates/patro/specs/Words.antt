@@ -13,6 +13,8 @@ use Rattle.patro.specs.declared.words.Asked.{Asked}
 use Rattle.patro.specs.declared.words.Asked.the-variants as A
 use Rattle.patro.specs.declared.words.InForm.{InForm}
 use Rattle.patro.specs.declared.words.InForm.the-variants as F
+use Rattle.patro.specs.declared.words.Pair.{Pair}
+use Rattle.patro.specs.declared.words.Pair.the-variants as T
 
 -- ---- a word
 
@@ -28,6 +30,15 @@ dateIn s = asDate (ended (numbers 4 2 s))
 abbrev pub numberIn : List ℕ → Option ℕ
 numberIn s = wholeNumber 65535 s
 
+abbrev pub paired : Option ℕ → Option ℕ → Pair
+paired (some x) (some y) = T.Are x y
+paired (some x) none = T.Not
+paired none b = T.Not
+
+-- the numbers that two words are
+abbrev pub pairIn : List ℕ → List ℕ → Pair
+pairIn a b = paired (numberIn a) (numberIn b)
+
 -- ---- today
 
 -- a date, or one that is before every table's first day
@@ -41,20 +52,19 @@ abbrev pub askedDate : InForm → Asked
 askedDate (F.Is x) = A.Date x
 askedDate F.Not = A.Other
 
--- what a word's number leads to; a word that is none is of another form
-abbrev pub by : Option ℕ → (ℕ → Asked) → Asked
-by (some n) f = f n
-by none f = A.Other
+-- two numbers are a BS year and a month
+abbrev pub askedMonth : Pair → Asked
+askedMonth (T.Are y m) = A.Month y m
+askedMonth T.Not = A.Other
 
--- a year and a month
-unfoldable pub askedMonth : List ℕ → List ℕ → Asked
-askedMonth a b = by (numberIn a) (λ y. by (numberIn b) (λ m. A.Month y m))
-
--- a year, a month and a day
-unfoldable pub askedDay : List ℕ → List ℕ → List ℕ → Asked
-askedDay a b c = by (numberIn a) (λ y. by (numberIn b) (λ m. by (numberIn c) (λ d. A.Day y m d)))
+-- and with a third the day
+abbrev pub askedDay : Pair → Option ℕ → Asked
+askedDay (T.Are y m) (some d) = A.Day y m d
+askedDay (T.Are y m) none = A.Other
+askedDay T.Not d = A.Other
 
 -- one word is a Gregorian date, two are a BS month, three a BS date
 unfoldable pub askedBy : ℕ → List ℕ → List ℕ → List ℕ → Asked
 askedBy count a b c =
-    cond (eqb count 1) (askedDate (dateIn a)) (cond (eqb count 2) (askedMonth a b) (cond (eqb count 3) (askedDay a b c) A.Other))
+    cond (eqb count 1) (askedDate (dateIn a))
+    (cond (eqb count 2) (askedMonth (pairIn a b)) (cond (eqb count 3) (askedDay (pairIn a b) (numberIn c)) A.Other))

@@ -8,6 +8,9 @@ use conversion::Table;
 use files::RulesRead;
 use files::TableRead;
 use gregorian::Date;
+use libc::STDERR_FILENO;
+use libc::STDOUT_FILENO;
+use pages::Laid;
 use refusals::Refusal;
 use words::Asked;
 
@@ -33,11 +36,42 @@ fn from_words() -> Asked {
     words::asked_by(count - 4, &first[..a], &second[..b], &third[..c])
 }
 
-// Shows what is asked from the numbers at the front of the two buffers.
+// Writes the line that says why there is no page to standard error.
+fn refuse(why: Refusal) {
+    let mut line = [0u8; 128];
+    let n = refusals::put_refusal(&mut line, 0, why);
+    io::write_all(STDERR_FILENO, &line[..n]);
+}
+
+// Writes the first n bytes of a page to standard output.
+fn write_page(page: &[u8], n: usize) {
+    if n <= page.len() {
+        if !io::write_all(STDOUT_FILENO, &page[..n]) {
+            io::write_all(
+                STDERR_FILENO,
+                b"patro: standard output could not be written\n",
+            );
+        }
+    }
+}
+
+// Writes what is asked, by the numbers at the front of the two buffers.
 fn show(asked: Asked, table: Table, rows: &[u16], n: usize, rules: &[u16], k: usize, names: &[u8]) {
+    let mut page = [0u8; 65535];
     if n <= rows.len() {
         if k <= rules.len() {
-            pages::show(asked, today(), table, &rows[..n], &rules[..k], names);
+            match pages::lay(
+                asked,
+                today(),
+                table,
+                &rows[..n],
+                &rules[..k],
+                names,
+                &mut page,
+            ) {
+                Laid::Bytes(bytes) => write_page(&page, bytes),
+                Laid::Refused(why) => refuse(why),
+            }
         }
     }
 }
@@ -57,7 +91,7 @@ fn main() {
     let mut rules = [0u16; 2600];
     let mut names = [0u8; 20800];
     match from_words() {
-        Asked::Other => refusals::say(Refusal::OtherWords),
+        Asked::Other => refuse(Refusal::OtherWords),
         question => run(question, &mut rows, &mut rules, &mut names),
     }
 }

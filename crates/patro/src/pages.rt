@@ -1,5 +1,10 @@
-// A page, worked out by the engine, laid out and written.
-use crate::refusals;
+// The page that is asked for, worked out by the engine and laid out in a lent buffer.
+ghost use mathlib.Core.Path.{_≡_};
+ghost use Prim.Native.Nat.{_≤_};
+ghost use lib.ListN.{length, take};
+ghost use Rattle.paper.specs.Answers.{answered};
+ghost use Rattle.grid.specs.Month.{gridSays};
+ghost use Rattle.patro.specs.Pages.{cellOf, titled, partPage, pageBs, pageAsked, laid, workedSays, drawn, Lays};
 use crate::refusals::Refusal;
 use crate::words::Asked;
 use conversion::BsAnswer;
@@ -7,56 +12,46 @@ use conversion::Table;
 use gregorian::Date;
 use grid::GridAnswer;
 use grid::Month;
-use libc::STDOUT_FILENO;
 use wall::Page;
 
-// A month of the engine, or that a refusal was said.
+// How many bytes of the front of a lent buffer a page takes, or why there is none.
+pub enum Laid {
+    Bytes(usize),
+    Refused(Refusal),
+}
+
+// A month of the engine, or its refusal.
 enum Worked {
     Out(Month),
-    Refused,
+    Refused(Refusal),
 }
 
 // The whole month, or one of its days.
-enum Shown {
-    Month,
+enum Part {
+    Whole,
     Day(u16),
 }
 
-// Writes the first n bytes of a page.
-fn write_page(out: &[u8], n: usize) {
-    if out.len() <= n {
-        refusals::say(Refusal::NoRoom);
-        return;
-    }
-    if !io::write_all(STDOUT_FILENO, &out[..n]) {
-        files::complain(b"patro: standard output could not be written\n");
-    }
-}
-
-// What the engine answered, or its refusal in words.
-fn told(answer: GridAnswer) -> Worked {
+// What the engine answered.
+fn told(answer: GridAnswer) -> Worked
+    ensures { λ r. ⌜ workedSays r ≡ gridSays answer ⌝ }
+{
     match answer {
-        GridAnswer::Is(month) => {
-            return Worked::Out(month);
-        }
-        GridAnswer::BadTable => refusals::say(Refusal::BadTable),
-        GridAnswer::BadRules => refusals::say(Refusal::BadRules),
-        GridAnswer::NoSuchDate => refusals::say(Refusal::NoSuchDate),
-        GridAnswer::NoYear => refusals::say(Refusal::NoYear),
-        GridAnswer::NoMonth => refusals::say(Refusal::NoMonth),
-        GridAnswer::NoRoom => refusals::say(Refusal::NoRoom),
+        GridAnswer::Is(month) => Worked::Out(month),
+        GridAnswer::BadTable => Worked::Refused(Refusal::BadTable),
+        GridAnswer::BadRules => Worked::Refused(Refusal::BadRules),
+        GridAnswer::NoSuchDate => Worked::Refused(Refusal::NoSuchDate),
+        GridAnswer::NoYear => Worked::Refused(Refusal::NoYear),
+        GridAnswer::NoMonth => Worked::Refused(Refusal::NoMonth),
+        GridAnswer::NoRoom => Worked::Refused(Refusal::NoRoom),
     }
-    Worked::Refused
-}
-
-// How many weeks a month's cells take.
-fn weeks_of(month: Month) -> u8 {
-    let n = month.cells / 7;
-    if n < 256 { n as u8 } else { 255 }
 }
 
 // What the page of a month says beside its cells.
-fn page_of(year: u16, month: u16, m: Month) -> Page {
+fn page_of(year: u16, month: u16, m: Month) -> Page
+    requires { ⌜ m .cells ≤ 42 ⌝ }
+    ensures { λ r. ⌜ r ≡ titled year month m ⌝ }
+{
     let first = m.first;
     let last = m.last;
     Page {
@@ -64,36 +59,72 @@ fn page_of(year: u16, month: u16, m: Month) -> Page {
         month,
         first,
         last,
-        weeks: weeks_of(m),
+        weeks: (m.cells / 7) as u8,
     }
 }
 
-// The cell of a BS day, or 255 where there is none.
-fn cell_of(cells: &[u16], day: u16) -> u8 {
+// The cell of a BS day among 42, or 42 where there is none.
+fn cell_of(cells: &[u16], day: u16) -> u8
+    requires { ⌜ length (now cells) ≡ 504 ⌝ }
+    ensures { λ r. ⌜ r ≡ cellOf day (now (cells .entry)) ⌝ }
+{
     let mut i: u8 = 0;
     while i < 42 {
-        let at = i as usize * 12;
-        if at < cells.len() {
-            if cells[at] == day {
-                return i;
-            }
+        if cells[i as usize * 12] == day {
+            return i;
         }
         i += 1;
     }
-    255
+    i
 }
 
-// Writes the page of a month, or of a day of it.
-fn show_page(
+// Draws a part of a month from its cells and festivals, as far as the buffer goes.
+fn draw_part(
+    rules: &[u16],
+    names: &[u8],
+    year: u16,
+    month: u16,
+    part: Part,
+    m: Month,
+    cells: &[u16],
+    festivals: &[u16],
+    page: &mut [u8],
+) -> Laid
+    requires { ⌜ (m .cells ≤ 42) × (length (now cells) ≡ 504) ⌝ }
+    ensures { λ r. ⌜ Lays (drawn (partPage (now (rules .entry)) (now (names .entry)) year month part m (now (cells .entry)) (now (festivals .entry))) (now (page .entry))) (now (page .exit)) r ⌝ }
+{
+    match part {
+        Part::Whole => {
+            let title = page_of(year, month, m);
+            Laid::Bytes(wall::put_month(page, 0, title, rules, names, cells, festivals))
+        }
+        Part::Day(day) => {
+            if day == 0 {
+                return Laid::Refused(Refusal::NoDay);
+            }
+            if m.days < day {
+                return Laid::Refused(Refusal::NoDay);
+            }
+            let cell = cell_of(cells, day);
+            Laid::Bytes(wall::put_day(page, 0, year, month, cell, rules, names, cells, festivals))
+        }
+    }
+}
+
+// Draws a part of a BS month.
+fn draw_bs(
     today: Date,
     year: u16,
     month: u16,
-    shown: Shown,
+    part: Part,
     table: Table,
     rows: &[u16],
     rules: &[u16],
     names: &[u8],
-) {
+    page: &mut [u8],
+) -> Laid
+    ensures { λ r. ⌜ Lays (drawn (pageBs table (now (rows .entry)) (now (rules .entry)) (now (names .entry)) today year month part) (now (page .entry))) (now (page .exit)) r ⌝ }
+{
     let mut cells = [0u16; 504];
     let mut festivals = [0u16; 24576];
     let answer = grid::month_grid(
@@ -106,67 +137,91 @@ fn show_page(
         &mut cells,
         &mut festivals,
     );
-    let Worked::Out(m) = told(answer) else {
-        return;
-    };
-    let mut out = [0u8; 65536];
-    match shown {
-        Shown::Month => {
-            let page = page_of(year, month, m);
-            let n = wall::put_month(&mut out, 0, page, rules, names, &cells, &festivals);
-            write_page(&out, n);
-        }
-        Shown::Day(day) => {
-            if day == 0 {
-                refusals::say(Refusal::NoDay);
-                return;
-            }
-            if m.days < day {
-                refusals::say(Refusal::NoDay);
-                return;
-            }
-            let cell = cell_of(&cells, day);
-            let n = wall::put_day(
-                &mut out,
-                0,
-                year,
-                month,
-                cell,
-                rules,
-                names,
-                &cells,
-                &festivals,
-            );
-            write_page(&out, n);
-        }
+    match told(answer) {
+        Worked::Out(m) => draw_part(rules, names, year, month, part, m, &cells, &festivals, page),
+        Worked::Refused(why) => Laid::Refused(why),
     }
 }
 
-// Writes the page of a Gregorian date.
-fn show_date(today: Date, date: Date, table: Table, rows: &[u16], rules: &[u16], names: &[u8]) {
+// Draws the day of a Gregorian date.
+fn draw_ad(
+    today: Date,
+    date: Date,
+    table: Table,
+    rows: &[u16],
+    rules: &[u16],
+    names: &[u8],
+    page: &mut [u8],
+) -> Laid
+    ensures { λ r. ⌜ Lays (drawn (pageAsked table (now (rows .entry)) (now (rules .entry)) (now (names .entry)) today (Asked.Date date)) (now (page .entry))) (now (page .exit)) r ⌝ }
+{
     match conversion::ad_to_bs(table, rows, date.year, date.month, date.day) {
-        BsAnswer::Is(bs) => show_page(
+        BsAnswer::Is(bs) => draw_bs(
             today,
             bs.year,
             bs.month,
-            Shown::Day(bs.day),
+            Part::Day(bs.day),
             table,
             rows,
             rules,
             names,
+            page,
         ),
-        BsAnswer::BadTable => refusals::say(Refusal::BadTable),
-        BsAnswer::NoSuchDate => refusals::say(Refusal::NoSuchDate),
-        BsAnswer::Outside => refusals::say(Refusal::Outside),
+        BsAnswer::BadTable => Laid::Refused(Refusal::BadTable),
+        BsAnswer::NoSuchDate => Laid::Refused(Refusal::NoSuchDate),
+        BsAnswer::Outside => Laid::Refused(Refusal::Outside),
     }
 }
 
-// Writes what is asked, or one line on standard error.
-pub fn show(asked: Asked, today: Date, table: Table, rows: &[u16], rules: &[u16], names: &[u8]) {
+// Draws what is asked.
+fn draw(
+    asked: Asked,
+    today: Date,
+    table: Table,
+    rows: &[u16],
+    rules: &[u16],
+    names: &[u8],
+    page: &mut [u8],
+) -> Laid
+    ensures { λ r. ⌜ Lays (drawn (pageAsked table (now (rows .entry)) (now (rules .entry)) (now (names .entry)) today asked) (now (page .entry))) (now (page .exit)) r ⌝ }
+{
     match asked {
-        Asked::Month(y, m) => show_page(today, y, m, Shown::Month, table, rows, rules, names),
-        Asked::Day(y, m, d) => show_page(today, y, m, Shown::Day(d), table, rows, rules, names),
-        Asked::Date(date) => show_date(today, date, table, rows, rules, names),
-        Asked::Other => refusals::say(Refusal::OtherWords),
+        Asked::Month(y, m) => draw_bs(today, y, m, Part::Whole, table, rows, rules, names, page),
+        Asked::Day(y, m, d) => draw_bs(today, y, m, Part::Day(d), table, rows, rules, names, page),
+        Asked::Date(date) => draw_ad(today, date, table, rows, rules, names, page),
+        Asked::Other => Laid::Refused(Refusal::OtherWords),
+    }
+}
+
+// Copies the first n bytes of a page, where the page ended before its own buffer did and has room in the other.
+fn copy(page: &[u8], n: usize, out: &mut [u8]) -> Laid
+    requires { ⌜ (length (now page) ≡ 65536) × (n ≤ 65536) ⌝ }
+    ensures { λ r. ⌜ Lays (laid (answered (take n (now (page .entry)))) (now (out .entry))) (now (out .exit)) r ⌝ }
+{
+    if 65535 < n {
+        return Laid::Refused(Refusal::NoRoom);
+    }
+    if out.len() < n {
+        return Laid::Refused(Refusal::NoRoom);
+    }
+    Laid::Bytes(text::put(out, 0, &page[..n]))
+}
+
+// Lays the page that is asked for at the front of a buffer. A refusal changes no byte of it.
+pub fn lay(
+    asked: Asked,
+    today: Date,
+    table: Table,
+    rows: &[u16],
+    rules: &[u16],
+    names: &[u8],
+    out: &mut [u8],
+) -> Laid
+    ensures { λ r. ⌜ Lays (laid (pageAsked table (now (rows .entry)) (now (rules .entry)) (now (names .entry)) today asked) (now (out .entry))) (now (out .exit)) r ⌝ }
+{
+    let mut page = [0u8; 65536];
+    match draw(asked, today, table, rows, rules, names, &mut page) {
+        Laid::Bytes(n) => copy(&page, n, out),
+        Laid::Refused(why) => Laid::Refused(why),
     }
 }

@@ -55,10 +55,3 @@ pub fn put_refusal(out: &mut [u8], at: usize, why: Refusal) -> usize
         ),
     }
 }
-
-// Writes that line to standard error.
-pub fn say(why: Refusal) {
-    let mut out = [0u8; 128];
-    let n = put_refusal(&mut out, 0, why);
-    files::complain_front(&out, n);
-}

@@ -1,6 +1,6 @@
 // What is asked: the words of the command line, read.
 ghost use mathlib.Core.Path.{_≡_};
-ghost use Rattle.patro.specs.Words.{dateIn, orFirst, askedDate, askedMonth, askedDay, askedBy};
+ghost use Rattle.patro.specs.Words.{dateIn, numberIn, pairIn, orFirst, askedDate, askedMonth, askedDay, askedBy};
 use gregorian::Date;
 use text::Numbers;
 use text::Whole;
@@ -16,6 +16,12 @@ pub enum Asked {
 // A date in form, or none. Whether there is such a date is not asked here.
 pub enum InForm {
     Is(Date),
+    Not,
+}
+
+// Two numbers, or none.
+pub enum Pair {
+    Are(u16, u16),
     Not,
 }
 
@@ -53,14 +59,24 @@ fn one_word(s: &[u8]) -> Asked
     Asked::Date(date)
 }
 
+// Two words as numbers.
+fn pair_of(a: &[u8], b: &[u8]) -> Pair
+    ensures { λ r. ⌜ r ≡ pairIn (now (a .entry)) (now (b .entry)) ⌝ }
+{
+    let Whole::Is(first) = text::whole_number(a, 65535) else {
+        return Pair::Not;
+    };
+    let Whole::Is(second) = text::whole_number(b, 65535) else {
+        return Pair::Not;
+    };
+    Pair::Are(first, second)
+}
+
 // Two words: a BS month.
 fn two_words(a: &[u8], b: &[u8]) -> Asked
-    ensures { λ r. ⌜ r ≡ askedMonth (now (a .entry)) (now (b .entry)) ⌝ }
+    ensures { λ r. ⌜ r ≡ askedMonth (pairIn (now (a .entry)) (now (b .entry))) ⌝ }
 {
-    let Whole::Is(y) = text::whole_number(a, 65535) else {
-        return Asked::Other;
-    };
-    let Whole::Is(m) = text::whole_number(b, 65535) else {
+    let Pair::Are(y, m) = pair_of(a, b) else {
         return Asked::Other;
     };
     Asked::Month(y, m)
@@ -68,12 +84,9 @@ fn two_words(a: &[u8], b: &[u8]) -> Asked
 
 // Three words: a BS date.
 fn three_words(a: &[u8], b: &[u8], c: &[u8]) -> Asked
-    ensures { λ r. ⌜ r ≡ askedDay (now (a .entry)) (now (b .entry)) (now (c .entry)) ⌝ }
+    ensures { λ r. ⌜ r ≡ askedDay (pairIn (now (a .entry)) (now (b .entry))) (numberIn (now (c .entry))) ⌝ }
 {
-    let Whole::Is(y) = text::whole_number(a, 65535) else {
-        return Asked::Other;
-    };
-    let Whole::Is(m) = text::whole_number(b, 65535) else {
+    let Pair::Are(y, m) = pair_of(a, b) else {
         return Asked::Other;
     };
     let Whole::Is(d) = text::whole_number(c, 65535) else {

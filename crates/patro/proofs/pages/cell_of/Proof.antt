@@ -1,32 +1,36 @@
--- `patro::pages::cell_of` is proved: the cells left fall. Assumes nothing.
-use Prim.Native.Nat.{_-_, _≤_}
+-- `patro::pages::cell_of` meets its contract: the cell is to be found from the place reached. Assumes nothing.
+use Prim.Native.Nat.{_+_, _-_, _≤_}
+use mathlib.Core.Path.{_≡_, refl, _∙_}
+use native.Mathlib.Omega.{arith}
 use borrow.Author.Needs.{needs}
+use Rattle.patro.specs.Pages.{cellFrom}
+use Rattle.patro.proofs.Cells.{cell-over, cell-found, cell-turn}
 use Rattle.patro.proofs.pages.cell_of.Statement.{statement}
 use Rattle.patro.proofs.pages.cell_of.Tie as tie
 
 abbrev Inv-loop : tie.InvT-loop
-Inv-loop cells day i₀ i = i ≤ 42
+Inv-loop cells day i₀ i = (i ≤ 42) × (cellFrom day cells i (42 - i) ≡ cellFrom day cells 0 42)
 
 abbrev μ-loop : tie.MeasureT-loop
 μ-loop cells day i₀ i = 42 - i
 
 loop-holds : tie.Need-loop-holds Inv-loop μ-loop
-loop-holds c = search needs
+loop-holds c = (omega arith, refl)
 
-cast-at : tie.Need-cast-at Inv-loop μ-loop
-cast-at c = search needs
+cast-if1 : tie.Need-cast-if1 Inv-loop μ-loop
+cast-if1 c = search needs
 
-mul-at : tie.Need-mul-at Inv-loop μ-loop
-mul-at c = search needs
+mul-if1 : tie.Need-mul-if1 Inv-loop μ-loop
+mul-if1 c = search needs
 
-mul-if2 : tie.Need-mul-if2 Inv-loop μ-loop
-mul-if2 c = search needs
+mul-if1-2 : tie.Need-mul-if1-2 Inv-loop μ-loop
+mul-if1-2 c = search needs
 
-shared-slice-read-if2 : tie.Need-shared-slice-read-if2 Inv-loop μ-loop
-shared-slice-read-if2 c = search needs
+shared-slice-read-if1 : tie.Need-shared-slice-read-if1 Inv-loop μ-loop
+shared-slice-read-if1 c = search needs
 
 returns : tie.Need-returns Inv-loop μ-loop
-returns c = search needs
+returns c = let l = c .before .before .before .loop in cell-found (c .before .before .before .before .args .day) (c .before .before .before .before .args .cells .now) (l .i) (42 - l .i) (c .if1 .taken) ∙ l .inv .1
 
 add-i : tie.Need-add-i Inv-loop μ-loop
 add-i c = search needs
@@ -35,10 +39,10 @@ loop-less : tie.Need-loop-less Inv-loop μ-loop
 loop-less c = search needs
 
 loop-again : tie.Need-loop-again Inv-loop μ-loop
-loop-again c = search needs
+loop-again c = let l = c .before .before .before .loop in (omega arith, cell-turn (c .before .before .before .before .args .day) (c .before .before .before .before .args .cells .now) (l .i) (42 - l .i) (42 - (l .i + 1)) (omega arith) (c .if1 .left) ∙ l .inv .1)
 
 returns-2 : tie.Need-returns-2 Inv-loop μ-loop
-returns-2 c = search needs
+returns-2 c = let l = c .before .loop in cell-over (c .before .before .args .day) (c .before .before .args .cells .now) (l .i) (42 - l .i) (omega arith) ∙ l .inv .1
 
 pub cell-of-spec : {M : Type 1} → statement M
 cell-of-spec =
@@ -47,10 +51,10 @@ cell-of-spec =
     Inv-loop
     μ-loop
     loop-holds
-    cast-at
-    mul-at
-    mul-if2
-    shared-slice-read-if2
+    cast-if1
+    mul-if1
+    mul-if1-2
+    shared-slice-read-if1
     returns
     add-i
     loop-less

@@ -1,13 +1,12 @@
 -- `patro::words::three_words` meets its contract. Assumes nothing.
 use Rattle.paper.proofs.Answers.{said}
 use Rattle.text.specs.Reading.{wholeSays}
-use Rattle.patro.specs.Words.{askedDay}
 use borrow.Author.Needs.{needs}
 use Rattle.patro.proofs.words.three_words.Statement.{statement}
 use Rattle.patro.proofs.words.three_words.Tie as tie
 
-whole-number-requires : tie.Need-whole-number-requires
-whole-number-requires c κs = search needs
+pair-of-requires : tie.Need-pair-of-requires
+pair-of-requires c κs = search needs
 
 enum-known-y : tie.Need-enum-known-y
 enum-known-y c = search needs
@@ -16,53 +15,33 @@ enum-told : tie.Need-enum-told
 enum-told c = search needs
 
 returns : tie.Need-returns
-unfolding askedDay
-returns c = rw (← said wholeSays (c .enum-told .given .1) (c .before .before .whole-number .ensures))
+returns c = rw (← c .before .before .pair-of .ensures, c .enum-told .given .1)
 
-whole-number-requires-2 : tie.Need-whole-number-requires-2
-whole-number-requires-2 c κs = search needs
+whole-number-requires : tie.Need-whole-number-requires
+whole-number-requires c κs = search needs
 
-enum-known-m : tie.Need-enum-known-m
-enum-known-m c = search needs
+enum-known-d : tie.Need-enum-known-d
+enum-known-d c = search needs
 
 enum-told-2 : tie.Need-enum-told-2
 enum-told-2 c = search needs
 
 returns-2 : tie.Need-returns-2
-unfolding askedDay
-returns-2 c = rw (← said wholeSays (c .before .before .before .before .y .given .1) (c .before .before .before .before .before .before .whole-number .ensures), ← said wholeSays (c .enum-told2 .given .1) (c .before .before .whole-number2 .ensures))
-
-whole-number-requires-3 : tie.Need-whole-number-requires-3
-whole-number-requires-3 c κs = search needs
-
-enum-known-d : tie.Need-enum-known-d
-enum-known-d c = search needs
-
-enum-told-3 : tie.Need-enum-told-3
-enum-told-3 c = search needs
+returns-2 c = rw (← c .before .before .before .before .before .before .pair-of .ensures, c .before .before .before .before .y .given .1, ← said wholeSays (c .enum-told2 .given .1) (c .before .before .whole-number .ensures))
 
 returns-3 : tie.Need-returns-3
-unfolding askedDay
-returns-3 c = rw (← said wholeSays (c .before .before .before .before .before .before .before .before .y .given .1) (c .before .before .before .before .before .before .before .before .before .before .whole-number .ensures), ← said wholeSays (c .before .before .before .before .m .given .1) (c .before .before .before .before .before .before .whole-number2 .ensures), ← said wholeSays (c .enum-told3 .given .1) (c .before .before .whole-number3 .ensures))
-
-returns-4 : tie.Need-returns-4
-unfolding askedDay
-returns-4 c = rw (← said wholeSays (c .before .before .before .before .before .before .before .before .before .y .given .1) (c .before .before .before .before .before .before .before .before .before .before .before .whole-number .ensures), ← said wholeSays (c .before .before .before .before .before .m .given .1) (c .before .before .before .before .before .before .before .whole-number2 .ensures), ← said wholeSays (c .before .d .given .1) (c .before .before .before .whole-number3 .ensures))
+returns-3 c = rw (← c .before .before .before .before .before .before .before .pair-of .ensures, c .before .before .before .before .before .y .given .1, ← said wholeSays (c .before .d .given .1) (c .before .before .before .whole-number .ensures))
 
 pub three-words-spec : {M : Type 1} → statement M
 three-words-spec =
     tie.close
     (tie.spec
-    whole-number-requires
+    pair-of-requires
     enum-known-y
     enum-told
     returns
-    whole-number-requires-2
-    enum-known-m
+    whole-number-requires
+    enum-known-d
     enum-told-2
     returns-2
-    whole-number-requires-3
-    enum-known-d
-    enum-told-3
-    returns-3
-    returns-4)
+    returns-3)

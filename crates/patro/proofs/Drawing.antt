@@ -1,0 +1,92 @@
+-- A page drawn in a buffer of its own, and laid in another. Assumes nothing.
+use Prim.Native.Nat.{ℕ, _≤_, _<_, min}
+use mathlib.Core.Path.{_≡_, refl, sym, ap, _∙_}
+use mathlib.Core.Bool.{and-false}
+use mathlib.Core.List.{List}
+use mathlib.Core.Logic.{⊎-elim}
+use native.Mathlib.Omega.{arith}
+use borrow.Author.Tests.{le-leb, lt-leb}
+use lib.Dec.{leb}
+use lib.ListN.{length, take}
+use lib.Seq.{length-sets, length-take-le}
+use Rattle.paper.specs.Answers.{Answer, answered, refused}
+use Rattle.paper.proofs.Answers.{answered-same, refused-answered}
+use Rattle.paper.proofs.Tests.{split}
+use Rattle.paper.proofs.Stores.{sets-front}
+use Rattle.text.specs.Written.{Wrote}
+use Rattle.text.proofs.Writes.{wrote-front}
+use Rattle.patro.specs.declared.pages.Laid.{Laid}
+use Rattle.patro.specs.declared.pages.Laid.the-variants as L
+use Rattle.patro.specs.declared.refusals.Refusal.{Refusal}
+use Rattle.patro.specs.declared.refusals.Refusal.the-variants as R
+use Rattle.patro.specs.Pages.{laid, laidSays, drawn, Lays}
+
+-- ---- drawn
+
+-- a refusal is said and nothing is stored
+pub draws-refused : {a : Answer (List ℕ)} {k : ℕ} {l : List ℕ} {r : Laid} → a ≡ refused k → laidSays r ≡ refused k → Lays (drawn a l) l r
+unfolding drawn
+draws-refused e h = rw e (record { says = h; stored = refl })
+
+-- a page is written as far as the buffer goes
+pub draws-page : {a : Answer (List ℕ)} {text l m : List ℕ} {n : ℕ} → a ≡ answered text → Wrote l 0 text m n → Lays (drawn a l) m (L.Bytes n)
+unfolding drawn
+draws-page {a} {text} {l} {m} {n} e w =
+    let p = w .end in
+    let q : n ≡ min (length text) (length l) = omega arith in
+    rw e (record { says = ap answered q; stored = w .stored })
+
+-- bytes are those of a page
+drawn-page : (a : Answer (List ℕ)) (l : List ℕ) {m : List ℕ} {n : ℕ} → Lays (drawn a l) m (L.Bytes n) → (text : List ℕ) × ((a ≡ answered text) × Wrote l 0 text m n)
+unfolding drawn
+drawn-page (answered text) l {m} {n} w =
+    let q : n ≡ min (length text) (length l) = answered-same (w .says) in
+    (text, (refl, record { stored = w .stored; end = omega arith }))
+drawn-page (refused k) l w = absurd (refused-answered refl (sym (w .says)))
+
+-- ---- laid
+
+module _ (text out : List ℕ) where
+  -- a page that is too long for any buffer, or for this one
+  pub long : 65535 < length text → Lays (laid (answered text) out) out (L.Refused R.NoRoom)
+  unfolding laid
+  long h = rw (lt-leb (length text) 65535 h) (record { says = refl; stored = refl })
+
+  pub longer : length out < length text → Lays (laid (answered text) out) out (L.Refused R.NoRoom)
+  unfolding laid
+  longer h = rw (lt-leb (length text) (length out) h, and-false (leb (length text) 65535)) (record { says = refl; stored = refl })
+
+  -- a page that has room
+  pub fits : {after : List ℕ} {n : ℕ} → length text ≤ 65535 → length text ≤ length out → Wrote out 0 text after n → Lays (laid (answered text) out) after (L.Bytes n)
+  unfolding laid
+  fits h k w =
+      rw (le-leb (length text) 65535 h, le-leb (length text) (length out) k) (record { says = ap answered (wrote-front w k .0); stored = w .stored ∙ sets-front text out k })
+
+-- a page that is cut off where its own buffer of 65,536 bytes ends is too long, as the whole is
+cut-laid : (text l page : List ℕ) (n : ℕ) (out : List ℕ) → length l ≡ 65536 → Wrote l 0 text page n → laid (answered (take n page)) out ≡ laid (answered text) out
+unfolding laid
+cut-laid text l page n out e w =
+    ⊎-elim (λ (h : length text ≤ 65536). let q = wrote-front w (omega arith) in rw (q .1))
+    (λ (h : 65536 < length text).
+    let z : length page ≡ length l = ap length (w .stored) ∙ simp length-sets in
+    let f = w .end in
+    let m : n ≤ length page = omega arith in
+    let k : 65535 < length (take n page) = rw (length-take-le n page m) (omega arith) in
+    rw (lt-leb (length (take n page)) 65535 k, lt-leb (length text) 65535 (omega arith)))
+    (split (length text) 65536)
+
+-- what is drawn is laid
+module _ (a : Answer (List ℕ)) (l : List ℕ) (e : length l ≡ 65536) {page : List ℕ} {r : Laid} (w : Lays (drawn a l) page r) where
+  drawn-bytes : {n : ℕ} → r ≡ L.Bytes n → (text : List ℕ) × ((a ≡ answered text) × Wrote l 0 text page n)
+  drawn-bytes q = drawn-page a l (rw q at w)
+
+  pub bytes-few : {n : ℕ} → r ≡ L.Bytes n → n ≤ 65536
+  bytes-few q = let p = drawn-bytes q .1 .1 .end in omega arith
+
+  pub lays-drawn : (out : List ℕ) {n : ℕ} → r ≡ L.Bytes n → laid (answered (take n page)) out ≡ laid a out
+  lays-drawn out {n} q = let p = drawn-bytes q in cut-laid (p .0) l page n out e (p .1 .1) ∙ ap (λ (z : Answer (List ℕ)). laid z out) (sym (p .1 .0))
+
+pub lays-refused : (a : Answer (List ℕ)) (l out : List ℕ) {page : List ℕ} {r : Laid} {why : Refusal} → Lays (drawn a l) page r → r ≡ L.Refused why → Lays (laid a out) out (L.Refused why)
+unfolding drawn laid
+lays-refused (answered text) l out w e = absurd (refused-answered (ap laidSays e) (w .says))
+lays-refused (refused k) l out w e = record { says = ap laidSays (sym e) ∙ w .says; stored = refl }

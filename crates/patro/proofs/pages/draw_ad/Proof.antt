@@ -1,0 +1,63 @@
+-- `patro::pages::draw_ad` meets its contract. Assumes nothing.
+use mathlib.Core.Path.{refl}
+use Rattle.paper.specs.Answers.{then}
+use Rattle.paper.proofs.Answers.{said}
+use Rattle.conversion.specs.Answers.{bsSays}
+use Rattle.patro.specs.Pages.{pageAsked}
+use Rattle.patro.proofs.Drawing.{draws-refused}
+use borrow.Author.Needs.{needs}
+use Rattle.patro.proofs.pages.draw_ad.Statement.{statement}
+use Rattle.patro.proofs.pages.draw_ad.Tie as tie
+
+ad-to-bs-requires : tie.Need-ad-to-bs-requires
+ad-to-bs-requires c κs = search needs
+
+enum-known-bs : tie.Need-enum-known-bs
+enum-known-bs c = search needs
+
+draw-bs-requires : tie.Need-draw-bs-requires
+draw-bs-requires c κs = search needs
+
+enum-told : tie.Need-enum-told
+enum-told c = search needs
+
+enum-told-2 : tie.Need-enum-told-2
+enum-told-2 c = search needs
+
+enum-told-3 : tie.Need-enum-told-3
+enum-told-3 c = search needs
+
+same-length : tie.Need-same-length
+same-length c = search needs
+
+returns : tie.Need-returns
+unfolding pageAsked then
+returns c = rw (← said bsSays (c .before .before .before .before .before .bs .given .1) (c .before .before .before .before .before .before .before .ad-to-bs .ensures)) (c .before .before .draw-bs .ensures)
+
+returns-2 : tie.Need-returns-2
+unfolding pageAsked then
+returns-2 c = draws-refused (rw (← said bsSays (c .enum-told .given .1) (c .before .before .ad-to-bs .ensures))) refl
+
+returns-3 : tie.Need-returns-3
+unfolding pageAsked then
+returns-3 c = draws-refused (rw (← said bsSays (c .enum-told2 .given .1) (c .before .before .ad-to-bs .ensures))) refl
+
+returns-4 : tie.Need-returns-4
+unfolding pageAsked then
+returns-4 c = draws-refused (rw (← said bsSays (c .enum-told3 .given .1) (c .before .before .ad-to-bs .ensures))) refl
+
+pub draw-ad-spec : {M : Type 1} → statement M
+draw-ad-spec =
+    tie.close
+    (tie.spec
+    ad-to-bs-requires
+    enum-known-bs
+    draw-bs-requires
+    enum-told
+    enum-told-2
+    enum-told-3
+    same-length
+    returns
+    returns-2
+    returns-3
+    returns-4)

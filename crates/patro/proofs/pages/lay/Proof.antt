@@ -1,0 +1,49 @@
+-- `patro::pages::lay` meets its contract: the page is drawn in a buffer of its own and copied. Assumes nothing.
+use Prim.Native.Nat.{ℕ}
+use lib.ListN.{replicate, length-replicate}
+use Rattle.patro.specs.Pages.{pageAsked}
+use Rattle.patro.proofs.Drawing.{bytes-few, lays-drawn, lays-refused}
+use borrow.Author.Needs.{needs}
+use Rattle.patro.proofs.pages.lay.Statement.{statement}
+use Rattle.patro.proofs.pages.lay.Tie as tie
+
+slice-aggregate-draw : tie.Need-slice-aggregate-draw
+slice-aggregate-draw c = search needs
+
+draw-requires : tie.Need-draw-requires
+draw-requires c κs = search needs
+
+enum-known-n : tie.Need-enum-known-n
+enum-known-n c = search needs
+
+slice-aggregate-copy : tie.Need-slice-aggregate-copy
+slice-aggregate-copy c = search needs
+
+copy-requires : tie.Need-copy-requires
+copy-requires c κs = let a = c .before .before .before .before .before .before .before .before .before .before .before .before .args in (search needs, bytes-few (pageAsked (a .table) (a .rows .now) (a .rules .now) (a .names .now) (a .today) (a .asked)) (replicate 65536 0) (length-replicate {A = ℕ} 65536 0) (c .before .before .before .before .before .before .draw .ensures) (c .before .before .before .n .given .1))
+
+enum-known-why : tie.Need-enum-known-why
+enum-known-why c = search needs
+
+same-length : tie.Need-same-length
+same-length c = search needs
+
+returns : tie.Need-returns
+returns c = let a = c .before .before .before .before .before .before .before .before .before .before .before .before .before .before .before .args in rw (← lays-drawn (pageAsked (a .table) (a .rows .now) (a .rules .now) (a .names .now) (a .today) (a .asked)) (replicate 65536 0) (length-replicate {A = ℕ} 65536 0) (c .before .before .before .before .before .before .before .before .before .draw .ensures) (a .out .now) (c .before .before .before .before .before .before .n .given .1)) (c .before .before .copy .ensures)
+
+returns-2 : tie.Need-returns-2
+returns-2 c = let a = c .before .before .before .before .before .before .before .before .before .before .args in lays-refused (pageAsked (a .table) (a .rows .now) (a .rules .now) (a .names .now) (a .today) (a .asked)) (replicate 65536 0) (a .out .now) (c .before .before .before .before .draw .ensures) (c .before .why .given .1)
+
+pub lay-spec : {M : Type 1} → statement M
+lay-spec =
+    tie.close
+    (tie.spec
+    slice-aggregate-draw
+    draw-requires
+    enum-known-n
+    slice-aggregate-copy
+    copy-requires
+    enum-known-why
+    same-length
+    returns
+    returns-2)
