@@ -5,11 +5,10 @@ ghost use Rattle.replay.specs.Gathered.{Gathers};
 ghost use Rattle.questions.specs.Questions.{replyTo, wordsBy, answerWords};
 ghost use Rattle.questions.specs.Runs.{Lends, Answers, TurnDone};
 
-mod lending;
 mod lists;
 mod months;
 
-use answers::reply::Reply;
+use replies::Reply;
 use conversion::Table;
 pub use lending::Lent;
 pub use lending::nothing;
