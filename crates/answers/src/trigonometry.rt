@@ -1,8 +1,8 @@
 // Questions about an angle or an arc: `sin`, `cos`, `asin`, `acos` and `tan`.
 ghost use mathlib.Core.Path.{_≡_};
-ghost use Rattle.answers.specs.Replies.{among};
+ghost use Rattle.replies.specs.Replies.{among};
 ghost use Rattle.answers.specs.Trigonometry.{angleRows, trigonometryReply};
-use crate::reply::Reply;
+use replies::Reply;
 use replay::Words;
 use replay::tags;
 

@@ -5,13 +5,13 @@ ghost use Rattle.replay.specs.Gathered.{Gathers};
 ghost use Rattle.questions.specs.Questions.{replyTo, wordsBy, answerWords};
 ghost use Rattle.questions.specs.Runs.{Lends, Answers, TurnDone};
 
-mod lending;
 mod lists;
 mod months;
 
-use answers::reply::Reply;
+use replies::Reply;
 use conversion::Table;
 pub use lending::Lent;
+pub use lending::nothing;
 use replay::Out;
 use replay::Turn;
 use replay::Words;
@@ -124,11 +124,4 @@ pub fn answer_from(first: Lent, rows: &mut [u16], rules: &mut [u16])
     let mut line = [0u8; 4096];
     let mut out = [0u8; 8192];
     run(first, rows, rules, &mut piece, &mut line, &mut out);
-}
-
-// The same where nothing is lent at first.
-pub fn answer_all() {
-    let mut rows = [0u16; 1700];
-    let mut rules = [0u16; 2600];
-    answer_from(lending::nothing(), &mut rows, &mut rules);
 }

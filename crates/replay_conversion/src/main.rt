@@ -1,4 +1,6 @@
 // Answers the stored questions about the lent tables; the stored answers are the oracle's.
 fn main() {
-    questions::answer_all();
+    let mut rows = [0u16; 1700];
+    let mut rules = [0u16; 0];
+    questions::answer_from(questions::nothing(), &mut rows, &mut rules);
 }
