@@ -17,7 +17,7 @@ refusalNumber R.Outside = 7
 refusalNumber R.NoRoom = 9
 refusalNumber R.OtherWords = 0
 
-unfoldable pub refusalText : Refusal → List ℕ
+abbrev pub refusalText : Refusal → List ℕ
 refusalText R.BadTable = bytes "patro: refused, 1: the year table is not good\n"
 refusalText R.BadRules = bytes "patro: refused, 2: the rules are not good\n"
 refusalText R.NoSuchDate = bytes "patro: refused, 3: there is no such Gregorian date from 1900 to 2149\n"
