@@ -13,11 +13,11 @@ use Rattle.festivals.specs.Months.{yearDays}
 use Rattle.festivals.specs.Answers.{daysAre}
 use Rattle.festivals.specs.declared.months.YearDays.{YearDays}
 use Rattle.festivals.specs.declared.months.YearDays.the-variants as YD
-use Rattle.pieces.specs.Pieces.{Text, putPieces, Puts}
+use Rattle.pieces.specs.Pieces.{Text, Puts}
 use Rattle.doubtful.specs.declared.page.Page.{Page}
 use Rattle.doubtful.specs.Tallies.{tallyOf, pageWith, countPieces}
 use Rattle.doubtful.specs.Years.{sheet, yearsPage}
-use Rattle.growth.specs.Growth.{lastYear, linePieces, betweenPieces, spanPieces, tablesPieces, addedPieces, counted, foundPage, addedPage, grownPage}
+use Rattle.growth.specs.Growth.{lastYear, linePieces, betweenPieces, spanPieces, tablesPieces, gainedPieces, counted, foundPage, addedPage, grownPage}
 
 -- ---- the years from one to another
 
@@ -52,7 +52,7 @@ module _ (new : Calendar) (rules : List Rule) (names : List ℕ) (year last : �
   added-none h w = rw (le-leb last year h) (w .same)
 
   module _ {m : List ℕ} {p : Out} {g : Gathered} where
-    pub added-some : year < last → Puts l o (addedPieces new (year + 1) last) m p → g ≡ foundPage new rules names (year + 1) last (gathered m p)
+    pub added-some : year < last → Puts l o (gainedPieces new (year + 1) last) m p → g ≡ foundPage new rules names (year + 1) last (gathered m p)
         → g ≡ addedPage new rules names year last (gathered l o)
     unfolding addedPage
     added-some h w e = rw (lt-leb last year h) (e ∙ ap (foundPage new rules names (year + 1) last) (w .same))

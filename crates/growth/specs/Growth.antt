@@ -66,9 +66,9 @@ newPieces =
     ∷ bytes "  the same theorem, its fields `added`\n"
     ∷ []
 
--- the added years, and both
-unfoldable pub addedPieces : Calendar → ℕ → ℕ → List Text
-addedPieces new year last = spanPieces new (bytes "Added: BS ") year last ++ (samePieces ++ newPieces)
+-- years that are gained, and both
+unfoldable pub gainedPieces : Calendar → ℕ → ℕ → List Text
+gainedPieces new year last = spanPieces new (bytes "Added: BS ") year last ++ (samePieces ++ newPieces)
 
 -- ---- the page
 
@@ -86,7 +86,7 @@ module _ (new : Calendar) (rules : List Rule) (names : List ℕ) where
   addedPage year last g =
       cond (leb last year)
       (putPieces g (bytes "Added: nothing\n" ∷ []))
-      (foundPage (year + 1) last (putPieces g (addedPieces new (year + 1) last)))
+      (foundPage (year + 1) last (putPieces g (gainedPieces new (year + 1) last)))
 
   -- all of it, where the new table is the old one with rows added
   unfoldable pub grownPage : Calendar → Gathered → Gathered

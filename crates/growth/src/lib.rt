@@ -9,7 +9,7 @@ ghost use Rattle.replay.specs.Gathered.{gathered};
 ghost use Rattle.conversion.specs.Flat.{accepted, flat};
 ghost use Rattle.rules.specs.Rules.{rulesOf};
 ghost use Rattle.pieces.specs.Pieces.{Puts};
-ghost use Rattle.growth.specs.Growth.{sameFirst, lastYear, daysPieces, linePieces, spanPieces, tablesPieces, samePieces, newPieces, addedPieces, foundPage, addedPage, grownPage};
+ghost use Rattle.growth.specs.Growth.{sameFirst, lastYear, daysPieces, linePieces, spanPieces, tablesPieces, samePieces, newPieces, gainedPieces, addedPage, grownPage};
 
 // Whether two tables begin with the same year and day.
 pub fn same_first(a: Table, b: Table) -> bool
@@ -135,45 +135,17 @@ fn put_new(o: Out, out: &mut [u8]) -> Out
     pieces::put_text(a, out, b"  the same theorem, its fields `added`\n")
 }
 
-// The added years from one to another, and what cannot have changed.
-fn put_years(o: Out, out: &mut [u8], table: Table, new: &[u16], year: u16, last: u16) -> Out
+// The years from one to another as gained, and what cannot have changed.
+fn put_gained(o: Out, out: &mut [u8], table: Table, new: &[u16], year: u16, last: u16) -> Out
     requires { ⌜ accepted table (now new) ≡ true ⌝ }
-    ensures { λ r. ⌜ Puts (now (out .entry)) o (addedPieces (flat table (now (new .entry))) year last) (now (out .exit)) r ⌝ }
+    ensures { λ r. ⌜ Puts (now (out .entry)) o (gainedPieces (flat table (now (new .entry))) year last) (now (out .exit)) r ⌝ }
 {
     let a = put_span(o, out, b"Added: BS ", table, new, year, last);
     let b = put_same(a, out);
     put_new(b, out)
 }
 
-// The doubtful new moons of the years from one to another, and how many there are.
-fn put_found(
-    o: Out,
-    out: &mut [u8],
-    table: Table,
-    new: &[u16],
-    year: u16,
-    last: u16,
-    rules: &[u16],
-    names: &[u8],
-) -> Out
-    requires { ⌜ accepted table (now new) ≡ true ⌝ }
-    ensures { λ r. ⌜ gathered (now (out .exit)) r ≡ foundPage (flat table (now (new .entry))) (rulesOf (now (rules .entry))) (now (names .entry)) year last (gathered (now (out .entry)) o) ⌝ }
-{
-    let p = doubtful::put_years(
-        doubtful::page_with(o),
-        out,
-        table,
-        new,
-        year,
-        last,
-        rules,
-        names,
-    );
-    let q = p.out;
-    doubtful::put_counts(p, q, out)
-}
-
-// The years after one, up to the last.
+// The years after one, up to the last: what cannot have changed, the doubtful new moons, and how many there are.
 fn put_added(
     o: Out,
     out: &mut [u8],
@@ -191,8 +163,19 @@ fn put_added(
         return pieces::put_text(o, out, b"Added: nothing\n");
     }
     let next = year + 1;
-    let a = put_years(o, out, table, new, next, last);
-    put_found(a, out, table, new, next, last, rules, names)
+    let a = put_gained(o, out, table, new, next, last);
+    let p = doubtful::put_years(
+        doubtful::page_with(a),
+        out,
+        table,
+        new,
+        next,
+        last,
+        rules,
+        names,
+    );
+    let q = p.out;
+    doubtful::put_counts(p, q, out)
 }
 
 // The page on an accepted table and the same with rows added.

@@ -1,9 +1,9 @@
--- `growth::put_years` meets its contract. Assumes nothing.
-use Rattle.growth.specs.Growth.{addedPieces}
+-- `growth::put_gained` meets its contract. Assumes nothing.
+use Rattle.growth.specs.Growth.{gainedPieces}
 use Rattle.pieces.proofs.Pieces.{then}
 use borrow.Author.Needs.{needs}
-use Rattle.growth.proofs.put_years.Statement.{statement}
-use Rattle.growth.proofs.put_years.Tie as tie
+use Rattle.growth.proofs.put_gained.Statement.{statement}
+use Rattle.growth.proofs.put_gained.Tie as tie
 
 slice-aggregate-put-span : tie.Need-slice-aggregate-put-span
 slice-aggregate-put-span c = search needs
@@ -21,11 +21,11 @@ same-length : tie.Need-same-length
 same-length c = search needs
 
 returns : tie.Need-returns
-unfolding addedPieces
+unfolding gainedPieces
 returns c = then (c .before .before .before .before .before .before .before .before .before .before .put-span .ensures) (then (c .before .before .before .before .before .before .put-same .ensures) (c .before .before .put-new .ensures))
 
-pub put-years-spec : {M : Type 1} → statement M
-put-years-spec =
+pub put-gained-spec : {M : Type 1} → statement M
+put-gained-spec =
     tie.close
     (tie.spec
     slice-aggregate-put-span
