@@ -3,9 +3,9 @@ use Prim.Native.Nat.{ℕ}
 use mathlib.Core.Path.{_≡_, refl}
 use mathlib.Core.List.{List, [], _∷_}
 use borrow.Author.Tests.{ne-eqb}
-use Rattle.answers.specs.declared.reply.Reply.{Reply}
-use Rattle.answers.specs.declared.reply.Reply.the-variants as R
-use Rattle.answers.specs.Replies.{among}
+use Rattle.replies.specs.declared.Reply.{Reply}
+use Rattle.replies.specs.declared.Reply.the-variants as R
+use Rattle.replies.specs.Replies.{among}
 
 -- that a tag is none of the rows', as a match's last arm tells it
 abbrev pub Other : Type 0 → ℕ → List (ℕ × Reply) → Type 0

@@ -11,9 +11,9 @@ use Rattle.panchanga.specs.Answers.{eventsAnswer, riseAnswer, setAnswer, nishit
 use Rattle.panchanga.specs.declared.Kala.the-variants.{Udaya, Madhyanna, Aparahna, Pradosh, Nishita, Begins}
 use Rattle.replay.specs.Tags.{EVENTS, RISE, SET, NISHITA, READ, KALA}
 use Rattle.replay.specs.declared.words.Words.{Words}
-use Rattle.answers.specs.declared.reply.Reply.{Reply}
-use Rattle.answers.specs.declared.reply.Reply.the-variants as R
-use Rattle.answers.specs.Replies.{said, perhaps, formed, among, small, dateIn}
+use Rattle.replies.specs.declared.Reply.{Reply}
+use Rattle.replies.specs.declared.Reply.the-variants as R
+use Rattle.replies.specs.Replies.{said, perhaps, formed, among, small, dateIn}
 
 -- two instants or none
 abbrev pub spanReply : Answer (Option (Float × Float)) → Reply

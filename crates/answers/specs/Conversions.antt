@@ -7,9 +7,9 @@ use Rattle.conversion.specs.Calendar.{Calendar, toAd, fromAd, monthLen, validBs
 use Rattle.conversion.specs.declared.BsDate.{BsDate}
 use Rattle.replay.specs.Tags.{CHECK, BS, AD, LEN, VALID}
 use Rattle.replay.specs.declared.words.Words.{Words}
-use Rattle.answers.specs.declared.reply.Reply.{Reply}
-use Rattle.answers.specs.declared.reply.Reply.the-variants as R
-use Rattle.answers.specs.Replies.{said, dated, formed, among, small}
+use Rattle.replies.specs.declared.Reply.{Reply}
+use Rattle.replies.specs.declared.Reply.the-variants as R
+use Rattle.replies.specs.Replies.{said, dated, formed, among, small}
 
 -- whether the table is accepted: nothing more, or refusal 1
 abbrev pub checked : Bool → Reply

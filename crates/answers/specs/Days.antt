@@ -9,9 +9,9 @@ use Rattle.gregorian.specs.Answers.{numberAnswer, weekdayAnswer, nextAnswer, da
 use Rattle.gregorian.specs.Instants.{julianAnswer, nptAnswer}
 use Rattle.replay.specs.Tags.{DAY, DATE, JD, NPT}
 use Rattle.replay.specs.declared.words.Words.{Words}
-use Rattle.answers.specs.declared.reply.Reply.{Reply}
-use Rattle.answers.specs.declared.reply.Reply.the-variants as R
-use Rattle.answers.specs.Replies.{said, dated, formed, among, large, float, dateIn}
+use Rattle.replies.specs.declared.Reply.{Reply}
+use Rattle.replies.specs.declared.Reply.the-variants as R
+use Rattle.replies.specs.Replies.{said, dated, formed, among, large, float, dateIn}
 
 -- a day number, a weekday, and the next date or none
 abbrev pub dayOf : Answer ℕ → Answer ℕ → Answer Date → Reply

@@ -10,9 +10,9 @@ use Rattle.panchanga.specs.Clock.{minutesOf}
 use Rattle.panchanga.specs.Answers.{clockAnswer}
 use Rattle.replay.specs.Tags.{DELTAT, TT, SUN, MOON, ELONG, TITHI, TITHIOF, END, CLOCK, MINUTES}
 use Rattle.replay.specs.declared.words.Words.{Words}
-use Rattle.answers.specs.declared.reply.Reply.{Reply}
-use Rattle.answers.specs.declared.reply.Reply.the-variants as R
-use Rattle.answers.specs.Replies.{said, perhaps, formed, among, float}
+use Rattle.replies.specs.declared.Reply.{Reply}
+use Rattle.replies.specs.declared.Reply.the-variants as R
+use Rattle.replies.specs.Replies.{said, perhaps, formed, among, float}
 
 -- by tag
 abbrev pub floatRows : Float → List (ℕ × Reply)

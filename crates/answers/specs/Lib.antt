@@ -1,5 +1,4 @@
 -- What the contracts of `answers` are written in.
-pub mod Replies
 pub mod Days
 pub mod Conversions
 pub mod Trigonometry

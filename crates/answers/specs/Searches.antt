@@ -9,8 +9,8 @@ use Rattle.paper.specs.Floats.{dec}
 use Rattle.replay.specs.Line.{floatText}
 use Rattle.replay.specs.declared.words.Words.{Words}
 use Rattle.sky.specs.Answers.{startsAnswer, startsBuffer}
-use Rattle.answers.specs.Replies.{said, small, float, replyWords, barred}
-use Rattle.answers.specs.declared.reply.Reply.the-variants as R
+use Rattle.replies.specs.Replies.{said, small, float, replyWords, barred}
+use Rattle.replies.specs.declared.Reply.the-variants as R
 
 -- what is answered of the starts of tithi n from a to b, and the buffer after the call
 unfoldable pub startsWords : ℕ → Float → Float → List Float → List (List ℕ)

@@ -6,9 +6,9 @@ use lib.Ieee.{Float}
 use Rattle.trig.specs.Trig.{sine, cosine, arcsine, arccosine, tangent}
 use Rattle.replay.specs.Tags.{SIN, COS, ASIN, ACOS, TAN}
 use Rattle.replay.specs.declared.words.Words.{Words}
-use Rattle.answers.specs.declared.reply.Reply.{Reply}
-use Rattle.answers.specs.declared.reply.Reply.the-variants as R
-use Rattle.answers.specs.Replies.{formed, among, float}
+use Rattle.replies.specs.declared.Reply.{Reply}
+use Rattle.replies.specs.declared.Reply.the-variants as R
+use Rattle.replies.specs.Replies.{formed, among, float}
 
 -- by tag
 abbrev pub angleRows : Float → List (ℕ × Reply)

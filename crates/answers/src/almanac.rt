@@ -1,11 +1,9 @@
 // Questions about a date's sun, kalas and reading: `events`, `rise`, `set`, `kala`, `nishita` and `read`.
 ghost use mathlib.Core.Path.{_≡_};
 ghost use Rattle.panchanga.specs.Answers.{spanSays, instantSays, readingSays, kalaAnswer};
-ghost use Rattle.answers.specs.Replies.{said, among};
+ghost use Rattle.replies.specs.Replies.{said, among};
 ghost use Rattle.answers.specs.Almanac.{spanReply, instantReply, dateRows, kalaRows, almanacReply};
-ghost use Rattle.answers.specs.declared.reply.Reply.the-variants as R;
-use crate::parts;
-use crate::reply::Reply;
+ghost use Rattle.replies.specs.declared.Reply.the-variants as R;
 use gregorian::Date;
 use panchanga::InstantAnswer;
 use panchanga::Kala;
@@ -13,6 +11,7 @@ use panchanga::ReadingAnswer;
 use panchanga::SpanAnswer;
 use replay::Words;
 use replay::tags;
+use replies::Reply;
 
 // The reply of two instants, or of none.
 fn span(a: SpanAnswer) -> Reply
@@ -88,10 +87,10 @@ pub fn reply(w: Words) -> Reply
 {
     let form = w.form;
     if form == 111 {
-        return of_date(w.tag, parts::date_of(w));
+        return of_date(w.tag, replies::date_of(w));
     }
     if (w.tag == tags::KALA) & (form == 1111) {
-        return kala(parts::date_of(w), w.small(4));
+        return kala(replies::date_of(w), w.small(4));
     }
     Reply::Unformed
 }

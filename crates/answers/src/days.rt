@@ -3,11 +3,9 @@ ghost use mathlib.Core.Path.{_≡_};
 ghost use Rattle.paper.specs.Answers.{answered};
 ghost use Rattle.gregorian.specs.Answers.{dateSays, numberSays, numberAnswer, weekdayAnswer, nextAnswer};
 ghost use Rattle.gregorian.specs.Instants.{julianSays, nptSays};
-ghost use Rattle.answers.specs.Replies.{said, dated};
+ghost use Rattle.replies.specs.Replies.{said, dated};
 ghost use Rattle.answers.specs.Days.{dayOf, daysReply};
-ghost use Rattle.answers.specs.declared.reply.Reply.the-variants as R;
-use crate::parts;
-use crate::reply::Reply;
+ghost use Rattle.replies.specs.declared.Reply.the-variants as R;
 use gregorian::Date;
 use gregorian::DateAnswer;
 use gregorian::JulianAnswer;
@@ -16,6 +14,7 @@ use gregorian::NumberAnswer;
 use gregorian::UtDay;
 use replay::Words;
 use replay::tags;
+use replies::Reply;
 
 // The reply of a day number and a weekday, with the next date or none.
 fn followed(n: u32, k: u32, next: DateAnswer) -> Reply
@@ -89,7 +88,7 @@ pub fn reply(w: Words) -> Reply
     match tag {
         tags::DAY => {
             if form == 111 {
-                return day(parts::date_of(w));
+                return day(replies::date_of(w));
             }
         }
         tags::DATE => {
@@ -99,7 +98,7 @@ pub fn reply(w: Words) -> Reply
         }
         tags::JD => {
             if form == 1114 {
-                return julian(gregorian::julian_day(parts::date_of(w), w.float(4)));
+                return julian(gregorian::julian_day(replies::date_of(w), w.float(4)));
             }
         }
         tags::NPT => {

@@ -2,14 +2,14 @@
 ghost use mathlib.Core.Path.{_≡_};
 ghost use Rattle.sky.specs.Answers.{ttSays, degreesSays, tithiSays, endSays};
 ghost use Rattle.panchanga.specs.Answers.{minutesSays};
-ghost use Rattle.answers.specs.Replies.{said, perhaps, among};
+ghost use Rattle.replies.specs.Replies.{said, perhaps, among};
 ghost use Rattle.answers.specs.Heavens.{floatRows, heavensReply};
-ghost use Rattle.answers.specs.declared.reply.Reply.the-variants as R;
-use crate::reply::Reply;
+ghost use Rattle.replies.specs.declared.Reply.the-variants as R;
 use gregorian::UtDay;
 use panchanga::MinutesAnswer;
 use replay::Words;
 use replay::tags;
+use replies::Reply;
 use sky::DegreesAnswer;
 use sky::EndAnswer;
 use sky::TithiAnswer;

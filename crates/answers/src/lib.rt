@@ -4,7 +4,5 @@ pub mod almanac;
 pub mod conversions;
 pub mod days;
 pub mod heavens;
-pub mod parts;
-pub mod reply;
 pub mod searches;
 pub mod trigonometry;

@@ -4,14 +4,14 @@ ghost use lib.ListN.{replicate};
 ghost use Rattle.paper.specs.Floats.{dec};
 ghost use Rattle.sky.specs.Answers.{startsSays};
 ghost use Rattle.replay.specs.Gathered.{Gathers};
-ghost use Rattle.answers.specs.Replies.{said, small, float, barred};
+ghost use Rattle.replies.specs.Replies.{said, small, float, barred};
 ghost use Rattle.replay.specs.Line.{floatText};
 ghost use Rattle.answers.specs.Searches.{startsWords, searchWords};
-ghost use Rattle.answers.specs.declared.reply.Reply.the-variants as R;
-use crate::reply::Reply;
+ghost use Rattle.replies.specs.declared.Reply.the-variants as R;
 use gregorian::UtDay;
 use replay::Out;
 use replay::Words;
+use replies::Reply;
 use sky::StartsAnswer;
 
 // The reply of the number of starts and of steps.

@@ -1,5 +1,3 @@
 -- The laws of `questions`.
-pub mod Forms
-pub mod Loans
 pub mod Keys
 pub mod Runs

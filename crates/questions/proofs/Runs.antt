@@ -12,8 +12,8 @@ use Rattle.replay.specs.declared.words.Words.{Words}
 use Rattle.replay.specs.declared.input.Turn.{Turn}
 use Rattle.replay.proofs.Turns.{turn-buffer, turn-goes}
 use Rattle.questions.specs.declared.Stepped.{Stepped}
-use Rattle.questions.specs.declared.lending.Lent.{Lent}
-use Rattle.questions.specs.Lending.{Loan, loanAfter}
+use Rattle.lending.specs.declared.Lent.{Lent}
+use Rattle.lending.specs.Lending.{Loan, loanAfter}
 use Rattle.questions.specs.Questions.{answerWords}
 use Rattle.questions.specs.Runs.{lendLine, answerLine, lendLines, answerLines, Answers, TurnDone}
 

@@ -1,5 +1,4 @@
 -- What the contracts of `questions` are written in.
-pub mod Lending
 pub mod Lists
 pub mod Months
 pub mod Questions

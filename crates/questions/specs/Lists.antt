@@ -11,9 +11,9 @@ use Rattle.rules.specs.Festivals.{Listed}
 use Rattle.festivals.specs.Answers.{onBs, onAd}
 use Rattle.replay.specs.Tags.{LISTBS}
 use Rattle.replay.specs.declared.words.Words.{Words}
-use Rattle.answers.specs.declared.reply.Reply.{Reply}
-use Rattle.answers.specs.declared.reply.Reply.the-variants as R
-use Rattle.answers.specs.Replies.{said, formed, small, replyWords, barred}
+use Rattle.replies.specs.declared.Reply.{Reply}
+use Rattle.replies.specs.declared.Reply.the-variants as R
+use Rattle.replies.specs.Replies.{said, formed, small, replyWords, barred}
 
 -- `checkrules`: whether the rules are accepted, or refusal 2
 abbrev pub rulesReply : List ℕ → Words → Reply

@@ -17,9 +17,9 @@ use Rattle.replay.specs.Line.{wholeOf}
 use Rattle.replay.specs.declared.words.Whole.{Whole}
 use Rattle.replay.specs.declared.words.Whole.the-variants.{Is, TooLarge}
 use Rattle.replay.specs.declared.words.Words.{Words}
-use Rattle.answers.specs.declared.reply.Reply.{Reply}
-use Rattle.answers.specs.declared.reply.Reply.the-variants as R
-use Rattle.answers.specs.Replies.{said, formed, small, dateIn, dateWords, replyWords, barred}
+use Rattle.replies.specs.declared.Reply.{Reply}
+use Rattle.replies.specs.declared.Reply.the-variants as R
+use Rattle.replies.specs.Replies.{said, formed, small, dateIn, dateWords, replyWords, barred}
 
 -- a month's year and number
 abbrev pub monthly : BsMonth → Reply

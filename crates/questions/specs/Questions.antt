@@ -9,17 +9,17 @@ use Rattle.conversion.specs.Calendar.{Calendar}
 use Rattle.conversion.specs.Flat.{flat}
 use Rattle.replay.specs.Tags.{CHECK, CHECKRULES, BS, AD, LEN, VALID, STEP, STARTS, LISTBS, LISTAD, GRID, DAY, DATE, JD, NPT, EVENTS, RISE, SET, KALA, NISHITA, READ, SIN, COS, ASIN, ACOS, TAN}
 use Rattle.replay.specs.declared.words.Words.{Words}
-use Rattle.answers.specs.declared.reply.Reply.{Reply}
-use Rattle.answers.specs.declared.reply.Reply.the-variants as R
-use Rattle.answers.specs.Replies.{replyWords}
+use Rattle.replies.specs.declared.Reply.{Reply}
+use Rattle.replies.specs.declared.Reply.the-variants as R
+use Rattle.replies.specs.Replies.{replyWords}
 use Rattle.answers.specs.Searches.{searchWords}
 use Rattle.answers.specs.Days.{daysReply}
 use Rattle.answers.specs.Conversions.{conversionsReply}
 use Rattle.answers.specs.Trigonometry.{trigonometryReply}
 use Rattle.answers.specs.Almanac.{almanacReply}
 use Rattle.answers.specs.Heavens.{heavensReply}
-use Rattle.questions.specs.declared.lending.Lent.{Lent}
-use Rattle.questions.specs.Lending.{lendingOf, lends}
+use Rattle.lending.specs.declared.Lent.{Lent}
+use Rattle.lending.specs.Lending.{lendingOf, lends}
 use Rattle.questions.specs.Lists.{rulesReply, listWords}
 use Rattle.questions.specs.Months.{stepReply, gridWords}
 

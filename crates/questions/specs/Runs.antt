@@ -9,7 +9,7 @@ use Rattle.replay.specs.Gathered.{Gathered, gathered, puts, ended}
 use Rattle.replay.specs.Turns.{inputOf, TurnAfter}
 use Rattle.replay.specs.declared.input.Turn.{Turn}
 use Rattle.questions.specs.declared.Stepped.{Stepped}
-use Rattle.questions.specs.Lending.{Loan, loanAfter}
+use Rattle.lending.specs.Lending.{Loan, loanAfter}
 use Rattle.questions.specs.Questions.{answerWords}
 
 -- what is lent after a line of bytes

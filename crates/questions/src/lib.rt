@@ -5,11 +5,9 @@ ghost use Rattle.replay.specs.Gathered.{Gathers};
 ghost use Rattle.questions.specs.Questions.{replyTo, wordsBy, answerWords};
 ghost use Rattle.questions.specs.Runs.{Lends, Answers, TurnDone};
 
-mod lending;
 mod lists;
 mod months;
 
-use answers::reply::Reply;
 use conversion::Table;
 pub use lending::Lent;
 pub use lending::nothing;
@@ -17,6 +15,7 @@ use replay::Out;
 use replay::Turn;
 use replay::Words;
 use replay::tags;
+use replies::Reply;
 
 // The turn after a line, and what is lent after it.
 struct Stepped {

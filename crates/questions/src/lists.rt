@@ -4,16 +4,15 @@ ghost use mathlib.Core.Bool.{cond};
 ghost use Rattle.rules.specs.Rules.{acceptedRules};
 ghost use Rattle.festivals.specs.Answers.{listSays};
 ghost use Rattle.replay.specs.Gathered.{Gathers};
-ghost use Rattle.answers.specs.Replies.{said};
-ghost use Rattle.answers.specs.declared.reply.Reply.the-variants as R;
+ghost use Rattle.replies.specs.Replies.{said};
+ghost use Rattle.replies.specs.declared.Reply.the-variants as R;
 ghost use Rattle.questions.specs.Lists.{rulesReply, listAsked, listedWords, listWords};
-use answers::parts;
-use answers::reply::Reply;
 use conversion::Table;
 use festivals::ListAnswer;
 use replay::Out;
 use replay::Words;
 use replay::tags;
+use replies::Reply;
 
 // Whether the rules are accepted, or refusal 2.
 fn accepted(numbers: &[u16]) -> Reply
@@ -79,7 +78,7 @@ fn put_asked(
     ensures { λ r. ⌜ Gathers (now (out .entry)) o (listedWords (listAsked table (now (rows .entry)) (now (rules .entry)) w (now (list .entry)))) (now (out .exit)) r ⌝ }
 {
     let counted = count(asked(w, table, rows, rules, list)).put(o, out);
-    parts::put_list(counted, out, list)
+    replies::put_list(counted, out, list)
 }
 
 // The answer to a line in form, whose buffer has the asked length and holds 7 before, or a question mark. A line can ask for any length up to 65,535.

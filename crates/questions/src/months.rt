@@ -6,12 +6,9 @@ ghost use Rattle.grid.specs.Step.{stepSays};
 ghost use Rattle.grid.specs.Month.{gridSays};
 ghost use Rattle.grid.specs.Kathmandu.{monthShown};
 ghost use Rattle.replay.specs.Gathered.{Gathers};
-ghost use Rattle.answers.specs.Replies.{said, small, dateIn};
+ghost use Rattle.replies.specs.Replies.{said, small, dateIn};
 ghost use Rattle.questions.specs.Months as Months;
 ghost use Rattle.questions.specs.Months.{monthly, stepReply, monthWords, shownWords, gridWords};
-use answers::parts;
-use answers::reply;
-use answers::reply::Reply;
 use conversion::Table;
 use grid::GridAnswer;
 use grid::Month;
@@ -19,6 +16,7 @@ use grid::StepAnswer;
 use replay::Out;
 use replay::Whole;
 use replay::Words;
+use replies::Reply;
 
 // The reply of a month.
 fn monthly_of(a: StepAnswer) -> Reply
@@ -66,8 +64,8 @@ fn put_days(o: Out, out: &mut [u8], m: Month) -> Out
     let first = m.first;
     let last = m.last;
     let days = Reply::Number(m.days as u64).put(o, out);
-    let from = reply::put_date(days, out, first.year, first.month, first.day);
-    let to = reply::put_date(from, out, last.year, last.month, last.day);
+    let from = replies::put_date(days, out, first.year, first.month, first.day);
+    let to = replies::put_date(from, out, last.year, last.month, last.day);
     to.number(out, m.cells as u64)
         .number(out, m.festivals as u64)
 }
@@ -100,7 +98,7 @@ fn put_asked(
 ) -> Out
     ensures { λ r. ⌜ Gathers (now (out .entry)) o (shownWords (monthShown table (now (rows .entry)) (now (rules .entry)) (dateIn w) (small w 4) (small w 5) (now (cells .entry)) (now (list .entry)))) (now (out .exit)) r ⌝ }
 {
-    let today = parts::date_of(w);
+    let today = replies::date_of(w);
     let a = grid::month_grid(
         table,
         rows,
@@ -112,8 +110,8 @@ fn put_asked(
         list,
     );
     let told = put_month(o, out, a);
-    let shown = parts::put_list(told, out, cells);
-    parts::put_list(shown, out, list)
+    let shown = replies::put_list(told, out, cells);
+    replies::put_list(shown, out, list)
 }
 
 // The answer to a line `grid` in form, whose buffers hold 7 before, or a question mark.

@@ -1,5 +1,5 @@
 -- `answers::almanac::of_date` meets its contract. Assumes nothing.
-use Rattle.answers.specs.Replies.{among}
+use Rattle.replies.specs.Replies.{among}
 use Rattle.answers.specs.Almanac.{dateRows}
 use borrow.Author.Needs.{needs}
 use Rattle.answers.proofs.Rows.{other}

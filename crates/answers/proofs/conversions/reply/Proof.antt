@@ -2,7 +2,7 @@
 use lib.Dec.{lit<}
 use denote.Ref.{now}
 use Rattle.conversion.specs.Flat.{flat}
-use Rattle.answers.specs.Replies.{among}
+use Rattle.replies.specs.Replies.{among}
 use Rattle.answers.specs.Conversions.{conversionsRows, conversionsReply}
 use borrow.Author.Needs.{needs}
 use borrow.Author.Tests.{ne-eqb}

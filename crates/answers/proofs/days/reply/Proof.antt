@@ -1,6 +1,6 @@
 -- `answers::days::reply` meets its contract. Assumes nothing.
 use lib.Dec.{lit<}
-use Rattle.answers.specs.Replies.{among}
+use Rattle.replies.specs.Replies.{among}
 use Rattle.answers.specs.Days.{daysRows, daysReply}
 use borrow.Author.Needs.{needs}
 use borrow.Author.Tests.{ne-eqb}

@@ -1,6 +1,6 @@
 -- One after the other. Assumes nothing.
 use Rattle.replay.proofs.Gathering.{then}
-use Rattle.answers.specs.Replies.{replyWords}
+use Rattle.replies.specs.Replies.{replyWords}
 use borrow.Author.Needs.{needs}
 use Rattle.questions.proofs.months.put_days.Statement.{statement}
 use Rattle.questions.proofs.months.put_days.Tie as tie

@@ -1,0 +1,3 @@
+-- The laws of `lending`.
+pub mod Forms
+pub mod Loans

@@ -1,0 +1,2 @@
+-- What the contracts of `lending` are written in.
+pub mod Lending

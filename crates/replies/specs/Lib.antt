@@ -1,0 +1,2 @@
+-- What the contracts of `replies` are written in.
+pub mod Replies

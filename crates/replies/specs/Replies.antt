@@ -1,0 +1,81 @@
+-- What a question is answered, and its words. Assumes nothing.
+use Prim.Native.Nat.{ℕ}
+use mathlib.Core.Bool.{Bool, cond}
+use mathlib.Core.List.{List, [], _∷_, map}
+use mathlib.Core.Option.{Option, some, none}
+use lib.Dec.{eqb}
+use lib.Ieee.{Float, binary64, ofBits}
+use lib.ListN.{getD}
+use Rattle.paper.specs.Answers.{Answer, answered, refused}
+use Rattle.text.specs.Digits.{digits}
+use Rattle.text.specs.Quoted.{bytes}
+use Rattle.gregorian.specs.declared.Date.{Date}
+use Rattle.replay.specs.Line.{fitting, floatText}
+use Rattle.replay.specs.declared.words.Words.{Words}
+use Rattle.replies.specs.declared.Reply.{Reply}
+use Rattle.replies.specs.declared.Reply.the-variants as R
+
+-- ---- from an answer to a reply
+
+-- what is made of the value, or the refusal's number
+abbrev pub said : {A : Type 0} → (A → Reply) → Answer A → Reply
+said f (answered x) = f x
+said f (refused k) = R.Refused k
+
+-- the same of a value that may be none
+abbrev pub perhaps : {A : Type 0} → (A → Reply) → Option A → Reply
+perhaps f (some x) = f x
+perhaps f none = R.Nothing
+
+-- a date
+abbrev pub dated : Date → Reply
+dated x = R.Date (x .year) (x .month) (x .day)
+
+-- ---- from a line to a question
+
+-- the reply where the line has its form
+abbrev pub formed : Bool → Reply → Reply
+formed good r = cond good r R.Unformed
+
+-- the row of a tag, a question mark for a tag that has none
+unfoldable pub among : ℕ → List (ℕ × Reply) → Reply
+among tag [] = R.Unformed
+among tag (row ∷ rows) = cond (eqb tag (row .0)) (row .1) (among tag rows)
+
+-- a line's word: a number up to 65,535, one that a u32 holds, a float
+abbrev pub small : Words → ℕ → ℕ
+small w i = fitting 65535 (getD (w .values) i 0)
+
+abbrev pub large : Words → ℕ → ℕ
+large w i = fitting 4294967295 (getD (w .values) i 0)
+
+abbrev pub float : Words → ℕ → Float
+float w i = ofBits binary64 (getD (w .values) i 0)
+
+-- a line's first three words
+abbrev pub dateIn : Words → Date
+dateIn w = record { year = small w 1; month = small w 2; day = small w 3 }
+
+-- ---- from a reply to its words
+
+abbrev pub dateWords : ℕ → ℕ → ℕ → List (List ℕ)
+dateWords y m d = digits y ∷ digits m ∷ digits d ∷ []
+
+-- a question mark, a refusal's number alone, or 0 and the values; "none" where there is none
+unfoldable pub replyWords : Reply → List (List ℕ)
+replyWords R.Unformed = bytes "?" ∷ []
+replyWords (R.Refused k) = digits k ∷ []
+replyWords R.Good = digits 0 ∷ []
+replyWords R.Nothing = digits 0 ∷ bytes "none" ∷ []
+replyWords (R.Number n) = digits 0 ∷ digits n ∷ []
+replyWords (R.Pair n k) = digits 0 ∷ digits n ∷ digits k ∷ []
+replyWords (R.Date y m d) = digits 0 ∷ dateWords y m d
+replyWords (R.Float x) = digits 0 ∷ floatText x ∷ []
+replyWords (R.Span x y) = digits 0 ∷ floatText x ∷ floatText y ∷ []
+replyWords (R.Day n w x) = digits 0 ∷ digits n ∷ digits w ∷ dateWords (x .year) (x .month) (x .day)
+replyWords (R.LastDay n w) = digits 0 ∷ digits n ∷ digits w ∷ bytes "none" ∷ []
+replyWords (R.Reading r) = digits 0 ∷ digits (r .tithi) ∷ digits (r .end) ∷ digits (r .sunrise) ∷ digits (r .sunset) ∷ []
+
+-- a bar, and every element of a lent buffer
+abbrev pub barred : {A : Type 0} → (A → List ℕ) → List A → List (List ℕ)
+barred text buffer = bytes "|" ∷ map text buffer
