@@ -8,10 +8,10 @@ ghost use Rattle.replies.specs.Replies.{said, small, float, barred};
 ghost use Rattle.replay.specs.Line.{floatText};
 ghost use Rattle.answers.specs.Searches.{startsWords, searchWords};
 ghost use Rattle.replies.specs.declared.Reply.the-variants as R;
-use replies::Reply;
 use gregorian::UtDay;
 use replay::Out;
 use replay::Words;
+use replies::Reply;
 use sky::StartsAnswer;
 
 // The reply of the number of starts and of steps.

@@ -2,9 +2,9 @@
 ghost use mathlib.Core.Path.{_≡_};
 ghost use Rattle.replies.specs.Replies.{among};
 ghost use Rattle.answers.specs.Trigonometry.{angleRows, trigonometryReply};
-use replies::Reply;
 use replay::Words;
 use replay::tags;
+use replies::Reply;
 
 // The reply to a line with one float, by its tag.
 fn of_float(tag: u64, x: f64) -> Reply

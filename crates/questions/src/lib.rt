@@ -8,7 +8,6 @@ ghost use Rattle.questions.specs.Runs.{Lends, Answers, TurnDone};
 mod lists;
 mod months;
 
-use replies::Reply;
 use conversion::Table;
 pub use lending::Lent;
 pub use lending::nothing;
@@ -16,6 +15,7 @@ use replay::Out;
 use replay::Turn;
 use replay::Words;
 use replay::tags;
+use replies::Reply;
 
 // The turn after a line, and what is lent after it.
 struct Stepped {

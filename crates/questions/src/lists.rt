@@ -7,12 +7,12 @@ ghost use Rattle.replay.specs.Gathered.{Gathers};
 ghost use Rattle.replies.specs.Replies.{said};
 ghost use Rattle.replies.specs.declared.Reply.the-variants as R;
 ghost use Rattle.questions.specs.Lists.{rulesReply, listAsked, listedWords, listWords};
-use replies::Reply;
 use conversion::Table;
 use festivals::ListAnswer;
 use replay::Out;
 use replay::Words;
 use replay::tags;
+use replies::Reply;
 
 // Whether the rules are accepted, or refusal 2.
 fn accepted(numbers: &[u16]) -> Reply

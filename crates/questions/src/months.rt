@@ -9,7 +9,6 @@ ghost use Rattle.replay.specs.Gathered.{Gathers};
 ghost use Rattle.replies.specs.Replies.{said, small, dateIn};
 ghost use Rattle.questions.specs.Months as Months;
 ghost use Rattle.questions.specs.Months.{monthly, stepReply, monthWords, shownWords, gridWords};
-use replies::Reply;
 use conversion::Table;
 use grid::GridAnswer;
 use grid::Month;
@@ -17,6 +16,7 @@ use grid::StepAnswer;
 use replay::Out;
 use replay::Whole;
 use replay::Words;
+use replies::Reply;
 
 // The reply of a month.
 fn monthly_of(a: StepAnswer) -> Reply
