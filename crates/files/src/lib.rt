@@ -8,6 +8,7 @@ pub use arguments::rules_asked;
 pub use arguments::rules_at;
 pub use arguments::table_at;
 use conversion::Table;
+pub use problems::Expected;
 pub use problems::Problem;
 pub use problems::put_problem;
 use reading::Fault;
@@ -41,18 +42,18 @@ fn wrong_with(r: Reading, width: usize) -> Wrong
     let fault = r.fault;
     let line = r.line;
     match fault {
-        Fault::LongLine => Wrong::Is(Problem::LongLine(line)),
-        Fault::NoNumber => Wrong::Is(Problem::NoNumber(line)),
+        Fault::LongLine => Wrong::Is(Problem::At(line, Expected::ShortLine)),
+        Fault::NoNumber => Wrong::Is(Problem::At(line, Expected::Numbers)),
         Fault::OtherCount => {
             if r.awaits {
-                return Wrong::Is(Problem::NotFour(line));
+                return Wrong::Is(Problem::At(line, Expected::Four));
             }
             if width == 13 {
-                return Wrong::Is(Problem::NotThirteen(line));
+                return Wrong::Is(Problem::At(line, Expected::Thirteen));
             }
-            Wrong::Is(Problem::NotEight(line))
+            Wrong::Is(Problem::At(line, Expected::Eight))
         }
-        Fault::TooMany => Wrong::Is(Problem::TooMany(line)),
+        Fault::TooMany => Wrong::Is(Problem::At(line, Expected::End)),
         Fault::NotRead => Wrong::Is(Problem::NotRead),
         Fault::NotOpened => Wrong::Is(Problem::NotOpened),
         Fault::Nothing => {

@@ -1,6 +1,6 @@
 -- `files::wrong_with` meets its contract. Assumes nothing.
 use borrow.Author.Tests.{eq-eqb, ne-eqb}
-use Rattle.files.specs.Problems.{otherCount}
+use Rattle.files.specs.Problems.{expectedCount}
 use borrow.Author.Needs.{needs}
 use Rattle.files.proofs.wrong_with.Statement.{statement}
 use Rattle.files.proofs.wrong_with.Tie as tie
@@ -15,11 +15,11 @@ enum-told-3 : tie.Need-enum-told-3
 enum-told-3 c = search needs
 
 returns : tie.Need-returns
-unfolding otherCount
+unfolding expectedCount
 returns c = rw (c .before .enum-told3 .given .1, c .if1 .taken)
 
 returns-2 : tie.Need-returns-2
-unfolding otherCount
+unfolding expectedCount
 returns-2 c = rw (c .before .before .enum-told3 .given .1, c .before .if1 .left, eq-eqb (c .before .before .before .before .args .width) 13 (c .if2 .taken))
 
 enum-told-4 : tie.Need-enum-told-4
@@ -44,7 +44,7 @@ returns-5 : tie.Need-returns-5
 returns-5 c = rw (c .enum-told2 .given .1)
 
 returns-6 : tie.Need-returns-6
-unfolding otherCount
+unfolding expectedCount
 returns-6 c = rw (c .before .before .enum-told3 .given .1, c .before .if1 .left, ne-eqb (c .before .before .before .before .args .width) 13 (c .if2 .left))
 
 returns-7 : tie.Need-returns-7

@@ -20,15 +20,15 @@ slice-aggregate-put-2 c = search needs
 put-requires-2 : tie.Need-put-requires-2
 put-requires-2 c κs = search needs
 
-put-requires-3 : tie.Need-put-requires-3
-put-requires-3 c κs = search needs
+put-expected-requires : tie.Need-put-expected-requires
+put-expected-requires c κs = search needs
 
 same-length : tie.Need-same-length
 same-length c = search needs
 
 returns : tie.Need-returns
 unfolding atLine
-returns c = then (c .before .before .before .before .before .before .before .before .before .before .before .before .before .before .before .put .ensures) (then (c .before .before .before .before .before .before .before .before .before .before .before .put-decimal .ensures) (then (c .before .before .before .before .before .before .put2 .ensures) (c .before .before .put3 .ensures)))
+returns c = then (c .before .before .before .before .before .before .before .before .before .before .before .before .before .before .before .put .ensures) (then (c .before .before .before .before .before .before .before .before .before .before .before .put-decimal .ensures) (then (c .before .before .before .before .before .before .put2 .ensures) (c .before .before .put-expected .ensures)))
 
 pub put-at-spec : {M : Type 1} → statement M
 put-at-spec =
@@ -39,6 +39,6 @@ put-at-spec =
     put-decimal-requires
     slice-aggregate-put-2
     put-requires-2
-    put-requires-3
+    put-expected-requires
     same-length
     returns)
