@@ -2,7 +2,7 @@
 use conversion::Table;
 use files::RulesRead;
 use files::TableRead;
-use questions::Lent;
+use lending::Lent;
 
 // Reads the rules and answers over them and the table.
 fn over_rules(table: Table, cells: usize, rows: &mut [u16]) {

@@ -9,8 +9,7 @@ mod lists;
 mod months;
 
 use conversion::Table;
-pub use lending::Lent;
-pub use lending::nothing;
+use lending::Lent;
 use replay::Out;
 use replay::Turn;
 use replay::Words;
