@@ -1,9 +1,9 @@
 -- The page that is asked for, and the page in a lent buffer. Assumes nothing.
-use Prim.Native.Nat.{ℕ, zero, suc, _+_, _/_, min}
+use Prim.Native.Nat.{ℕ, _/_, min}
 use mathlib.Core.Path.{_≡_}
 use mathlib.Core.Bool.{cond, _&&_}
 use mathlib.Core.List.{List}
-use lib.Dec.{eqb, leb}
+use lib.Dec.{leb}
 use lib.ListN.{length, replicate}
 use lib.Seq.{sets}
 use Rattle.paper.specs.Answers.{Answer, answered, refused, given, then}
@@ -15,6 +15,7 @@ use Rattle.grid.specs.declared.Month.{Month}
 use Rattle.grid.specs.Month.{Shown, over}
 use Rattle.grid.specs.Kathmandu.{monthShown}
 use Rattle.wall.specs.declared.Page.{Page}
+use Rattle.wall.specs.Places.{placeFrom}
 use Rattle.wall.specs.Cells.{num}
 use Rattle.wall.specs.Pages.{monthPage, dayPage}
 use Rattle.patro.specs.declared.words.Asked.{Asked}
@@ -29,14 +30,13 @@ use Rattle.patro.specs.Refusals.{refusalNumber}
 
 -- ---- a page
 
--- the first of k cells from cell i on whose BS day is d; the place after them where there is none
-unfoldable pub cellFrom : ℕ → List ℕ → ℕ → ℕ → ℕ
-cellFrom d cells i zero = i
-cellFrom d cells i (suc k) = cond (eqb (num cells i 0) d) i (cellFrom d cells (i + 1) k)
+-- the BS day of cell i
+abbrev pub cellDay : List ℕ → ℕ → ℕ
+cellDay cells i = num cells i 0
 
--- the cell of a BS day in a month of six weeks at most
+-- the first cell of a BS day in a month of six weeks at most; 42 where there is none
 abbrev pub cellOf : ℕ → List ℕ → ℕ
-cellOf d cells = cellFrom d cells 0 42
+cellOf d cells = placeFrom (cellDay cells) d 0 42
 
 -- what the page of a month says beside its cells
 abbrev pub titled : ℕ → ℕ → Month → Page

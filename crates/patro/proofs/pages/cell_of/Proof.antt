@@ -1,15 +1,17 @@
 -- `patro::pages::cell_of` meets its contract: the cell is to be found from the place reached. Assumes nothing.
 use Prim.Native.Nat.{_+_, _-_, _≤_}
 use mathlib.Core.Path.{_≡_, refl, _∙_}
+use native.Mathlib.Nat.{add-zero}
 use native.Mathlib.Omega.{arith}
 use borrow.Author.Needs.{needs}
-use Rattle.patro.specs.Pages.{cellFrom}
-use Rattle.patro.proofs.Cells.{cell-over, cell-found, cell-turn}
+use Rattle.wall.specs.Places.{placeFrom}
+use Rattle.wall.proofs.Places.{place-over, place-found, place-turn}
+use Rattle.patro.specs.Pages.{cellDay, cellOf}
 use Rattle.patro.proofs.pages.cell_of.Statement.{statement}
 use Rattle.patro.proofs.pages.cell_of.Tie as tie
 
 abbrev Inv-loop : tie.InvT-loop
-Inv-loop cells day i₀ i = (i ≤ 42) × (cellFrom day cells i (42 - i) ≡ cellFrom day cells 0 42)
+Inv-loop cells day i₀ i = (i ≤ 42) × (placeFrom (cellDay cells) day i (42 - i) ≡ cellOf day cells)
 
 abbrev μ-loop : tie.MeasureT-loop
 μ-loop cells day i₀ i = 42 - i
@@ -30,7 +32,10 @@ shared-slice-read-if1 : tie.Need-shared-slice-read-if1 Inv-loop μ-loop
 shared-slice-read-if1 c = search needs
 
 returns : tie.Need-returns Inv-loop μ-loop
-returns c = let l = c .before .before .before .loop in cell-found (c .before .before .before .before .args .day) (c .before .before .before .before .args .cells .now) (l .i) (42 - l .i) (c .if1 .taken) ∙ l .inv .1
+returns c =
+    let a = c .before .before .before .before .args in
+    let l = c .before .before .before .loop in
+    place-found (cellDay (a .cells .now)) (a .day) (l .i) (42 - l .i) (rw add-zero (c .if1 .taken)) ∙ l .inv .1
 
 add-i : tie.Need-add-i Inv-loop μ-loop
 add-i c = search needs
@@ -39,10 +44,16 @@ loop-less : tie.Need-loop-less Inv-loop μ-loop
 loop-less c = search needs
 
 loop-again : tie.Need-loop-again Inv-loop μ-loop
-loop-again c = let l = c .before .before .before .loop in (omega arith, cell-turn (c .before .before .before .before .args .day) (c .before .before .before .before .args .cells .now) (l .i) (42 - l .i) (42 - (l .i + 1)) (omega arith) (c .if1 .left) ∙ l .inv .1)
+loop-again c =
+    let a = c .before .before .before .before .args in
+    let l = c .before .before .before .loop in
+    (omega arith, place-turn (cellDay (a .cells .now)) (a .day) (l .i) (42 - l .i) (42 - (l .i + 1)) (omega arith) (rw add-zero (c .if1 .left)) ∙ l .inv .1)
 
 returns-2 : tie.Need-returns-2 Inv-loop μ-loop
-returns-2 c = let l = c .before .loop in cell-over (c .before .before .args .day) (c .before .before .args .cells .now) (l .i) (42 - l .i) (omega arith) ∙ l .inv .1
+returns-2 c =
+    let a = c .before .before .args in
+    let l = c .before .loop in
+    place-over (cellDay (a .cells .now)) (a .day) (l .i) (42 - l .i) (omega arith) ∙ l .inv .1
 
 pub cell-of-spec : {M : Type 1} → statement M
 cell-of-spec =
