@@ -9,8 +9,12 @@ ghost use mathlib.Core.Path.{_≡_};
 ghost use mathlib.Core.Bool.{true};
 ghost use Rattle.conversion.specs.Flat.{accepted, flat};
 ghost use Rattle.conversion.specs.Calendar.{yearOk};
+ghost use Rattle.rules.specs.Rules.{rulesOf};
+ghost use Rattle.replay.specs.Gathered.{gathered};
 ghost use Rattle.pieces.specs.Pieces.{Puts};
-ghost use Rattle.doubt.specs.Range.{rangePieces};
+ghost use Rattle.doubtful.specs.Tallies.{firstPage};
+ghost use Rattle.doubtful.specs.Years.{sheet};
+ghost use Rattle.doubt.specs.Range.{rangePieces, askedPage};
 
 // One line on standard error.
 fn complain(line: &[u8]) {
@@ -47,8 +51,9 @@ fn put_page(
     rules: &[u16],
     names: &[u8],
     out: &mut [u8],
-)
+) -> Out
     requires { ⌜ accepted table (now rows) ≡ true ⌝ }
+    ensures { λ r. ⌜ gathered (now (out .exit)) r ≡ askedPage (flat table (now (rows .entry))) (rulesOf (now (rules .entry))) (now (names .entry)) first last (sheet (now (out .entry)) firstPage) ⌝ }
 {
     let p = doubtful::put_years(
         doubtful::begin(),
@@ -62,8 +67,7 @@ fn put_page(
     );
     let o = p.out;
     let q = put_range(o, out, first, last);
-    let r = doubtful::put_counts(p, q, out);
-    r.finish(out);
+    doubtful::put_counts(p, q, out)
 }
 
 // Tests the rules and the years, and writes the page or one line on standard error.
@@ -94,7 +98,8 @@ fn answer_over(
         complain(b"LAST: expected a BS year of the table\n");
         return;
     }
-    put_page(table, rows, first, last, rules, names, out);
+    let o = put_page(table, rows, first, last, rules, names, out);
+    o.finish(out);
 }
 
 // Tests the table first.
