@@ -71,7 +71,7 @@ pub fn sun_longitude(tt: TtDay) -> DegreesAnswer
 {
     if time::is_tt_day(tt.0) {
         let place = sun::sun_at(time::julian_centuries(tt));
-        DegreesAnswer::Is(place.lambda)
+        DegreesAnswer::Is(place.longitude)
     } else {
         DegreesAnswer::OutOfRange
     }
