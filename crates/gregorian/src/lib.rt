@@ -4,8 +4,9 @@ ghost use Prim.Native.Nat.{_+_, _-_, _*_, _<_, _≤_};
 ghost use lib.Dec.{T};
 ghost use Rattle.paper.specs.Floats.{near, floorOf};
 ghost use Rattle.gregorian.specs.Calendar.{leap, monthLength, monthStart, yearStart, yearLength, firstNumber, allDays, isDate, dayNumber, dateAfter};
-ghost use Rattle.gregorian.specs.Instants.{instant, julianSays, julianAnswer, nptSays, nptAnswer, localDay};
+ghost use Rattle.gregorian.specs.Instants.{instant, julianSays, julianAnswer, nptAnswer, localDay};
 ghost use Rattle.gregorian.specs.Answers.{dateSays, numberSays, newDate, numberAnswer, weekdayAnswer, nextAnswer, dateAnswer};
+use paper::Refusal;
 
 // A date as three numbers. A record that is no date is refused by every call, with 3.
 pub struct Date {
@@ -14,33 +15,25 @@ pub struct Date {
     pub day: u16,
 }
 
-// A date, or refusal 3.
+// A date, or a refusal.
 pub enum DateAnswer {
     Is(Date),
-    NoSuchDate,
+    Refused(Refusal),
 }
 
-// A number, or refusal 3.
+// The number of a day or of a weekday, or a refusal.
 pub enum NumberAnswer {
     Number(u32),
-    NoSuchDate,
+    Refused(Refusal),
 }
 
 // A Julian day of universal time.
 pub struct UtDay(pub f64);
 
-// An instant, or refusal 3 or 8.
+// An instant, or a refusal.
 pub enum JulianAnswer {
     At(UtDay),
-    NoSuchDate,
-    OutOfRange,
-}
-
-// A date, or refusal 3 or 8.
-pub enum NptAnswer {
-    Is(Date),
-    NoSuchDate,
-    OutOfRange,
+    Refused(Refusal),
 }
 
 // Nepal time, 5 hours and 45 minutes east, as a fraction of a day.
@@ -190,7 +183,7 @@ impl Date {
         if is_date(year, month, day) {
             DateAnswer::Is(Date { year, month, day })
         } else {
-            DateAnswer::NoSuchDate
+            DateAnswer::Refused(Refusal::NoSuchDate)
         }
     }
 
@@ -201,7 +194,7 @@ impl Date {
         if is_date(self.year, self.month, self.day) {
             NumberAnswer::Number(number(self.year, self.month, self.day))
         } else {
-            NumberAnswer::NoSuchDate
+            NumberAnswer::Refused(Refusal::NoSuchDate)
         }
     }
 
@@ -212,7 +205,7 @@ impl Date {
         if is_date(self.year, self.month, self.day) {
             NumberAnswer::Number((number(self.year, self.month, self.day) + 1) % 7)
         } else {
-            NumberAnswer::NoSuchDate
+            NumberAnswer::Refused(Refusal::NoSuchDate)
         }
     }
 
@@ -246,7 +239,7 @@ impl Date {
                 });
             }
         }
-        DateAnswer::NoSuchDate
+        DateAnswer::Refused(Refusal::NoSuchDate)
     }
 
     // The date of a day number.
@@ -254,10 +247,10 @@ impl Date {
         ensures { λ r. ⌜ dateSays r ≡ dateAnswer n ⌝ }
     {
         if n < 2415021 {
-            return DateAnswer::NoSuchDate;
+            return DateAnswer::Refused(Refusal::NoSuchDate);
         }
         if 2506332 <= n {
-            return DateAnswer::NoSuchDate;
+            return DateAnswer::Refused(Refusal::NoSuchDate);
         }
         DateAnswer::Is(date_after(n - 2415021))
     }
@@ -290,9 +283,9 @@ pub fn julian_day(date: Date, fraction: f64) -> JulianAnswer
         if is_instant(t) {
             return JulianAnswer::At(UtDay(t));
         }
-        return JulianAnswer::OutOfRange;
+        return JulianAnswer::Refused(Refusal::OutOfRange);
     }
-    JulianAnswer::NoSuchDate
+    JulianAnswer::Refused(Refusal::NoSuchDate)
 }
 
 // The whole local day of an instant.
@@ -304,17 +297,12 @@ fn whole_day(x: f64) -> u32
 }
 
 // The date in Nepal at an instant.
-pub fn npt_date(instant: UtDay) -> NptAnswer
-    ensures { λ r. ⌜ nptSays r ≡ nptAnswer (instant .0) ⌝ }
+pub fn npt_date(instant: UtDay) -> DateAnswer
+    ensures { λ r. ⌜ dateSays r ≡ nptAnswer (instant .0) ⌝ }
 {
     let x = instant.0;
     if is_instant(x) {
-        let a = Date::from_day_number(whole_day(x));
-        match a {
-            DateAnswer::Is(d) => NptAnswer::Is(d),
-            DateAnswer::NoSuchDate => NptAnswer::NoSuchDate,
-        }
-    } else {
-        NptAnswer::OutOfRange
+        return Date::from_day_number(whole_day(x));
     }
+    DateAnswer::Refused(Refusal::OutOfRange)
 }
