@@ -1,11 +1,11 @@
--- `festivals::days::day_of` meets its contract. Assumes nothing.
+-- `festivals::days::nepal_day` meets its contract. Assumes nothing.
 use borrow.Author.Needs.{needs}
 use mathlib.Core.Path.{sym, ap, _∙_}
 use Rattle.gregorian.specs.Answers.{numberSays}
 use Rattle.gregorian.specs.Instants.{nptSays}
 use Rattle.festivals.proofs.Nepal.{nepal-date, nepal-none, known-some, known-none}
-use Rattle.festivals.proofs.days.day_of.Statement.{statement}
-use Rattle.festivals.proofs.days.day_of.Tie as tie
+use Rattle.festivals.proofs.days.nepal_day.Statement.{statement}
+use Rattle.festivals.proofs.days.nepal_day.Tie as tie
 
 npt-date-requires : tie.Need-npt-date-requires
 npt-date-requires c κs = search needs
@@ -51,8 +51,8 @@ returns-3 c = nepal-none _ 3 (sym (ap nptSays (c .enum-told2 .given .1)) ∙ c .
 returns-4 : tie.Need-returns-4
 returns-4 c = nepal-none _ 8 (sym (ap nptSays (c .enum-told3 .given .1)) ∙ c .before .before .npt-date .ensures)
 
-pub day-of-spec : {M : Type 1} → statement M
-day-of-spec =
+pub nepal-day-spec : {M : Type 1} → statement M
+nepal-day-spec =
     tie.close
     (tie.spec
     npt-date-requires
