@@ -116,7 +116,7 @@ fn answer(
         answer_over(table, rows, first, last, rules, names, out);
         return;
     }
-    complain(b"TABLE: refused with 1; ./spring TABLE TABLE says where it breaks a rule\n");
+    complain(b"TABLE: refused with 1; ./patro spring TABLE TABLE says where it breaks a rule\n");
 }
 
 // The same with the parts of the lent buffers that were read.
