@@ -1,7 +1,8 @@
 // Reads lines bs=Y-M-D and ad=YYYY-MM-DD, and writes both dates and the refusal of each.
 ghost use Prim.Native.Nat.{_-_, _≤_};
 ghost use lib.ListN.{length};
-ghost use Rattle.convert.specs.Replies.{replyTo, Gathered};
+ghost use Rattle.convert.specs.Replies.{replyTo};
+ghost use Rattle.convert.specs.Inner.{Gathered};
 
 mod line;
 mod reply;
