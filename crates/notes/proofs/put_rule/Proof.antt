@@ -1,6 +1,6 @@
 -- `notes::put_rule` meets its contract. Assumes nothing.
 use Rattle.notes.specs.Lines.{rulePieces}
-use Rattle.pieces.proofs.Pieces.{then}
+use Rattle.output.proofs.Pieces.{then}
 use borrow.Author.Needs.{needs}
 use Rattle.notes.proofs.put_rule.Statement.{statement}
 use Rattle.notes.proofs.put_rule.Tie as tie
