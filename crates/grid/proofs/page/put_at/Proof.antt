@@ -6,8 +6,8 @@ use native.Mathlib.Omega.{arith}
 use lib.ListN.{length, drop, length-set, drop-of-length-le}
 use lib.Seq.{sets}
 use Rattle.paper.proofs.Stores.{sets-turn}
-use Rattle.grid.proofs.page.put.Statement.{statement}
-use Rattle.grid.proofs.page.put.Tie as tie
+use Rattle.grid.proofs.page.put_at.Statement.{statement}
+use Rattle.grid.proofs.page.put_at.Tie as tie
 
 abbrev Inv-loop : tie.InvT-loop
 Inv-loop out₀ at src i₀ out i =
@@ -57,8 +57,8 @@ returns c =
     let l = c .before .loop in
     rw (drop-of-length-le (c .before .before .args .src .now) {i = l .i} (c .loop-test .left)) at (l .inv .2)
 
-pub put-spec : {M : Type 1} → statement M
-put-spec =
+pub put-at-spec : {M : Type 1} → statement M
+put-at-spec =
     tie.close
     (tie.spec
     Inv-loop

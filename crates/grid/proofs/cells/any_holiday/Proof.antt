@@ -5,8 +5,8 @@ use mathlib.Core.Bool.{_||_}
 use native.Mathlib.Omega.{arith}
 use Rattle.grid.specs.Inner.{anyMark}
 use Rattle.grid.proofs.Marks.{mark-end, mark-turn}
-use Rattle.grid.proofs.page.any_holiday.Statement.{statement}
-use Rattle.grid.proofs.page.any_holiday.Tie as tie
+use Rattle.grid.proofs.cells.any_holiday.Statement.{statement}
+use Rattle.grid.proofs.cells.any_holiday.Tie as tie
 
 abbrev Inv-loop : tie.InvT-loop
 Inv-loop lists at end found₀ i₀ found i = (i ≤ end) × ((found || anyMark lists i (end - i)) ≡ anyMark lists at (end - at))

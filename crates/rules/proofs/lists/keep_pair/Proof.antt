@@ -1,10 +1,10 @@
--- `rules::lists::push` meets its contract. Assumes nothing.
+-- `rules::lists::keep_pair` meets its contract. Assumes nothing.
 use borrow.Author.Needs.{needs}
 use borrow.Author.Tests.{not-true, not-false}
 use mathlib.Core.Path.{sym, _∙_}
 use Rattle.rules.proofs.Stores.{store-off, store-same, store-new}
-use Rattle.rules.proofs.lists.push.Statement.{statement}
-use Rattle.rules.proofs.lists.push.Tie as tie
+use Rattle.rules.proofs.lists.keep_pair.Statement.{statement}
+use Rattle.rules.proofs.lists.keep_pair.Tie as tie
 
 returns : tie.Need-returns
 returns c = (store-off _ _ _ _ (not-true _ (c .if1 .taken)), search needs)
@@ -42,8 +42,8 @@ returns-3 c =
     let a = g .before .before .before .before .args in
     (rw (s .set-at2 .ensures, f .set-at .ensures) (store-new (a .on) (a .buf .now) (a .s) (a .name) (a .holiday) (not-false _ (g .before .before .if1 .left)) (sym (g .before .is-repeat .ensures) ∙ g .if2 .left)), search needs)
 
-pub push-spec : {M : Type 1} → statement M
-push-spec =
+pub keep-pair-spec : {M : Type 1} → statement M
+keep-pair-spec =
     tie.close
     (tie.spec
     returns

@@ -1,4 +1,4 @@
--- `rules::lists::put_day` meets its contract: five runs over the rules, one after the other. Assumes nothing.
+-- `rules::lists::put_day_list` meets its contract: five runs over the rules, one after the other. Assumes nothing.
 use borrow.Author.Needs.{needs}
 use native.Mathlib.Omega.{arith}
 use Rattle.rules.specs.Rules.{rulesOf}
@@ -6,8 +6,8 @@ use Rattle.rules.specs.Resolved.{pairsBy, listBy}
 use Rattle.rules.proofs.Accepted.{good-rules}
 use Rattle.rules.proofs.Most.{list-most}
 use Rattle.rules.proofs.Stores.{five}
-use Rattle.rules.proofs.lists.put_day.Statement.{statement}
-use Rattle.rules.proofs.lists.put_day.Tie as tie
+use Rattle.rules.proofs.lists.put_day_list.Statement.{statement}
+use Rattle.rules.proofs.lists.put_day_list.Tie as tie
 
 put-dated-requires : tie.Need-put-dated-requires
 put-dated-requires c κs = search needs
@@ -51,11 +51,11 @@ returns c =
     let a = o .args in
     let rs = rulesOf (a .rules .now) in
     let w = five _ _ _ _ _ (a .buf .now) (a .at) _ _ _ _ _ (fixed .put-dated .ensures .0) (both .put-dated2 .ensures .0) (prior .put-before .ensures .0) (own .put-resolved .ensures .0) (whole .put-dated3 .ensures .0) in
-    let most = list-most rs (good-rules (a .rules .now) (o .pre .0) .counts) (a .day) (a .before .days) (a .this .days) in
+    let most = list-most rs (good-rules (a .rules .now) (o .pre .0) .counts) (a .day) (a .years) in
     (w .0, (w .1, omega (arith, w .1, most)))
 
-pub put-day-spec : {M : Type 1} → statement M
-put-day-spec =
+pub put-day-list-spec : {M : Type 1} → statement M
+put-day-list-spec =
     tie.close
     (tie.spec
     put-dated-requires
