@@ -5,8 +5,8 @@ use mathlib.Core.List.{List, [], _∷_, _++_}
 use lib.Dec.{ltb}
 use Rattle.text.specs.Digits.{digits}
 use Rattle.text.specs.Quoted.{bytes}
-use Rattle.replay.specs.declared.output.Out.{Out}
-use Rattle.pieces.specs.Pieces.{Text}
+use Rattle.output.specs.declared.Out.{Out}
+use Rattle.output.specs.Pieces.{Text}
 use Rattle.doubtful.specs.declared.page.Page.{Page}
 
 -- ---- a page

@@ -8,12 +8,12 @@ use lib.Dec.{eqb}
 use Rattle.fields.specs.Line.{nameOf}
 use Rattle.rules.specs.declared.Rule.{Rule}
 use Rattle.rules.specs.Rules.{ruleAt, rulesFrom}
-use Rattle.replay.specs.Gathered.{Gathered, gathered}
-use Rattle.replay.specs.declared.output.Out.{Out}
-use Rattle.pieces.specs.Pieces.{putPieces, Puts}
+use Rattle.output.specs.Gathered.{Gathered, gathered}
+use Rattle.output.specs.declared.Out.{Out}
+use Rattle.output.specs.Pieces.{putPieces, Puts}
 use Rattle.notes.specs.Lines.{isOf, endOf, rulePieces, itemPieces, listPieces}
 use Rattle.notes.specs.declared.lines.Listed.{Listed}
-use Rattle.pieces.proofs.Pieces.{pieces-append, puts-none}
+use Rattle.output.proofs.Pieces.{pieces-append, puts-none}
 
 -- ---- a rule
 

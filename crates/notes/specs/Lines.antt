@@ -10,7 +10,7 @@ use Rattle.fields.specs.Line.{nameOf}
 use Rattle.rules.specs.declared.Rule.{Rule}
 use Rattle.conversion.specs.declared.BsDate.{BsDate}
 use Rattle.panchanga.specs.Clock.{clockOf}
-use Rattle.pieces.specs.Pieces.{Text, datePieces, clockPieces, spanPieces, monthPieces}
+use Rattle.output.specs.Pieces.{Text, datePieces, clockPieces, spanPieces, monthPieces}
 
 -- ---- months, counted from 1 to 12 and round again
 

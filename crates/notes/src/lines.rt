@@ -2,7 +2,7 @@
 use conversion::BsDate;
 use gregorian::UtDay;
 use panchanga::clock;
-use replay::Out;
+use output::Out;
 ghost use mathlib.Core.Path.{_≡_};
 ghost use mathlib.Core.Bool.{false, _||_};
 ghost use mathlib.Core.List.{[], _∷_};
@@ -10,7 +10,7 @@ ghost use Prim.Native.Nat.{_+_, _*_, _≤_};
 ghost use lib.ListN.{length};
 ghost use Rattle.fields.specs.Line.{nameOf};
 ghost use Rattle.rules.specs.Rules.{ruleAt, rulesOf};
-ghost use Rattle.pieces.specs.Pieces.{Puts};
+ghost use Rattle.output.specs.Pieces.{Puts};
 ghost use Rattle.notes.specs.Lines.{monthBefore, monthAfter, earlierOf, laterOf, momentPieces, wherePieces, openingPieces, nonePieces, isOf, endOf, rulePieces, itemPieces, listPieces, rulesPieces, besidePieces};
 
 // The name text of rule i, at most 64 bytes.
@@ -29,8 +29,8 @@ fn put_rule_name(o: Out, out: &mut [u8], names: &[u8], i: usize) -> Out
 fn put_rule_line(o: Out, out: &mut [u8], name: u16, names: &[u8], i: usize) -> Out
     ensures { λ r. ⌜ Puts (now (out .entry)) o (rulePieces name (nameOf i (now (names .entry)))) (now (out .exit)) r ⌝ }
 {
-    let a = pieces::put_labelled(o, out, b"\n      ", name as u64);
-    let b = pieces::put_text(a, out, b" ");
+    let a = output::put_labelled(o, out, b"\n      ", name as u64);
+    let b = output::put_text(a, out, b" ");
     put_rule_name(b, out, names, i)
 }
 
@@ -69,7 +69,7 @@ fn put_rules_end(l: Listed, out: &mut [u8]) -> Out
     ensures { λ r. ⌜ Puts (now (out .entry)) (l .out) (endOf (l .some) ∷ []) (now (out .exit)) r ⌝ }
 {
     let o = l.out;
-    pieces::put_either(o, out, l.some, b"\n", b" none\n")
+    output::put_either(o, out, l.some, b"\n", b" none\n")
 }
 
 // The computed rules of a lunar month, each on its line; or none.
@@ -93,8 +93,8 @@ fn put_rule_lines(o: Out, out: &mut [u8], month: u16, rules: &[u16], names: &[u8
 pub fn put_month_rules(o: Out, out: &mut [u8], month: u16, rules: &[u16], names: &[u8]) -> Out
     ensures { λ r. ⌜ Puts (now (out .entry)) o (rulesPieces (rulesOf (now (rules .entry))) (now (names .entry)) month) (now (out .exit)) r ⌝ }
 {
-    let a = pieces::put_labelled(o, out, b"    rules of lunar month ", month as u64);
-    let b = pieces::put_text(a, out, b":");
+    let a = output::put_labelled(o, out, b"    rules of lunar month ", month as u64);
+    let b = output::put_text(a, out, b":");
     put_rule_lines(b, out, month, rules, names)
 }
 
@@ -130,10 +130,10 @@ fn later(beginning: bool, m: u16) -> u16
 pub fn put_moment(o: Out, out: &mut [u8], x: UtDay, n: u32) -> Out
     ensures { λ r. ⌜ Puts (now (out .entry)) o (momentPieces (x .0) «n») (now (out .exit)) r ⌝ }
 {
-    let a = pieces::put_text(o, out, b"  new moon ");
-    let b = pieces::put_date(a, out, n);
-    let c = pieces::put_text(b, out, b" ");
-    pieces::put_clock(c, out, clock::clock_of(x.0))
+    let a = output::put_text(o, out, b"  new moon ");
+    let b = output::put_date(a, out, n);
+    let c = output::put_text(b, out, b" ");
+    output::put_clock(c, out, clock::clock_of(x.0))
 }
 
 // What a new moon opens by the engine's rule, on a line of its own.
@@ -141,28 +141,28 @@ pub fn put_opening(o: Out, out: &mut [u8], date: BsDate, opens: bool) -> Out
     ensures { λ r. ⌜ Puts (now (out .entry)) o (openingPieces date opens) (now (out .exit)) r ⌝ }
 {
     if opens {
-        let a = pieces::put_labelled(o, out, b"\n    opens lunar month ", date.month as u64);
-        return pieces::put_text(a, out, b"\n");
+        let a = output::put_labelled(o, out, b"\n    opens lunar month ", date.month as u64);
+        return output::put_text(a, out, b"\n");
     }
-    let a = pieces::put_text(o, out, b"\n    opens nothing: another follows in ");
-    let b = pieces::put_month(a, out, date.year, date.month);
-    pieces::put_text(b, out, b"\n")
+    let a = output::put_text(o, out, b"\n    opens nothing: another follows in ");
+    let b = output::put_year_month(a, out, date.year, date.month);
+    output::put_text(b, out, b"\n")
 }
 
 // So many minutes after a month's beginning, or else before its end.
 fn put_where(o: Out, out: &mut [u8], date: BsDate, after: bool, minutes: u32) -> Out
     ensures { λ r. ⌜ Puts (now (out .entry)) o (wherePieces date after minutes) (now (out .exit)) r ⌝ }
 {
-    let a = pieces::put_text(o, out, b", ");
-    let b = pieces::put_span(a, out, minutes);
-    let c = pieces::put_either(
+    let a = output::put_text(o, out, b", ");
+    let b = output::put_span(a, out, minutes);
+    let c = output::put_either(
         b,
         out,
         after,
         b" after the beginning of ",
         b" before the end of ",
     );
-    pieces::put_month(c, out, date.year, date.month)
+    output::put_year_month(c, out, date.year, date.month)
 }
 
 // A new moon after a month's beginning, or else before its end: by how much, what it opens, and the rules of the two months that meet there.
@@ -188,8 +188,8 @@ pub fn put_beside(
 pub fn put_no_moon(o: Out, out: &mut [u8], year: u16, month: u16) -> Out
     ensures { λ r. ⌜ Puts (now (out .entry)) o (nonePieces year month) (now (out .exit)) r ⌝ }
 {
-    let a = pieces::put_text(o, out, b"  no new moon in ");
-    let b = pieces::put_month(a, out, year, month);
-    let c = pieces::put_labelled(b, out, b": nothing opens lunar month ", month as u64);
-    pieces::put_text(c, out, b"\n")
+    let a = output::put_text(o, out, b"  no new moon in ");
+    let b = output::put_year_month(a, out, year, month);
+    let c = output::put_labelled(b, out, b": nothing opens lunar month ", month as u64);
+    output::put_text(c, out, b"\n")
 }

@@ -21,7 +21,7 @@ use Rattle.panchanga.specs.declared.ReadingAnswer.{ReadingAnswer}
 use Rattle.panchanga.specs.declared.ReadingAnswer.the-variants as RA
 use Rattle.panchanga.specs.declared.lunar.Reading.{Reading}
 use Rattle.panchanga.specs.Clock.{clockOf}
-use Rattle.panchanga.specs.Noaa.{eventsOn}
+use Rattle.panchanga.specs.Noaa.{eventsOn, kathmandu}
 use Rattle.panchanga.specs.Kalas.{kalaAt, isNishita, nishitaBetween, middle}
 use Rattle.panchanga.specs.Reading.{readingOf}
 
@@ -60,7 +60,7 @@ chosen f a = then a (λ o. answered (mapped f o))
 
 -- sunrise and sunset over Kathmandu
 abbrev pub eventsAnswer : Date → Answer (Option (Float × Float))
-eventsAnswer x = given (real x) 3 (answered (eventsOn (dayNumber x)))
+eventsAnswer x = given (real x) 3 (answered (eventsOn kathmandu (dayNumber x)))
 
 abbrev pub riseAnswer : Date → Answer (Option Float)
 riseAnswer x = chosen (λ e. e .0) (eventsAnswer x)
@@ -70,7 +70,7 @@ setAnswer x = chosen (λ e. e .1) (eventsAnswer x)
 
 -- the last date has no night: 3
 abbrev pub nishitaAnswer : Date → Answer (Option (Float × Float))
-nishitaAnswer x = given (real x) 3 (given (real (nextDay x)) 3 (answered (nishitaBetween (eventsOn (dayNumber x)) (eventsOn (dayNumber x + 1)))))
+nishitaAnswer x = given (real x) 3 (given (real (nextDay x)) 3 (answered (nishitaBetween (eventsOn kathmandu (dayNumber x)) (eventsOn kathmandu (dayNumber x + 1)))))
 
 -- nishita's middle; any other kala by the day's own events
 abbrev pub kalaAnswer : Kala → Date → Answer (Option Float)
@@ -82,4 +82,4 @@ clockAnswer x = given (instant x) 8 (answered (clockOf x))
 
 -- a date's reading
 abbrev pub readingAnswer : Date → Answer Reading
-readingAnswer x = given (real x) 3 (answered (readingOf x (dayNumber x)))
+readingAnswer x = given (real x) 3 (answered (readingOf kathmandu x (dayNumber x)))

@@ -16,6 +16,18 @@ use gregorian::NumberAnswer;
 use gregorian::UtDay;
 use lunar::Reading;
 
+// A place on the Earth, in degrees: north and east are above 0.
+pub struct Place {
+    pub latitude: f64,
+    pub longitude: f64,
+}
+
+// The place of the festivals and of every call that names none.
+pub const KATHMANDU: Place = Place {
+    latitude: 27.7172,
+    longitude: 85.3240,
+};
+
 // When in a day a festival rule is evaluated; the numbers 0 to 5 of a rule's kala, in their order.
 pub enum Kala {
     Udaya,
@@ -107,7 +119,7 @@ pub fn sun_events(date: Date) -> SpanAnswer
 {
     let a = date.day_number();
     match a {
-        NumberAnswer::Number(n) => span_answer(noaa::events_on(n)),
+        NumberAnswer::Number(n) => span_answer(noaa::events_on(KATHMANDU, n)),
         NumberAnswer::NoSuchDate => SpanAnswer::NoSuchDate,
     }
 }
@@ -136,8 +148,8 @@ pub fn nishita_window(date: Date) -> SpanAnswer
             let a = date.day_number();
             match a {
                 NumberAnswer::Number(n) => span_answer(kalas::nishita_between(
-                    noaa::events_on(n),
-                    noaa::events_on(n + 1),
+                    noaa::events_on(KATHMANDU, n),
+                    noaa::events_on(KATHMANDU, n + 1),
                 )),
                 NumberAnswer::NoSuchDate => SpanAnswer::NoSuchDate,
             }
@@ -173,7 +185,7 @@ pub fn reading(date: Date) -> ReadingAnswer
 {
     let a = date.day_number();
     match a {
-        NumberAnswer::Number(n) => ReadingAnswer::Is(lunar::reading_of(date, n)),
+        NumberAnswer::Number(n) => ReadingAnswer::Is(lunar::reading_of(KATHMANDU, date, n)),
         NumberAnswer::NoSuchDate => ReadingAnswer::NoSuchDate,
     }
 }

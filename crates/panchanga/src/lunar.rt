@@ -3,6 +3,7 @@ ghost use mathlib.Core.Path.{_≡_};
 ghost use Rattle.gregorian.specs.Instants.{nptAnswer};
 ghost use Rattle.sky.specs.Answers.{firstSays};
 ghost use Rattle.panchanga.specs.Reading.{sameDate, endOn, readingAt, morning, readingOf};
+use super::Place;
 use super::Span;
 use super::clock::clock_of;
 use super::noaa::events_on;
@@ -80,11 +81,11 @@ fn reading_at(date: Date, at: UtDay, sunrise: u16, sunset: u16) -> Reading
     }
 }
 
-// The reading of a date with its number.
-pub fn reading_of(date: Date, n: u32) -> Reading
-    ensures { λ r. ⌜ r ≡ readingOf date n ⌝ }
+// The reading at a place of a date with its number.
+pub fn reading_of(place: Place, date: Date, n: u32) -> Reading
+    ensures { λ r. ⌜ r ≡ readingOf place date n ⌝ }
 {
-    let events = events_on(n);
+    let events = events_on(place, n);
     match events {
         Span::Is { from, to } => reading_at(date, from, clock_of(from.0), clock_of(to.0)),
         Span::Nothing => reading_at(date, UtDay(morning(n)), NONE, NONE),

@@ -42,17 +42,17 @@ returns-4 c =
 cast-j : tie.Need-cast-j
 cast-j c = search needs
 
-mul-t9 : tie.Need-mul-t9
-mul-t9 c = search needs
+mul-len : tie.Need-mul-len
+mul-len c = search needs
 
-add-t10 : tie.Need-add-t10
-add-t10 c = search needs
+add-len : tie.Need-add-len
+add-len c = search needs
 
-mul-t11 : tie.Need-mul-t11
-mul-t11 c = search needs
+mul-len-2 : tie.Need-mul-len-2
+mul-len-2 c = search needs
 
-shared-slice-read-t8 : tie.Need-shared-slice-read-t8
-shared-slice-read-t8 c = search needs
+shared-slice-read-len : tie.Need-shared-slice-read-len
+shared-slice-read-len c = search needs
 
 returns-5 : tie.Need-returns-5
 unfolding monthLen
@@ -77,8 +77,8 @@ month-days-spec =
     returns-3
     returns-4
     cast-j
-    mul-t9
-    add-t10
-    mul-t11
-    shared-slice-read-t8
+    mul-len
+    add-len
+    mul-len-2
+    shared-slice-read-len
     returns-5)

@@ -50,7 +50,7 @@ resolved-list t =
     let a = o .args in
     let rs = rulesOf (a .rules .now) in
     ap (λ (z : Day). listBy rs z (b .resolve-before .result .days) (t .resolve-year .result .days)) (d .day-numbered .ensures)
-    ∙ two-years kathmandu (flat (a .table) (a .rows .now)) rs (a .bs) (a .number) _ _ (good-rules (a .rules .now) (o .pre .1) .counts .computed-few) (numbered-from (a .number) (o .pre .2)) (b .resolve-before .ensures) (t .resolve-year .ensures)
+    ∙ two-years _ (flat (a .table) (a .rows .now)) rs (a .bs) (a .number) _ _ (good-rules (a .rules .now) (o .pre .1) .counts .computed-few) (numbered-from (a .number) (o .pre .2)) (b .resolve-before .ensures) (t .resolve-year .ensures)
 
 returns : tie.Need-returns
 returns c =

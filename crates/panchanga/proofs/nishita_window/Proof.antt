@@ -1,7 +1,9 @@
 use mathlib.Core.Path.{sym, ap, _∙_, subst}
 use native.Mathlib.Omega.{arith}
 use lib.Dec.{T}
+use lib.Ieee.{ofBits}
 use Rattle.paper.specs.Answers.{given}
+use Rattle.paper.specs.Floats.{near}
 use Rattle.gregorian.specs.Calendar.{nextDay}
 use Rattle.gregorian.specs.Answers.{real, dateSays}
 use Rattle.gregorian.proofs.Laws.{real-of, number-below, all-number}
@@ -48,7 +50,7 @@ enum-told-3 : tie.Need-enum-told-3
 enum-told-3 c = search needs
 
 returns : tie.Need-returns
-unfolding given
+unfolding given near ofBits
 returns c =
     let s = c .before .before .before .before .before .before .before in
     let x = s .before .before .before .before .args .date in

@@ -1,4 +1,6 @@
+use lib.Ieee.{ofBits}
 use Rattle.paper.specs.Answers.{given}
+use Rattle.paper.specs.Floats.{near}
 use Rattle.panchanga.proofs.Days.{number-of, no-number}
 use borrow.Author.Needs.{needs}
 use Rattle.panchanga.proofs.reading.Statement.{statement}
@@ -17,7 +19,7 @@ enum-told : tie.Need-enum-told
 enum-told c = search needs
 
 returns : tie.Need-returns
-unfolding given
+unfolding given near ofBits
 returns c = let s = c .before .before .before .before in let d = number-of (s .before .args .date) (s .day-number .result) _ (s .day-number .ensures) (c .before .before .a .given .1) in rw (d .0, d .1, c .reading-of .ensures)
 
 returns-2 : tie.Need-returns-2

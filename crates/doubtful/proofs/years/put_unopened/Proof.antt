@@ -1,6 +1,6 @@
 -- `doubtful::years::put_unopened` meets its contract. Assumes nothing.
 use mathlib.Core.Path.{_∙_}
-use Rattle.pieces.proofs.Pieces.{then}
+use Rattle.output.proofs.Pieces.{then}
 use Rattle.doubtful.proofs.Sheets.{unopened-sheet, month-opened, month-empty}
 use borrow.Author.Needs.{needs}
 use Rattle.doubtful.proofs.years.put_unopened.Statement.{statement}

@@ -1,6 +1,6 @@
 -- `notes::lines::put_beside` meets its contract. Assumes nothing.
 use Rattle.notes.specs.Lines.{besidePieces}
-use Rattle.pieces.proofs.Pieces.{then}
+use Rattle.output.proofs.Pieces.{then}
 use borrow.Author.Needs.{needs}
 use Rattle.notes.proofs.lines.put_beside.Statement.{statement}
 use Rattle.notes.proofs.lines.put_beside.Tie as tie

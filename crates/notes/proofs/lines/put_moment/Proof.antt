@@ -1,6 +1,6 @@
 -- `notes::lines::put_moment` meets its contract. Assumes nothing.
 use Rattle.notes.specs.Lines.{momentPieces}
-use Rattle.pieces.proofs.Pieces.{then}
+use Rattle.output.proofs.Pieces.{then}
 use borrow.Author.Needs.{needs}
 use Rattle.notes.proofs.lines.put_moment.Statement.{statement}
 use Rattle.notes.proofs.lines.put_moment.Tie as tie

@@ -1,6 +1,6 @@
 -- `notes::lines::put_month_rules` meets its contract. Assumes nothing.
 use Rattle.notes.specs.Lines.{rulesPieces}
-use Rattle.pieces.proofs.Pieces.{then}
+use Rattle.output.proofs.Pieces.{then}
 use borrow.Author.Needs.{needs}
 use Rattle.notes.proofs.lines.put_month_rules.Statement.{statement}
 use Rattle.notes.proofs.lines.put_month_rules.Tie as tie

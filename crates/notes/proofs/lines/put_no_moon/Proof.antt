@@ -1,6 +1,6 @@
 -- `notes::lines::put_no_moon` meets its contract. Assumes nothing.
 use Rattle.notes.specs.Lines.{nonePieces}
-use Rattle.pieces.proofs.Pieces.{then}
+use Rattle.output.proofs.Pieces.{then}
 use borrow.Author.Needs.{needs}
 use Rattle.notes.proofs.lines.put_no_moon.Statement.{statement}
 use Rattle.notes.proofs.lines.put_no_moon.Tie as tie
@@ -11,8 +11,8 @@ slice-aggregate-put-text c = search needs
 put-text-requires : tie.Need-put-text-requires
 put-text-requires c κs = search needs
 
-put-month-requires : tie.Need-put-month-requires
-put-month-requires c κs = search needs
+put-year-month-requires : tie.Need-put-year-month-requires
+put-year-month-requires c κs = search needs
 
 slice-aggregate-put-labelled : tie.Need-slice-aggregate-put-labelled
 slice-aggregate-put-labelled c = search needs
@@ -31,7 +31,7 @@ same-length c = search needs
 
 returns : tie.Need-returns
 unfolding nonePieces
-returns c = then (c .before .before .before .before .before .before .before .before .before .before .before .before .before .before .before .before .put-text .ensures) (then (c .before .before .before .before .before .before .before .before .before .before .before .before .put-month .ensures) (then (c .before .before .before .before .before .before .before .put-labelled .ensures) (c .before .before .put-text2 .ensures)))
+returns c = then (c .before .before .before .before .before .before .before .before .before .before .before .before .before .before .before .before .put-text .ensures) (then (c .before .before .before .before .before .before .before .before .before .before .before .before .put-year-month .ensures) (then (c .before .before .before .before .before .before .before .put-labelled .ensures) (c .before .before .put-text2 .ensures)))
 
 pub put-no-moon-spec : {M : Type 1} → statement M
 put-no-moon-spec =
@@ -39,7 +39,7 @@ put-no-moon-spec =
     (tie.spec
     slice-aggregate-put-text
     put-text-requires
-    put-month-requires
+    put-year-month-requires
     slice-aggregate-put-labelled
     put-labelled-requires
     slice-aggregate-put-text-2

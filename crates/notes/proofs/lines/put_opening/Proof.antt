@@ -1,6 +1,6 @@
 -- `notes::lines::put_opening` meets its contract. Assumes nothing.
 use Rattle.notes.specs.Lines.{openingPieces}
-use Rattle.pieces.proofs.Pieces.{then}
+use Rattle.output.proofs.Pieces.{then}
 use borrow.Author.Needs.{needs}
 use Rattle.notes.proofs.lines.put_opening.Statement.{statement}
 use Rattle.notes.proofs.lines.put_opening.Tie as tie
@@ -33,8 +33,8 @@ slice-aggregate-put-text-2 c = search needs
 put-text-requires-2 : tie.Need-put-text-requires-2
 put-text-requires-2 c κs = search needs
 
-put-month-requires : tie.Need-put-month-requires
-put-month-requires c κs = search needs
+put-year-month-requires : tie.Need-put-year-month-requires
+put-year-month-requires c κs = search needs
 
 slice-aggregate-put-text-3 : tie.Need-slice-aggregate-put-text-3
 slice-aggregate-put-text-3 c = search needs
@@ -47,7 +47,7 @@ same-length-2 c = search needs
 
 returns-2 : tie.Need-returns-2
 unfolding openingPieces
-returns-2 c = rw (c .before .before .before .before .before .before .before .before .before .before .before .before .before .before .if1 .left) (then (c .before .before .before .before .before .before .before .before .before .before .before .put-text2 .ensures) (then (c .before .before .before .before .before .before .before .put-month .ensures) (c .before .before .put-text3 .ensures)))
+returns-2 c = rw (c .before .before .before .before .before .before .before .before .before .before .before .before .before .before .if1 .left) (then (c .before .before .before .before .before .before .before .before .before .before .before .put-text2 .ensures) (then (c .before .before .before .before .before .before .before .put-year-month .ensures) (c .before .before .put-text3 .ensures)))
 
 pub put-opening-spec : {M : Type 1} → statement M
 put-opening-spec =
@@ -62,7 +62,7 @@ put-opening-spec =
     returns
     slice-aggregate-put-text-2
     put-text-requires-2
-    put-month-requires
+    put-year-month-requires
     slice-aggregate-put-text-3
     put-text-requires-3
     same-length-2

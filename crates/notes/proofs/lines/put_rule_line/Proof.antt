@@ -1,6 +1,6 @@
 -- `notes::lines::put_rule_line` meets its contract. Assumes nothing.
 use Rattle.notes.specs.Lines.{rulePieces}
-use Rattle.pieces.proofs.Pieces.{then}
+use Rattle.output.proofs.Pieces.{then}
 use borrow.Author.Needs.{needs}
 use Rattle.notes.proofs.lines.put_rule_line.Statement.{statement}
 use Rattle.notes.proofs.lines.put_rule_line.Tie as tie

@@ -4,8 +4,8 @@ use mathlib.Core.Path.{_≡_, refl}
 use native.Mathlib.Omega.{arith}
 use lib.ListN.{length}
 use Rattle.rules.specs.Rules.{rulesFrom}
-use Rattle.replay.specs.Gathered.{gathered}
-use Rattle.pieces.specs.Pieces.{putPieces}
+use Rattle.output.specs.Gathered.{gathered}
+use Rattle.output.specs.Pieces.{putPieces}
 use Rattle.notes.specs.Lines.{listPieces}
 use Rattle.notes.proofs.Lists.{Rest, rest-all, rest-turn, rest-none}
 use borrow.Author.Needs.{needs}

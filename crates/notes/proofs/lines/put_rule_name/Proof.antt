@@ -1,6 +1,6 @@
 -- `notes::lines::put_rule_name` meets its contract. Assumes nothing.
 use mathlib.Core.Path.{refl}
-use Rattle.pieces.proofs.Pieces.{one-piece}
+use Rattle.output.proofs.Pieces.{one-piece}
 use borrow.Author.Needs.{needs}
 use Rattle.notes.proofs.lines.put_rule_name.Statement.{statement}
 use Rattle.notes.proofs.lines.put_rule_name.Tie as tie

@@ -1,6 +1,6 @@
 -- `notes::lines::put_where` meets its contract. Assumes nothing.
 use Rattle.notes.specs.Lines.{wherePieces}
-use Rattle.pieces.proofs.Pieces.{then}
+use Rattle.output.proofs.Pieces.{then}
 use borrow.Author.Needs.{needs}
 use Rattle.notes.proofs.lines.put_where.Statement.{statement}
 use Rattle.notes.proofs.lines.put_where.Tie as tie
@@ -23,15 +23,15 @@ slice-aggregate-put-either-2 c = search needs
 put-either-requires : tie.Need-put-either-requires
 put-either-requires c κs = search needs
 
-put-month-requires : tie.Need-put-month-requires
-put-month-requires c κs = search needs
+put-year-month-requires : tie.Need-put-year-month-requires
+put-year-month-requires c κs = search needs
 
 same-length : tie.Need-same-length
 same-length c = search needs
 
 returns : tie.Need-returns
 unfolding wherePieces
-returns c = then (c .before .before .before .before .before .before .before .before .before .before .before .before .before .before .before .before .put-text .ensures) (then (c .before .before .before .before .before .before .before .before .before .before .before .before .put-span .ensures) (then (c .before .before .before .before .before .before .put-either .ensures) (c .before .before .put-month .ensures)))
+returns c = then (c .before .before .before .before .before .before .before .before .before .before .before .before .before .before .before .before .put-text .ensures) (then (c .before .before .before .before .before .before .before .before .before .before .before .before .put-span .ensures) (then (c .before .before .before .before .before .before .put-either .ensures) (c .before .before .put-year-month .ensures)))
 
 pub put-where-spec : {M : Type 1} → statement M
 put-where-spec =
@@ -43,6 +43,6 @@ put-where-spec =
     slice-aggregate-put-either
     slice-aggregate-put-either-2
     put-either-requires
-    put-month-requires
+    put-year-month-requires
     same-length
     returns)

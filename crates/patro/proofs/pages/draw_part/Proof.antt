@@ -13,8 +13,8 @@ enum-told c = search needs
 page-of-requires : tie.Need-page-of-requires
 page-of-requires c κs = search needs
 
-put-month-requires : tie.Need-put-month-requires
-put-month-requires c κs = search needs
+put-month-page-requires : tie.Need-put-month-page-requires
+put-month-page-requires c κs = search needs
 
 enum-known-part : tie.Need-enum-known-part
 enum-known-part c = search needs
@@ -28,21 +28,21 @@ returns-2 c = let a = c .before .before .before .before .before .before .before 
 cell-of-requires : tie.Need-cell-of-requires
 cell-of-requires c κs = search needs
 
-put-day-requires : tie.Need-put-day-requires
-put-day-requires c κs = search needs
+put-day-page-requires : tie.Need-put-day-page-requires
+put-day-page-requires c κs = search needs
 
 same-length : tie.Need-same-length
 same-length c = search needs
 
 returns-3 : tie.Need-returns-3
 unfolding partPage
-returns-3 c = rw (c .before .before .before .before .before .enum-told .given .1) (draws-page refl (rw (c .before .before .before .before .page-of .ensures) at (c .before .before .put-month .ensures)))
+returns-3 c = rw (c .before .before .before .before .before .enum-told .given .1) (draws-page refl (rw (c .before .before .before .before .page-of .ensures) at (c .before .before .put-month-page .ensures)))
 
 same-length-2 : tie.Need-same-length-2
 same-length-2 c = search needs
 
 returns-4 : tie.Need-returns-4
-returns-4 c = let a = c .before .before .before .before .before .before .before .before .before .before .before .before .before .before .before .before .args in rw (c .before .before .before .before .before .before .before .before .before .part .given .1) (draws-page (day-in (a .rules .now) (a .names .now) (a .year) (a .month) _ (a .m) (a .cells .now) (a .festivals .now) (c .before .before .before .before .before .before .before .if1 .left) (c .before .before .before .before .before .if2 .left)) (rw (c .before .before .before .before .cell-of .ensures) at (c .before .before .put-day .ensures)))
+returns-4 c = let a = c .before .before .before .before .before .before .before .before .before .before .before .before .before .before .before .before .args in rw (c .before .before .before .before .before .before .before .before .before .part .given .1) (draws-page (day-in (a .rules .now) (a .names .now) (a .year) (a .month) _ (a .m) (a .cells .now) (a .festivals .now) (c .before .before .before .before .before .before .before .if1 .left) (c .before .before .before .before .before .if2 .left)) (rw (c .before .before .before .before .cell-of .ensures) at (c .before .before .put-day-page .ensures)))
 
 pub draw-part-spec : {M : Type 1} → statement M
 draw-part-spec =
@@ -50,12 +50,12 @@ draw-part-spec =
     (tie.spec
     enum-told
     page-of-requires
-    put-month-requires
+    put-month-page-requires
     enum-known-part
     returns
     returns-2
     cell-of-requires
-    put-day-requires
+    put-day-page-requires
     same-length
     returns-3
     same-length-2
