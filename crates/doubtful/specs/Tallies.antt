@@ -77,9 +77,9 @@ headingPieces headed y = cond headed [] (bytes "BS " ∷ digits y ∷ bytes "\n"
 
 -- of new moons near a boundary
 unfoldable pub nearPieces : ℕ → ℕ → List Text
-nearPieces near first = digits near ∷ bytes " doubtful new moons, on a month's first day " ∷ digits first ∷ bytes "; " ∷ []
+nearPieces near first = digits near ∷ bytes " doubtful new moons, on a month's first day " ∷ digits first ∷ bytes "\n" ∷ []
 
--- of a page, to the line's end
+-- of a page, two lines
 unfoldable pub countPieces : Tally → List Text
 countPieces t =
     nearPieces (t .near) (t .first)

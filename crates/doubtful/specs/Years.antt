@@ -17,7 +17,7 @@ use Rattle.rules.specs.Festivals.{opening}
 use Rattle.festivals.specs.Kathmandu.{moonsAround, kathmandu}
 use Rattle.festivals.specs.Months.{yearDays, monthAt}
 use Rattle.festivals.specs.declared.months.Months.{Months}
-use Rattle.nearness.specs.Near.{datedMoon, nearness}
+use Rattle.notes.specs.Near.{datedMoon, nearness}
 use Rattle.output.specs.Pieces.{Text, putPieces}
 use Rattle.notes.specs.Lines.{momentPieces, openingPieces, nonePieces, rulesPieces, besidePieces}
 use Rattle.doubtful.specs.Tallies.{Tally, tallyOf, withHeading, doubted, unopened, headingPieces}

@@ -122,10 +122,10 @@ fn put_near(p: Page, o: Out, out: &mut [u8]) -> Out
         b" doubtful new moons, on a month's first day ",
         p.first as u64,
     );
-    output::put_text(b, out, b"; ")
+    output::put_text(b, out, b"\n")
 }
 
-// The counts of a page, to the line's end.
+// The counts of a page, two lines.
 pub fn put_counts(p: Page, o: Out, out: &mut [u8]) -> Out
     ensures { λ r. ⌜ Puts (now (out .entry)) o (countPieces (tallyOf p)) (now (out .exit)) r ⌝ }
 {

@@ -7,6 +7,7 @@ use native.Mathlib.Numerals.{add-one}
 use borrow.Author.Tests.{le-leb, lt-leb}
 use lib.ListN.{length, getD, drop, drop-of-length-le}
 use lib.Seq.{drop-cons}
+use Rattle.text.specs.Quoted.{bytes}
 use Rattle.text.specs.Written.{Wrote}
 use Rattle.text.proofs.Writes as texts
 use Rattle.output.specs.Gathered.{Gathered, gathered, room, stored, spaceOf, put, puts, ended, Gathers}
@@ -44,9 +45,9 @@ pub one-word : {l : List ℕ} {o : Out} {k : ℕ} {j : List ℕ} {text m : List 
 one-word {l} {o} {k} {j} {text} {m} {r} s w e = record { same = rw e (stored-there 32 l o (spaceOf (o .begun) ++ text) m (r .at) true (texts.then s w)) }
 
 -- the end of a line that has a word, and of one that has none
-pub ends : {l : List ℕ} {at : ℕ} {m : List ℕ} (o : Out) → o .begun ≡ true → Wrote l (room 32 l (o .at)) (10 ∷ []) m at → record { buffer = m; at = at; begun = false } ≡ ended (gathered l o)
+pub ends : {l : List ℕ} {at : ℕ} {m : List ℕ} (o : Out) → o .begun ≡ true → Wrote l (room 32 l (o .at)) (bytes "\n") m at → record { buffer = m; at = at; begun = false } ≡ ended (gathered l o)
 unfolding ended
-ends {l} {at} {m} o b w = stored-there 32 l o (10 ∷ []) m at false w ∙ rw b
+ends {l} {at} {m} o b w = stored-there 32 l o (bytes "\n") m at false w ∙ rw b
 
 pub ends-none : (l : List ℕ) (o : Out) → o .begun ≡ false → gathered l o ≡ ended (gathered l o)
 unfolding ended

@@ -3,6 +3,7 @@ use Prim.Native.Nat.{ℕ}
 use mathlib.Core.Bool.{false}
 use mathlib.Core.Path.{_≡_, refl, sym, ap, _∙_, subst}
 use mathlib.Core.List.{List, [], _∷_, _++_}
+use Rattle.paper.specs.declared.Refusal.{Refusal}
 use Rattle.text.specs.Quoted.{bytes}
 use Rattle.text.specs.Written.{Wrote}
 use Rattle.gregorian.specs.declared.Date.{Date}
@@ -45,6 +46,6 @@ module _ (n : ℕ) {a : DateAnswer} (e : dateSays a ≡ dateAnswer n) where
   unfolding datePieces
   date-is q = ap datedPieces (sym (ap dateSays q) ∙ e)
 
-  pub date-none : a ≡ DA.NoSuchDate → bytes "no date" ∷ [] ≡ datePieces n
+  pub date-none : {k : Refusal} → a ≡ DA.Refused k → bytes "no date" ∷ [] ≡ datePieces n
   unfolding datePieces
   date-none q = ap datedPieces (sym (ap dateSays q) ∙ e)

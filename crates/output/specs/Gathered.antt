@@ -6,6 +6,7 @@ use mathlib.Core.List.{List, [], _∷_, _++_}
 use lib.Dec.{leb}
 use lib.ListN.{length}
 use lib.Seq.{sets}
+use Rattle.text.specs.Quoted.{bytes}
 use Rattle.output.specs.declared.Out.{Out}
 
 -- the lent buffer, how many bytes of it are taken, and whether the line has a word
@@ -27,9 +28,9 @@ stored more g text begun =
     let a = room more (g .buffer) (g .at) in
     record { buffer = sets (g .buffer) a text; at = a + min (length text) (length (g .buffer) - a); begun = begun }
 
--- a space (32), where the line has a word
+-- a space, where the line has a word
 abbrev pub spaceOf : Bool → List ℕ
-spaceOf begun = cond begun (32 ∷ []) []
+spaceOf begun = cond begun (bytes " ") []
 
 -- a word more, and the space before it: no word takes more than 32 bytes with it
 abbrev pub put : Gathered → List ℕ → Gathered
@@ -40,9 +41,13 @@ abbrev pub puts : Gathered → List (List ℕ) → Gathered
 puts g [] = g
 puts g (w ∷ ws) = puts (put g w) ws
 
--- the end of a line (10), if it has a word
+-- the end of a line, if it has a word
 unfoldable pub ended : Gathered → Gathered
-ended g = cond (g .begun) (stored 32 g (10 ∷ []) false) g
+ended g = cond (g .begun) (stored 32 g (bytes "\n") false) g
+
+-- all that is gathered is written out
+abbrev pub writtenOut : Gathered → Gathered
+writtenOut g = record { buffer = g .buffer; at = 0; begun = g .begun }
 
 -- these words were put behind what was gathered
 pub record Gathers (before : List ℕ) (o : Out) (words : List (List ℕ)) (after : List ℕ) (r : Out) : Type 0 where

@@ -84,7 +84,7 @@ pub fn put_date(o: Out, out: &mut [u8], n: u32) -> Out
 {
     match Date::from_day_number(n) {
         DateAnswer::Is(d) => put_ymd(o, out, d),
-        DateAnswer::NoSuchDate => put_text(o, out, b"no date"),
+        DateAnswer::Refused(_) => put_text(o, out, b"no date"),
     }
 }
 
