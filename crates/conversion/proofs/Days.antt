@@ -2,7 +2,7 @@
 use Prim.Native.Nat.{ℕ, _+_, _-_, _≤_, _<_}
 use mathlib.Core.Path.{_≡_, refl, sym, ap, _∙_}
 use mathlib.Core.Bool.{Bool, true, false, _&&_, cond}
-use mathlib.Core.Logic.{inl, inr}
+use mathlib.Core.Logic.{inl, inr, ⊎-elim}
 use native.Mathlib.Omega.{arith}
 use borrow.Author.Tests.{leb-true, leb-false, le-leb, ltb-true, lt-ltb, le-ltb}
 use lib.Dec.{leb, ltb}
@@ -12,7 +12,7 @@ use Rattle.paper.specs.Answers.{Answer, answered, refused, given, then}
 use Rattle.paper.specs.Sums.{sum}
 use Rattle.paper.proofs.Answers.{answered-same, given-answered, given-then, given-on, given-off, then-answered, then-refused}
 use Rattle.paper.proofs.Sums.{sum-past}
-use Rattle.paper.proofs.Tests.{and-left, and-right, and-both, and-never}
+use Rattle.paper.proofs.Tests.{and-left, and-right, and-both, and-never, split}
 use Rattle.gregorian.specs.declared.Date.{Date}
 use Rattle.gregorian.proofs.Laws.{three}
 use Rattle.conversion.specs.declared.BsDate.{BsDate}
@@ -20,6 +20,16 @@ use Rattle.conversion.specs.declared.Placed.{Placed}
 use Rattle.conversion.specs.declared.Placed.the-variants as P
 use Rattle.conversion.specs.Calendar.{Calendar, last, bs, numbers, EarlierBs, yearLen, end, yearOk, monthOk, dayOk, ofMonth, ofDate, dayAt, dateAt, dateInYear, dateAfter, monthLen, validBs, toDay, fromDay, placed}
 use Rattle.conversion.proofs.Places.{Within, last-within, last-is}
+
+-- ---- a year of the calendar, told by the test, and by its place from the first
+pub year-told : (c : Calendar) (y : ℕ) → yearOk c y ≡ true → (c .first ≤ y) × (y < c .first + c .years)
+year-told c y e = (leb-true _ _ (and-left (leb (c .first) y) _ e), ltb-true _ _ (and-right (leb (c .first) y) _ e))
+
+pub counted : (f y n : ℕ) → f ≤ y → ltb (y - f) n ≡ ltb y (f + n)
+counted f y n h =
+    ⊎-elim
+    (λ l. le-ltb (y - f) n l ∙ sym (le-ltb y (f + n) (omega arith)))
+    (λ l. lt-ltb (y - f) n l ∙ sym (lt-ltb y (f + n) (omega arith))) (split n (y - f))
 
 -- ---- a month of the calendar
 pub record InTable (c : Calendar) (y m : ℕ) : Type 0 where
@@ -54,11 +64,12 @@ module _ {A : Type 0} (c : Calendar) (y m : ℕ) (a : Answer A) where
   in-month e =
       let p = given-answered (c .good) _ _ e in
       let q = given-answered (yearOk c y) _ _ (p .1) in
-      let r = given-answered (monthOk m) _ _ (q .1) in (
+      let r = given-answered (monthOk m) _ _ (q .1) in
+      let t = year-told c y (q .0) in (
         record {
           good = p .0;
-          year-from = leb-true _ _ (and-left (leb (c .first) y) _ (q .0));
-          year-to = ltb-true _ _ (and-right (leb (c .first) y) _ (q .0));
+          year-from = t .0;
+          year-to = t .1;
           month-from = leb-true _ _ (and-left (leb 1 m) _ (r .0));
           month-to = leb-true _ _ (and-right (leb 1 m) _ (r .0));
         },

@@ -5,7 +5,7 @@ ghost use Prim.Native.Nat.{_+_, _-_, _<_};
 ghost use Rattle.paper.specs.Sums.{sum};
 ghost use Rattle.gregorian.specs.Calendar.{dateOf};
 ghost use Rattle.gregorian.specs.Answers.{numbered, numberSays, dateSays};
-ghost use Rattle.conversion.specs.Calendar.{monthLen, validBs, toDay, dateInYear, placed, toAd, fromAd};
+ghost use Rattle.conversion.specs.Calendar.{yearOk, monthLen, validBs, toDay, dateInYear, placed, toAd, fromAd};
 ghost use Rattle.conversion.specs.Flat.{accepted, flat, lens, rowCount};
 ghost use Rattle.conversion.specs.Inner.{numberOrZero, firstNumber, InRow, PlacedIn};
 ghost use Rattle.conversion.specs.Answers.{daysSays, validSays, bsSays};
@@ -84,16 +84,53 @@ pub fn accepts(table: Table, rows: &[u16]) -> bool
     p.days != 0
 }
 
+// How many years the rows of a table hold.
+pub fn year_count(rows: &[u16]) -> usize
+    ensures { λ r. ⌜ r ≡ rowCount (now (rows .entry)) ⌝ }
+{
+    rows.len() / 13
+}
+
+// Column m of row i, 0 where there is none: columns 0 to 11 have the lengths of the months, column 12 their sum.
+pub fn number_at(rows: &[u16], i: usize, m: usize) -> u16
+    ensures { λ r. ⌜ r ≡ lens (now (rows .entry)) i m ⌝ }
+{
+    if year_count(rows) < i {
+        return 0;
+    }
+    let k = 13 * i;
+    if m < rows.len() - k {
+        return rows[k + m];
+    }
+    0
+}
+
+// Whether a year is one of a table.
+pub fn is_year(table: Table, rows: &[u16], year: u16) -> bool
+    ensures { λ r. ⌜ r ≡ yearOk (flat table (now (rows .entry))) year ⌝ }
+{
+    if year < table.first_year {
+        return false;
+    }
+    ((year - table.first_year) as usize) < year_count(rows)
+}
+
+// The row of a year; 0 where it is before the first.
+fn row_of(table: Table, year: u16) -> usize
+    ensures { λ r. ⌜ r ≡ year - table .«first_year» ⌝ }
+{
+    if year < table.first_year {
+        return 0;
+    }
+    (year - table.first_year) as usize
+}
+
 // The length of a month of an accepted table.
 pub fn month_days(table: Table, rows: &[u16], year: u16, month: u16) -> MonthDays
     requires { ⌜ accepted table (now rows) ≡ true ⌝ }
     ensures { λ r. ⌜ daysSays r ≡ monthLen (flat table (now (rows .entry))) year month ⌝ }
 {
-    if year < table.first_year {
-        return MonthDays::Refused(Refusal::NoYear);
-    }
-    let i = (year - table.first_year) as usize;
-    if rows.len() / 13 <= i {
+    if !is_year(table, rows, year) {
         return MonthDays::Refused(Refusal::NoYear);
     }
     if month < 1 {
@@ -102,8 +139,7 @@ pub fn month_days(table: Table, rows: &[u16], year: u16, month: u16) -> MonthDay
     if 12 < month {
         return MonthDays::Refused(Refusal::NoMonth);
     }
-    let j = (month - 1) as usize;
-    let len = rows[13 * i + j];
+    let len = number_at(rows, row_of(table, year), (month - 1) as usize);
     MonthDays::Days(len)
 }
 
@@ -218,16 +254,6 @@ pub fn validate_bs_date(table: Table, rows: &[u16], date: BsDate) -> Validity
         return Validity::Refused(Refusal::BadTable);
     }
     date_check(table, rows, date)
-}
-
-// The row of a year; 0 where it is before the first.
-fn row_of(table: Table, year: u16) -> usize
-    ensures { λ r. ⌜ r ≡ year - table .«first_year» ⌝ }
-{
-    if year < table.first_year {
-        return 0;
-    }
-    (year - table.first_year) as usize
 }
 
 // The date of a number that is a date's.

@@ -6,18 +6,19 @@ use mathlib.Core.List.{List}
 use mathlib.Core.Option.{Option, some, none}
 use native.Mathlib.Nat.{sub-zero, zero-add}
 use native.Mathlib.Omega.{arith}
-use borrow.Author.Tests.{eq-eqb, ne-eqb}
+use borrow.Author.Tests.{eq-eqb, ne-eqb, le-leb, lt-leb}
 use lib.ListN.{getD, set, replicate}
 use lib.Ieee.{Float, nan}
 use Rattle.paper.specs.Answers.{answered, refused}
 use Rattle.conversion.specs.declared.BsDate.{BsDate}
 use Rattle.conversion.specs.Calendar.{Calendar, fromDay}
 use Rattle.rules.specs.declared.Rule.{Rule}
+use Rattle.rules.specs.declared.lists.Resolved.{Resolved}
 use Rattle.rules.specs.Rules.{ruleAt, rulesFrom, ruleGood, countKind}
 use Rattle.rules.specs.Sky.{Sky}
 use Rattle.rules.specs.Days.{next, festivalDay}
 use Rattle.rules.specs.Festivals.{dated, tithi, beginning, opening, ruleDay, inTable, entry}
-use Rattle.rules.specs.Resolved.{putEntry, filled, resolved}
+use Rattle.rules.specs.Resolved.{putEntry, filled, resolved, yearsFor}
 use Rattle.rules.proofs.Walk.{rest, left, left-none, count-turn, count-skip}
 use Rattle.rules.proofs.Accepted.{computed-of}
 use Rattle.rules.proofs.Used.{fill-none, fill-not, fill-is}
@@ -110,3 +111,17 @@ module _ {I : Type 0} (s : Sky I) (c : Calendar) (y : ℕ) (xs : List ℕ) (n : 
 
   pub entered-all : (i : ℕ) (d : List ℕ) (j : ℕ) → n ≤ i → Entered d j i → d ≡ resolved s c y (rulesFrom xs 0 n)
   entered-all i d j h v = sym (fill-none s c y d j) ∙ (rw (left-none xs i n h) at (v .2))
+
+-- ---- the two years of a month
+module _ {I : Type 0} (s : Sky I) (c : Calendar) (rs : List Rule) (y m : ℕ) where
+  pub late-before : (b : Resolved) → 2 < m → b .days ≡ replicate 64 0 → b ≡ yearsFor s c rs y m .before
+  unfolding yearsFor
+  late-before b h e = rw (lt-leb m 2 h, ← e)
+
+  pub early-before : (b : Resolved) (k : ℕ) → m ≤ 2 → k ≡ y - 1 → b .days ≡ resolved s c k rs → b ≡ yearsFor s c rs y m .before
+  unfolding yearsFor
+  early-before b k h q e = rw (le-leb m 2 h, ← q, ← e)
+
+  pub both-years : (b t : Resolved) → b ≡ yearsFor s c rs y m .before → t .days ≡ resolved s c y rs → record { before = b; this = t } ≡ yearsFor s c rs y m
+  unfolding yearsFor
+  both-years b t p q = rw (p, ← q)

@@ -14,8 +14,8 @@ ghost use mathlib.Core.Option.{none};
 ghost use Prim.Native.Nat.{ℕ, _+_, _≤_, _<_};
 ghost use lib.ListN.{length, take};
 ghost use Rattle.conversion.specs.Flat.{accepted, flat};
-ghost use Rattle.rules.specs.Festivals.{lastOf, inMonth, opening};
-ghost use Rattle.festivals.specs.Kathmandu.{moonsAround, kathmandu};
+ghost use Rattle.rules.specs.Festivals.{lastOf, inMonth};
+ghost use Rattle.festivals.specs.Kathmandu.{moonsAround, kathmandu, openingIn};
 ghost use Rattle.festivals.specs.Months.{yearDays, monthAt};
 ghost use Rattle.festivals.specs.Answers.{daysAre};
 
@@ -103,7 +103,7 @@ pub fn months_of(table: Table, rows: &[u16], year: u16, found: &[f64; 1024], n: 
 // The lunar months of a year; a year not in the table has none.
 pub fn lunar_months(table: Table, rows: &[u16], year: u16) -> Months
     requires { ⌜ accepted table (now rows) ≡ true ⌝ }
-    ensures { λ r. ⌜ ((j : ℕ) → j < 12 → monthAt r j ≡ opening kathmandu (flat table (now (rows .entry))) year (j + 1)) ⌝ }
+    ensures { λ r. ⌜ ((j : ℕ) → j < 12 → monthAt r j ≡ openingIn (flat table (now (rows .entry))) year (j + 1)) ⌝ }
 {
     let mut found = [0.0; 1024];
     let YearDays::Days(first, last) = year_days(table, rows, year) else {

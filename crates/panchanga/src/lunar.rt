@@ -8,7 +8,7 @@ use super::Span;
 use super::clock::clock_of;
 use super::noaa::events_on;
 use gregorian::Date;
-use gregorian::NptAnswer;
+use gregorian::DateAnswer;
 use gregorian::UtDay;
 use gregorian::npt_date;
 use sky::search::FirstStart;
@@ -37,11 +37,10 @@ fn falls_on(date: Date, at: UtDay) -> bool
 {
     let a = npt_date(at);
     match a {
-        NptAnswer::Is(d) => {
+        DateAnswer::Is(d) => {
             (d.year == date.year) & ((d.month == date.month) & (d.day == date.day))
         }
-        NptAnswer::NoSuchDate => false,
-        NptAnswer::OutOfRange => false,
+        DateAnswer::Refused(_) => false,
     }
 }
 
