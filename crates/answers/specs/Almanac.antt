@@ -9,8 +9,8 @@ use Rattle.paper.specs.Answers.{Answer}
 use Rattle.gregorian.specs.declared.Date.{Date}
 use Rattle.panchanga.specs.Answers.{eventsAnswer, riseAnswer, setAnswer, nishitaAnswer, kalaAnswer, readingAnswer}
 use Rattle.panchanga.specs.declared.Kala.the-variants.{Udaya, Madhyanna, Aparahna, Pradosh, Nishita, Begins}
-use Rattle.replay.specs.Tags.{EVENTS, RISE, SET, NISHITA, READ, KALA}
-use Rattle.replay.specs.declared.words.Words.{Words}
+use Rattle.asked.specs.Tags.{EVENTS, RISE, SET, NISHITA, READ, KALA}
+use Rattle.asked.specs.declared.words.Words.{Words}
 use Rattle.replies.specs.declared.Reply.{Reply}
 use Rattle.replies.specs.declared.Reply.the-variants as R
 use Rattle.replies.specs.Replies.{said, perhaps, formed, among, small, dateIn}

@@ -5,8 +5,8 @@ use mathlib.Core.List.{List, [], _∷_}
 use lib.Dec.{eqb}
 use Rattle.conversion.specs.Calendar.{Calendar, toAd, fromAd, monthLen, validBs}
 use Rattle.conversion.specs.declared.BsDate.{BsDate}
-use Rattle.replay.specs.Tags.{CHECK, BS, AD, LEN, VALID}
-use Rattle.replay.specs.declared.words.Words.{Words}
+use Rattle.asked.specs.Tags.{CHECK, BS, AD, LEN, VALID}
+use Rattle.asked.specs.declared.words.Words.{Words}
 use Rattle.replies.specs.declared.Reply.{Reply}
 use Rattle.replies.specs.declared.Reply.the-variants as R
 use Rattle.replies.specs.Replies.{said, dated, formed, among, small}

@@ -7,8 +7,8 @@ use Rattle.paper.specs.Answers.{Answer, answered, refused}
 use Rattle.gregorian.specs.declared.Date.{Date}
 use Rattle.gregorian.specs.Answers.{numberAnswer, weekdayAnswer, nextAnswer, dateAnswer}
 use Rattle.gregorian.specs.Instants.{julianAnswer, nptAnswer}
-use Rattle.replay.specs.Tags.{DAY, DATE, JD, NPT}
-use Rattle.replay.specs.declared.words.Words.{Words}
+use Rattle.asked.specs.Tags.{DAY, DATE, JD, NPT}
+use Rattle.asked.specs.declared.words.Words.{Words}
 use Rattle.replies.specs.declared.Reply.{Reply}
 use Rattle.replies.specs.declared.Reply.the-variants as R
 use Rattle.replies.specs.Replies.{said, dated, formed, among, large, float, dateIn}

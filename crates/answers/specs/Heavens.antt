@@ -8,8 +8,8 @@ use Rattle.sky.specs.Tithi.{tithiOf}
 use Rattle.sky.specs.Answers.{ttAnswer, sunAnswer, moonAnswer, elongationAnswer, tithiAnswer, endAnswer}
 use Rattle.panchanga.specs.Clock.{minutesOf}
 use Rattle.panchanga.specs.Answers.{clockAnswer}
-use Rattle.replay.specs.Tags.{DELTAT, TT, SUN, MOON, ELONG, TITHI, TITHIOF, END, CLOCK, MINUTES}
-use Rattle.replay.specs.declared.words.Words.{Words}
+use Rattle.asked.specs.Tags.{DELTAT, TT, SUN, MOON, ELONG, TITHI, TITHIOF, END, CLOCK, MINUTES}
+use Rattle.asked.specs.declared.words.Words.{Words}
 use Rattle.replies.specs.declared.Reply.{Reply}
 use Rattle.replies.specs.declared.Reply.the-variants as R
 use Rattle.replies.specs.Replies.{said, perhaps, formed, among, float}

@@ -6,8 +6,8 @@ use lib.Dec.{eqb}
 use lib.Ieee.{Float}
 use lib.ListN.{length, replicate}
 use Rattle.paper.specs.Floats.{dec}
-use Rattle.replay.specs.Line.{floatText}
-use Rattle.replay.specs.declared.words.Words.{Words}
+use Rattle.output.specs.Floats.{floatText}
+use Rattle.asked.specs.declared.words.Words.{Words}
 use Rattle.sky.specs.Answers.{startsAnswer, startsBuffer}
 use Rattle.replies.specs.Replies.{said, small, float, replyWords, barred}
 use Rattle.replies.specs.declared.Reply.the-variants as R

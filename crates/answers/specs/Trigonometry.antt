@@ -4,8 +4,8 @@ use mathlib.Core.List.{List, [], _∷_}
 use lib.Dec.{eqb}
 use lib.Ieee.{Float}
 use Rattle.trig.specs.Trig.{sine, cosine, arcsine, arccosine, tangent}
-use Rattle.replay.specs.Tags.{SIN, COS, ASIN, ACOS, TAN}
-use Rattle.replay.specs.declared.words.Words.{Words}
+use Rattle.asked.specs.Tags.{SIN, COS, ASIN, ACOS, TAN}
+use Rattle.asked.specs.declared.words.Words.{Words}
 use Rattle.replies.specs.declared.Reply.{Reply}
 use Rattle.replies.specs.declared.Reply.the-variants as R
 use Rattle.replies.specs.Replies.{formed, among, float}

@@ -4,13 +4,13 @@ ghost use Rattle.panchanga.specs.Answers.{spanSays, instantSays, readingSays, k
 ghost use Rattle.replies.specs.Replies.{said, among};
 ghost use Rattle.answers.specs.Almanac.{spanReply, instantReply, dateRows, kalaRows, almanacReply};
 ghost use Rattle.replies.specs.declared.Reply.the-variants as R;
+use asked::Words;
+use asked::tags;
 use gregorian::Date;
 use panchanga::InstantAnswer;
 use panchanga::Kala;
 use panchanga::ReadingAnswer;
 use panchanga::SpanAnswer;
-use replay::Words;
-use replay::tags;
 use replies::Reply;
 
 // The reply of two instants, or of none.

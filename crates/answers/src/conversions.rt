@@ -5,14 +5,14 @@ ghost use Rattle.conversion.specs.Flat.{flat};
 ghost use Rattle.replies.specs.Replies.{said, dated};
 ghost use Rattle.answers.specs.Conversions.{checked, bsDated, bsIn, conversionsReply};
 ghost use Rattle.replies.specs.declared.Reply.the-variants as R;
+use asked::Words;
+use asked::tags;
 use conversion::AdAnswer;
 use conversion::BsAnswer;
 use conversion::BsDate;
 use conversion::MonthLen;
 use conversion::Table;
 use conversion::Validity;
-use replay::Words;
-use replay::tags;
 use replies::Reply;
 
 // A BS date from a line's first three words.

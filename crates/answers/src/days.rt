@@ -6,14 +6,14 @@ ghost use Rattle.gregorian.specs.Instants.{julianSays, nptSays};
 ghost use Rattle.replies.specs.Replies.{said, dated};
 ghost use Rattle.answers.specs.Days.{dayOf, daysReply};
 ghost use Rattle.replies.specs.declared.Reply.the-variants as R;
+use asked::Words;
+use asked::tags;
 use gregorian::Date;
 use gregorian::DateAnswer;
 use gregorian::JulianAnswer;
 use gregorian::NptAnswer;
 use gregorian::NumberAnswer;
 use gregorian::UtDay;
-use replay::Words;
-use replay::tags;
 use replies::Reply;
 
 // The reply of a day number and a weekday, with the next date or none.

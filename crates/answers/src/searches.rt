@@ -3,14 +3,14 @@ ghost use mathlib.Core.Path.{_≡_};
 ghost use lib.ListN.{replicate};
 ghost use Rattle.paper.specs.Floats.{dec};
 ghost use Rattle.sky.specs.Answers.{startsSays};
-ghost use Rattle.replay.specs.Gathered.{Gathers};
+ghost use Rattle.output.specs.Gathered.{Gathers};
 ghost use Rattle.replies.specs.Replies.{said, small, float, barred};
-ghost use Rattle.replay.specs.Line.{floatText};
+ghost use Rattle.output.specs.Floats.{floatText};
 ghost use Rattle.answers.specs.Searches.{startsWords, searchWords};
 ghost use Rattle.replies.specs.declared.Reply.the-variants as R;
+use asked::Words;
 use gregorian::UtDay;
-use replay::Out;
-use replay::Words;
+use output::Out;
 use replies::Reply;
 use sky::StartsAnswer;
 

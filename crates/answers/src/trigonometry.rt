@@ -2,8 +2,8 @@
 ghost use mathlib.Core.Path.{_≡_};
 ghost use Rattle.replies.specs.Replies.{among};
 ghost use Rattle.answers.specs.Trigonometry.{angleRows, trigonometryReply};
-use replay::Words;
-use replay::tags;
+use asked::Words;
+use asked::tags;
 use replies::Reply;
 
 // The reply to a line with one float, by its tag.

@@ -9,6 +9,8 @@ use native.Mathlib.Omega.{arith}
 use lib.ListN.{length, getD}
 use lib.Dec.{T, leb, eqb}
 use borrow.Author.Tests.{leb-true, le-leb, eqb-true, eq-eqb, ne-eqb}
+use Rattle.paper.specs.declared.Refusal.the-variants.{NoSuchDate}
+use Rattle.paper.specs.declared.Refusal.{Refusal}
 use Rattle.paper.specs.Answers.{answered, refused, given}
 use Rattle.paper.specs.Sums.{sum, all}
 use Rattle.paper.proofs.Sums.{sum-ext, sum-mono, sum-step, all-at, all-every}
@@ -95,15 +97,15 @@ pub frame-no : (t : Table) (n : ℕ) → (Frame t n → ⊥) → FrameSays t n 0
 frame-no t n h = record { bad = λ z f. h f; good = λ z. absurd (z refl); start = λ z. absurd (z refl); small = omega arith }
 
 -- what `number_or_zero` reads off the answer
-pub number-told : (b : Bool) (v n : ℕ) → answered n ≡ given b 3 (answered v) → n ≡ cond b v 0
+pub number-told : (b : Bool) (v n : ℕ) → answered n ≡ given b NoSuchDate (answered v) → n ≡ cond b v 0
 unfolding given
 number-told true v n e = answered-same e
 number-told false v n e = absurd (refused-answered e refl)
 
-pub number-none : (b : Bool) (v : ℕ) → refused 3 ≡ given b 3 (answered v) → 0 ≡ cond b v 0
+pub number-none : (b : Bool) (v : ℕ) (k : Refusal) → refused k ≡ given b NoSuchDate (answered v) → 0 ≡ cond b v 0
 unfolding given
-number-none true v e = absurd (refused-answered (sym e) refl)
-number-none false v e = refl
+number-none true v k e = absurd (refused-answered (sym e) refl)
+number-none false v k e = refl
 
 -- a number that is not 0 is a date's, and each is small
 module _ (y m d : ℕ) where

@@ -7,6 +7,7 @@ use mathlib.Core.Logic.{⊎-elim, _↔_}
 use native.Mathlib.Nat.{le-trans}
 use native.Mathlib.Omega.{arith}
 use lib.Dec.{T}
+use Rattle.paper.specs.declared.Refusal.the-variants.{BadTable, NoSuchDate, Outside}
 use Rattle.paper.specs.Answers.{answered, refused}
 use Rattle.paper.specs.Sums.{sum}
 use Rattle.paper.proofs.Answers.{answered-same, given-answered, given-on}
@@ -54,7 +55,7 @@ on-real c n s o = of-real n (le-trans (s .from) (o .from)) (omega (arith, s .to,
 module _ (c : Calendar) (y m d : ℕ) where
   pub from-ad : c .good ≡ true → isDate y m d ≡ true → fromAd c y m d ≡ fromDay c (dayNumber (date y m d))
   unfolding fromAd
-  from-ad g e = given-on (c .good) 1 _ g ∙ given-on (isDate y m d) 3 _ e
+  from-ad g e = given-on (c .good) BadTable _ g ∙ given-on (isDate y m d) NoSuchDate _ e
 
   pub ad-from : (t : BsDate) → fromAd c y m d ≡ answered t → (isDate y m d ≡ true) × (fromDay c (dayNumber (date y m d)) ≡ answered t)
   unfolding fromAd
@@ -140,7 +141,7 @@ module _ (c : Calendar) (s : Served c) where
       )
 
   -- ---- a date outside the table
-  pub ad-outside : (y m d : ℕ) → isDate y m d ≡ true → (TableDay c (date y m d) → ⊥) → fromAd c y m d ≡ refused 7
+  pub ad-outside : (y m d : ℕ) → isDate y m d ≡ true → (TableDay c (date y m d) → ⊥) → fromAd c y m d ≡ refused Outside
   ad-outside y m d e h =
       from-ad c y m d (s .good) e ∙ from-outside c _ (s .good) (λ o. h (on-day (date y m d) e o))
 

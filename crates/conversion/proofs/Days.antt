@@ -2,15 +2,17 @@
 use Prim.Native.Nat.{ℕ, _+_, _-_, _≤_, _<_}
 use mathlib.Core.Path.{_≡_, refl, sym, ap, _∙_}
 use mathlib.Core.Bool.{Bool, true, false, _&&_, cond}
-use mathlib.Core.Logic.{inl, inr}
+use mathlib.Core.Logic.{inl, inr, ⊎-elim}
 use native.Mathlib.Omega.{arith}
 use borrow.Author.Tests.{leb-true, leb-false, le-leb, ltb-true, lt-ltb, le-ltb}
 use lib.Dec.{leb, ltb}
+use Rattle.paper.specs.declared.Refusal.the-variants.{BadTable, NoYear, NoMonth, NoDay, Outside}
+use Rattle.paper.specs.declared.Refusal.{Refusal}
 use Rattle.paper.specs.Answers.{Answer, answered, refused, given, then}
 use Rattle.paper.specs.Sums.{sum}
 use Rattle.paper.proofs.Answers.{answered-same, given-answered, given-then, given-on, given-off, then-answered, then-refused}
 use Rattle.paper.proofs.Sums.{sum-past}
-use Rattle.paper.proofs.Tests.{and-left, and-right, and-both, and-never}
+use Rattle.paper.proofs.Tests.{and-left, and-right, and-both, and-never, split}
 use Rattle.gregorian.specs.declared.Date.{Date}
 use Rattle.gregorian.proofs.Laws.{three}
 use Rattle.conversion.specs.declared.BsDate.{BsDate}
@@ -18,6 +20,16 @@ use Rattle.conversion.specs.declared.Placed.{Placed}
 use Rattle.conversion.specs.declared.Placed.the-variants as P
 use Rattle.conversion.specs.Calendar.{Calendar, last, bs, numbers, EarlierBs, yearLen, end, yearOk, monthOk, dayOk, ofMonth, ofDate, dayAt, dateAt, dateInYear, dateAfter, monthLen, validBs, toDay, fromDay, placed}
 use Rattle.conversion.proofs.Places.{Within, last-within, last-is}
+
+-- ---- a year of the calendar, told by the test, and by its place from the first
+pub year-told : (c : Calendar) (y : ℕ) → yearOk c y ≡ true → (c .first ≤ y) × (y < c .first + c .years)
+year-told c y e = (leb-true _ _ (and-left (leb (c .first) y) _ e), ltb-true _ _ (and-right (leb (c .first) y) _ e))
+
+pub counted : (f y n : ℕ) → f ≤ y → ltb (y - f) n ≡ ltb y (f + n)
+counted f y n h =
+    ⊎-elim
+    (λ l. le-ltb (y - f) n l ∙ sym (le-ltb y (f + n) (omega arith)))
+    (λ l. lt-ltb (y - f) n l ∙ sym (lt-ltb y (f + n) (omega arith))) (split n (y - f))
 
 -- ---- a month of the calendar
 pub record InTable (c : Calendar) (y m : ℕ) : Type 0 where
@@ -29,34 +41,35 @@ pub record InTable (c : Calendar) (y m : ℕ) : Type 0 where
 
 -- a question about a month: what is refused, and what is left
 module _ {A : Type 0} (c : Calendar) (y m : ℕ) (a : Answer A) where
-  pub no-table : c .good ≡ false → ofMonth c y m a ≡ refused 1
-  no-table g = given-off (c .good) 1 _ g
+  pub no-table : c .good ≡ false → ofMonth c y m a ≡ refused BadTable
+  no-table g = given-off (c .good) BadTable _ g
 
-  pub no-year : c .good ≡ true → (c .first ≤ y → y < c .first + c .years → ⊥) → ofMonth c y m a ≡ refused 4
+  pub no-year : c .good ≡ true → (c .first ≤ y → y < c .first + c .years → ⊥) → ofMonth c y m a ≡ refused NoYear
   no-year g h =
-      given-on (c .good) 1 _ g ∙ given-off (yearOk c y) 4 _ (and-never _ _ (λ p q. h (leb-true _ _ p) (ltb-true _ _ q)))
+      given-on (c .good) BadTable _ g ∙ given-off (yearOk c y) NoYear _ (and-never _ _ (λ p q. h (leb-true _ _ p) (ltb-true _ _ q)))
 
-  pub no-month : c .good ≡ true → c .first ≤ y → y < c .first + c .years → (1 ≤ m → m ≤ 12 → ⊥) → ofMonth c y m a ≡ refused 5
+  pub no-month : c .good ≡ true → c .first ≤ y → y < c .first + c .years → (1 ≤ m → m ≤ 12 → ⊥) → ofMonth c y m a ≡ refused NoMonth
   no-month g f t h =
-      given-on (c .good) 1 _ g
-      ∙ given-on (yearOk c y) 4 _ (and-both _ _ (le-leb _ _ f) (lt-ltb _ _ t))
-      ∙ given-off (monthOk m) 5 _ (and-never _ _ (λ p q. h (leb-true _ _ p) (leb-true _ _ q)))
+      given-on (c .good) BadTable _ g
+      ∙ given-on (yearOk c y) NoYear _ (and-both _ _ (le-leb _ _ f) (lt-ltb _ _ t))
+      ∙ given-off (monthOk m) NoMonth _ (and-never _ _ (λ p q. h (leb-true _ _ p) (leb-true _ _ q)))
 
   pub of-month : InTable c y m → ofMonth c y m a ≡ a
   of-month k =
-      given-on (c .good) 1 _ (k .good)
-      ∙ given-on (yearOk c y) 4 _ (and-both _ _ (le-leb _ _ (k .year-from)) (lt-ltb _ _ (k .year-to)))
-      ∙ given-on (monthOk m) 5 _ (and-both _ _ (le-leb _ _ (k .month-from)) (le-leb _ _ (k .month-to)))
+      given-on (c .good) BadTable _ (k .good)
+      ∙ given-on (yearOk c y) NoYear _ (and-both _ _ (le-leb _ _ (k .year-from)) (lt-ltb _ _ (k .year-to)))
+      ∙ given-on (monthOk m) NoMonth _ (and-both _ _ (le-leb _ _ (k .month-from)) (le-leb _ _ (k .month-to)))
 
   pub in-month : {x : A} → ofMonth c y m a ≡ answered x → InTable c y m × (a ≡ answered x)
   in-month e =
       let p = given-answered (c .good) _ _ e in
       let q = given-answered (yearOk c y) _ _ (p .1) in
-      let r = given-answered (monthOk m) _ _ (q .1) in (
+      let r = given-answered (monthOk m) _ _ (q .1) in
+      let t = year-told c y (q .0) in (
         record {
           good = p .0;
-          year-from = leb-true _ _ (and-left (leb (c .first) y) _ (q .0));
-          year-to = ltb-true _ _ (and-right (leb (c .first) y) _ (q .0));
+          year-from = t .0;
+          year-to = t .1;
           month-from = leb-true _ _ (and-left (leb 1 m) _ (r .0));
           month-to = leb-true _ _ (and-right (leb 1 m) _ (r .0));
         },
@@ -76,13 +89,13 @@ pub record Valid (c : Calendar) (y m d : ℕ) : Type 0 where
 
 -- a question about a date: what is refused, and what is answered
 module _ {A : Type 0} (c : Calendar) (y m d : ℕ) (x : A) where
-  pub no-day : InTable c y m → (1 ≤ d → d ≤ c .len (y - c .first) (m - 1) → ⊥) → ofDate c y m d x ≡ refused 6
+  pub no-day : InTable c y m → (1 ≤ d → d ≤ c .len (y - c .first) (m - 1) → ⊥) → ofDate c y m d x ≡ refused NoDay
   no-day k h =
-      of-month c y m _ k ∙ given-off (dayOk c y m d) 6 _ (and-never _ _ (λ p q. h (leb-true _ _ p) (leb-true _ _ q)))
+      of-month c y m _ k ∙ given-off (dayOk c y m d) NoDay _ (and-never _ _ (λ p q. h (leb-true _ _ p) (leb-true _ _ q)))
 
   pub of-date : Valid c y m d → ofDate c y m d x ≡ answered x
   of-date v =
-      of-month c y m _ (v .month) ∙ given-on (dayOk c y m d) 6 _ (and-both _ _ (le-leb _ _ (v .day-from)) (le-leb _ _ (v .day-to)))
+      of-month c y m _ (v .month) ∙ given-on (dayOk c y m d) NoDay _ (and-both _ _ (le-leb _ _ (v .day-from)) (le-leb _ _ (v .day-to)))
 
   pub in-date : {z : A} → ofDate c y m d x ≡ answered z → Valid c y m d × (x ≡ z)
   in-date e =
@@ -97,7 +110,7 @@ module _ {A : Type 0} (c : Calendar) (y m d : ℕ) (x : A) where
       )
 
   -- by way of the length of the month; by way of whether it is a date at all
-  pub by-len : ofDate c y m d x ≡ then (monthLen c y m) (λ n. given (leb 1 d && leb d n) 6 (answered x))
+  pub by-len : ofDate c y m d x ≡ then (monthLen c y m) (λ n. given (leb 1 d && leb d n) NoDay (answered x))
   unfolding monthLen
   by-len = simp (given-then, then-answered)
 
@@ -105,10 +118,10 @@ module _ {A : Type 0} (c : Calendar) (y m d : ℕ) (x : A) where
   unfolding validBs
   by-valid = simp (given-then, then-answered)
 
-  pub len-refused : (k : ℕ) → refused k ≡ monthLen c y m → refused k ≡ ofDate c y m d x
+  pub len-refused : (k : Refusal) → refused k ≡ monthLen c y m → refused k ≡ ofDate c y m d x
   len-refused k e = rw (by-len, ← e) (sym (then-refused k _))
 
-  pub valid-refused : (k : ℕ) → refused k ≡ validBs c y m d → refused k ≡ ofDate c y m d x
+  pub valid-refused : (k : Refusal) → refused k ≡ validBs c y m d → refused k ≡ ofDate c y m d x
   valid-refused k e = rw (by-valid, ← e) (sym (then-refused k _))
 
 pub valid-told : (c : Calendar) (y m d : ℕ) → answered tt ≡ validBs c y m d → Valid c y m d
@@ -147,11 +160,11 @@ on-table c n t e =
     }
 
 -- and no others
-pub from-outside : (c : Calendar) (n : ℕ) → c .good ≡ true → (OnTable c n → ⊥) → fromDay c n ≡ refused 7
+pub from-outside : (c : Calendar) (n : ℕ) → c .good ≡ true → (OnTable c n → ⊥) → fromDay c n ≡ refused Outside
 unfolding fromDay
 from-outside c n g h =
-    given-on (c .good) 1 _ g
-    ∙ given-off _ 7 _ (and-never _ _ (λ p q. h (record { good = g; from = leb-true _ _ p; to = ltb-true _ _ q })))
+    given-on (c .good) BadTable _ g
+    ∙ given-off _ Outside _ (and-never _ _ (λ p q. h (record { good = g; from = leb-true _ _ p; to = ltb-true _ _ q })))
 
 -- a day by its year, and by what is left in that year
 module _ (c : Calendar) (i r n : ℕ) (hi : i < c .years) (hr : r < yearLen c i) (e : c .start + sum (yearLen c) i + r ≡ n) where
@@ -287,14 +300,14 @@ placed-after c n r e =
 -- the date of a day by where it lies: outside, on either side, is 7
 abbrev pub insideOnly : Placed → Answer BsDate
 insideOnly (P.Inside t) = answered t
-insideOnly (P.Before n) = refused 7
-insideOnly (P.After n) = refused 7
+insideOnly (P.Before n) = refused Outside
+insideOnly (P.After n) = refused Outside
 
 pub from-placed : (c : Calendar) (n : ℕ) → c .good ≡ true → fromDay c n ≡ insideOnly (placed c n)
 unfolding fromDay placed given
-from-placed c n g = given-on (c .good) 1 _ g ∙ go (leb (c .start) n) refl (ltb n (end c)) refl
+from-placed c n g = given-on (c .good) BadTable _ g ∙ go (leb (c .start) n) refl (ltb n (end c)) refl
   where
-    go : (a : Bool) → leb (c .start) n ≡ a → (b : Bool) → ltb n (end c) ≡ b → given (a && b) 7 (answered (dateAfter c (n - c .start))) ≡ insideOnly (cond (ltb n (c .start)) (P.Before (c .start - n)) (cond b (P.Inside (dateAfter c (n - c .start))) (P.After (n - end c + 1))))
+    go : (a : Bool) → leb (c .start) n ≡ a → (b : Bool) → ltb n (end c) ≡ b → given (a && b) Outside (answered (dateAfter c (n - c .start))) ≡ insideOnly (cond (ltb n (c .start)) (P.Before (c .start - n)) (cond b (P.Inside (dateAfter c (n - c .start))) (P.After (n - end c + 1))))
     go true e true f = rw (le-ltb _ _ (leb-true _ _ e))
     go true e false f = rw (le-ltb _ _ (leb-true _ _ e))
     go false e b f = rw (lt-ltb _ _ (leb-false _ _ e))

@@ -7,6 +7,8 @@ use mathlib.Core.List.{List, _++_}
 use mathlib.Core.Logic.{⊎-elim}
 use native.Mathlib.Omega.{arith}
 use lib.ListN.{length-append, List·getD-append}
+use Rattle.paper.specs.declared.Refusal.the-variants.{NoYear, NoDay, Outside}
+use Rattle.paper.specs.declared.Refusal.{Refusal}
 use Rattle.paper.specs.Answers.{Answer, answered, refused, given}
 use Rattle.paper.proofs.Answers.{answered-same, refused-answered}
 use Rattle.paper.proofs.Sums.{sum-ext}
@@ -43,7 +45,7 @@ extends t rows more a b =
       len = λ i m h l. sym (List·getD-append rows more 0 (13 * i + m) (omega arith));
     }
 
-refused-if : {A : Type 0} (a : Answer A) (k : ℕ) (y n : ℕ) {x : A} → (n ≤ y → a ≡ refused k) → (y < n → a ≡ answered x) → RefusedIf a k (n ≤ y)
+refused-if : {A : Type 0} (a : Answer A) (k : Refusal) (y n : ℕ) {x : A} → (n ≤ y → a ≡ refused k) → (y < n → a ≡ answered x) → RefusedIf a k (n ≤ y)
 refused-if a k y n f g =
     record { when = f; only = λ j e. ⊎-elim (λ l. l) (λ l. absurd (refused-answered e (g l))) (split n y) }
 
@@ -91,10 +93,10 @@ module _ (c e : Calendar) (x : Extends c e) where
         let j = month-shorter y m l (k .0) in
         of-month c y m a j ∙ same j ∙ k .1
 
-    added : {z : A} → ofMonth e y m b ≡ answered z → RefusedIf (ofMonth c y m a) 4 (Added c y)
-    added h = refused-if _ 4 y _ (λ l. no-year c y m a (x .good) (λ f t. omega arith)) (λ l. kept l h)
+    added : {z : A} → ofMonth e y m b ≡ answered z → RefusedIf (ofMonth c y m a) NoYear (Added c y)
+    added h = refused-if _ NoYear y _ (λ l. no-year c y m a (x .good) (λ f t. omega arith)) (λ l. kept l h)
 
-  same-date : {A : Type 0} (y m d : ℕ) (u v : A) → (InTable c y m → u ≡ v) → InTable c y m → given (dayOk c y m d) 6 (answered u) ≡ given (dayOk e y m d) 6 (answered v)
+  same-date : {A : Type 0} (y m d : ℕ) (u v : A) → (InTable c y m → u ≡ v) → InTable c y m → given (dayOk c y m d) NoDay (answered u) ≡ given (dayOk e y m d) NoDay (answered v)
   same-date y m d u v h k = rw (same-len y m k, h k)
 
   -- ---- the length of a month, whether there is a date, and its day
@@ -102,7 +104,7 @@ module _ (c e : Calendar) (x : Extends c e) where
   unfolding monthLen
   len-longer y m n h = longer y m _ _ (λ k. ap answered (same-len y m k)) h
 
-  pub len-added : (y m n : ℕ) → monthLen e y m ≡ answered n → RefusedIf (monthLen c y m) 4 (Added c y)
+  pub len-added : (y m n : ℕ) → monthLen e y m ≡ answered n → RefusedIf (monthLen c y m) NoYear (Added c y)
   unfolding monthLen
   len-added y m n h = added y m _ _ (λ k. ap answered (same-len y m k)) h
 
@@ -110,7 +112,7 @@ module _ (c e : Calendar) (x : Extends c e) where
   unfolding validBs
   valid-longer y m d h = longer y m _ _ (same-date y m d tt tt (λ k. refl)) h
 
-  pub valid-added : (y m d : ℕ) → validBs e y m d ≡ answered tt → RefusedIf (validBs c y m d) 4 (Added c y)
+  pub valid-added : (y m d : ℕ) → validBs e y m d ≡ answered tt → RefusedIf (validBs c y m d) NoYear (Added c y)
   unfolding validBs
   valid-added y m d h = added y m _ _ (same-date y m d tt tt (λ k. refl)) h
 
@@ -118,7 +120,7 @@ module _ (c e : Calendar) (x : Extends c e) where
   unfolding toDay
   day-longer y m d n h = longer y m _ _ (same-date y m d _ _ (same-day y m d)) h
 
-  pub day-added : (y m d n : ℕ) → toDay e y m d ≡ answered n → RefusedIf (toDay c y m d) 4 (Added c y)
+  pub day-added : (y m d n : ℕ) → toDay e y m d ≡ answered n → RefusedIf (toDay c y m d) NoYear (Added c y)
   unfolding toDay
   day-added y m d n h = added y m _ _ (same-date y m d _ _ (same-day y m d)) h
 
@@ -130,7 +132,7 @@ module _ (c e : Calendar) (x : Extends c e) where
   unfolding toAd
   to-longer y m d g h = longer y m _ _ (same-date y m d _ _ (λ k. ap dateOf (same-day y m d k))) h
 
-  pub to-added : (y m d : ℕ) (g : Date) → toAd e y m d ≡ answered g → RefusedIf (toAd c y m d) 4 (Added c y)
+  pub to-added : (y m d : ℕ) (g : Date) → toAd e y m d ≡ answered g → RefusedIf (toAd c y m d) NoYear (Added c y)
   unfolding toAd
   to-added y m d g h = added y m _ _ (same-date y m d _ _ (λ k. ap dateOf (same-day y m d k))) h
 
@@ -145,9 +147,9 @@ module _ (c e : Calendar) (x : Extends c e) where
       let v = converted c _ _ _ n (to-from c n t (found c n o ∙ ap answered q)) in
       omega (arith, v .month)
 
-  pub from-day-added : (n : ℕ) (t : BsDate) → fromDay e n ≡ answered t → RefusedIf (fromDay c n) 7 (Added c (t .year))
+  pub from-day-added : (n : ℕ) (t : BsDate) → fromDay e n ≡ answered t → RefusedIf (fromDay c n) Outside (Added c (t .year))
   from-day-added n t h =
-      refused-if _ 7 (t .year) _
+      refused-if _ Outside (t .year) _
       (λ l. from-outside c n (x .good) (not-added n t h l))
       (λ l. from-to c _ _ _ n (day-kept _ _ _ n l (to-from e n t h)))
 
@@ -156,7 +158,7 @@ module _ (c e : Calendar) (x : Extends c e) where
       let a = ad-from c y m d t h in
       from-ad e y m d (x .good-too) (a .0) ∙ from-day-longer _ t (a .1)
 
-  pub from-added : (y m d : ℕ) (t : BsDate) → fromAd e y m d ≡ answered t → RefusedIf (fromAd c y m d) 7 (Added c (t .year))
+  pub from-added : (y m d : ℕ) (t : BsDate) → fromAd e y m d ≡ answered t → RefusedIf (fromAd c y m d) Outside (Added c (t .year))
   from-added y m d t h =
       let a = ad-from e y m d t h in
       rw (from-ad c y m d (x .good) (a .0)) (from-day-added _ t (a .1))

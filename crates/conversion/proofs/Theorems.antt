@@ -6,6 +6,7 @@ use mathlib.Core.Path.{_≡_, _∙_}
 use mathlib.Core.Bool.{true, false}
 use mathlib.Core.List.{List, _++_}
 use mathlib.Core.Logic.{_↔_}
+use Rattle.paper.specs.declared.Refusal.the-variants.{BadTable, NoSuchDate, NoYear, NoMonth, NoDay, Outside}
 use Rattle.paper.specs.Answers.{answered, refused, then}
 use Rattle.paper.proofs.Answers.{given-on, given-off, given-then, then-answered}
 use Rattle.gregorian.specs.declared.Date.{Date}
@@ -31,23 +32,23 @@ pub record OneToOne (c : Calendar) : Type 0 where
   pub to-order : (s t : BsDate) (a b : Date) → toAd c (s .year) (s .month) (s .day) ≡ answered a → toAd c (t .year) (t .month) (t .day) ≡ answered b → EarlierBs s t ↔ Earlier a b
   pub from-order : (a b : Date) (s t : BsDate) → fromAd c (a .year) (a .month) (a .day) ≡ answered s → fromAd c (b .year) (b .month) (b .day) ≡ answered t → Earlier a b ↔ EarlierBs s t
   -- all else is refused with its number
-  pub no-year : (y m d : ℕ) → (YearIn c y → ⊥) → toAd c y m d ≡ refused 4
-  pub no-month : (y m d : ℕ) → YearIn c y → (MonthIn m → ⊥) → toAd c y m d ≡ refused 5
-  pub no-day : (y m d : ℕ) → YearIn c y → MonthIn m → (DayIn c y m d → ⊥) → toAd c y m d ≡ refused 6
-  pub no-date : (y m d : ℕ) → isDate y m d ≡ false → fromAd c y m d ≡ refused 3
-  pub outside : (y m d : ℕ) → isDate y m d ≡ true → (TableDay c (date y m d) → ⊥) → fromAd c y m d ≡ refused 7
+  pub no-year : (y m d : ℕ) → (YearIn c y → ⊥) → toAd c y m d ≡ refused NoYear
+  pub no-month : (y m d : ℕ) → YearIn c y → (MonthIn m → ⊥) → toAd c y m d ≡ refused NoMonth
+  pub no-day : (y m d : ℕ) → YearIn c y → MonthIn m → (DayIn c y m d → ⊥) → toAd c y m d ≡ refused NoDay
+  pub no-date : (y m d : ℕ) → isDate y m d ≡ false → fromAd c y m d ≡ refused NoSuchDate
+  pub outside : (y m d : ℕ) → isDate y m d ≡ true → (TableDay c (date y m d) → ⊥) → fromAd c y m d ≡ refused Outside
   -- a date is validated exactly if it converts, with the same refusals; and a month has a length exactly if it is one of the table
   pub valid : (y m d : ℕ) → validBs c y m d ≡ then (toAd c y m d) (λ x. answered tt)
   pub len : (y m : ℕ) → YearIn c y → MonthIn m → monthLen c y m ≡ answered (c .len (y - c .first) (m - 1))
-  pub len-no-year : (y m : ℕ) → (YearIn c y → ⊥) → monthLen c y m ≡ refused 4
-  pub len-no-month : (y m : ℕ) → YearIn c y → (MonthIn m → ⊥) → monthLen c y m ≡ refused 5
+  pub len-no-year : (y m : ℕ) → (YearIn c y → ⊥) → monthLen c y m ≡ refused NoYear
+  pub len-no-month : (y m : ℕ) → YearIn c y → (MonthIn m → ⊥) → monthLen c y m ≡ refused NoMonth
 
 -- a table that is not accepted answers nothing
 pub record NoTable (c : Calendar) : Type 0 where
-  pub len : (y m : ℕ) → monthLen c y m ≡ refused 1
-  pub valid : (y m d : ℕ) → validBs c y m d ≡ refused 1
-  pub to : (y m d : ℕ) → toAd c y m d ≡ refused 1
-  pub from : (y m d : ℕ) → fromAd c y m d ≡ refused 1
+  pub len : (y m : ℕ) → monthLen c y m ≡ refused BadTable
+  pub valid : (y m d : ℕ) → validBs c y m d ≡ refused BadTable
+  pub to : (y m d : ℕ) → toAd c y m d ≡ refused BadTable
+  pub from : (y m d : ℕ) → fromAd c y m d ≡ refused BadTable
 
 -- ---- STEADY. `Added c y` says that the year y comes after those of c; `RefusedIf a k P` that a is refused exactly if P, and then with k.
 pub record Steady (short long : Calendar) : Type 0 where
@@ -57,10 +58,10 @@ pub record Steady (short long : Calendar) : Type 0 where
   pub to : (y m d : ℕ) (x : Date) → toAd short y m d ≡ answered x → toAd long y m d ≡ answered x
   pub from : (y m d : ℕ) (t : BsDate) → fromAd short y m d ≡ answered t → fromAd long y m d ≡ answered t
   -- what the longer answers is refused by the shorter exactly if it lies in an added year
-  pub len-added : (y m n : ℕ) → monthLen long y m ≡ answered n → RefusedIf (monthLen short y m) 4 (Added short y)
-  pub valid-added : (y m d : ℕ) → validBs long y m d ≡ answered tt → RefusedIf (validBs short y m d) 4 (Added short y)
-  pub to-added : (y m d : ℕ) (x : Date) → toAd long y m d ≡ answered x → RefusedIf (toAd short y m d) 4 (Added short y)
-  pub from-added : (y m d : ℕ) (t : BsDate) → fromAd long y m d ≡ answered t → RefusedIf (fromAd short y m d) 7 (Added short (t .year))
+  pub len-added : (y m n : ℕ) → monthLen long y m ≡ answered n → RefusedIf (monthLen short y m) NoYear (Added short y)
+  pub valid-added : (y m d : ℕ) → validBs long y m d ≡ answered tt → RefusedIf (validBs short y m d) NoYear (Added short y)
+  pub to-added : (y m d : ℕ) (x : Date) → toAd long y m d ≡ answered x → RefusedIf (toAd short y m d) NoYear (Added short y)
+  pub from-added : (y m d : ℕ) (t : BsDate) → fromAd long y m d ≡ answered t → RefusedIf (fromAd short y m d) Outside (Added short (t .year))
 
 -- ---- THE THEOREMS
 in-table : (c : Calendar) (y m : ℕ) → c .good ≡ true → YearIn c y → MonthIn m → Days.InTable c y m
@@ -86,7 +87,7 @@ matched c s =
       no-year = λ y m d h. Days.no-year c y m _ (s .good) (λ f t. h (f, t));
       no-month = λ y m d p h. Days.no-month c y m _ (s .good) (p .0) (p .1) (λ f t. h (f, t));
       no-day = λ y m d p q h. Days.no-day c y m d _ (in-table c y m (s .good) p q) (λ f t. h (f, t));
-      no-date = λ y m d h. given-on (c .good) 1 _ (s .good) ∙ given-off (isDate y m d) 3 _ h;
+      no-date = λ y m d h. given-on (c .good) BadTable _ (s .good) ∙ given-off (isDate y m d) NoSuchDate _ h;
       outside = Ad.ad-outside c s;
       valid = λ y m d. simp (given-then, then-answered);
       len = λ y m p q. Days.of-month c y m _ (in-table c y m (s .good) p q);
@@ -106,7 +107,7 @@ no-table t rows e =
       len = λ y m. Days.no-table (flat t rows) y m _ e;
       valid = λ y m d. Days.no-table (flat t rows) y m _ e;
       to = λ y m d. Days.no-table (flat t rows) y m _ e;
-      from = λ y m d. given-off _ 1 _ e;
+      from = λ y m d. given-off _ BadTable _ e;
     }
 
 -- for every two good calendars of which the longer begins as the shorter does

@@ -4,6 +4,7 @@
 use Prim.Native.Nat.{ℕ, zero, suc, _+_, _-_}
 use mathlib.Core.Bool.{Bool, cond, _&&_}
 use lib.Dec.{leb, ltb}
+use Rattle.paper.specs.declared.Refusal.the-variants.{BadTable, NoSuchDate, NoYear, NoMonth, NoDay, Outside}
 use Rattle.paper.specs.Answers.{Answer, answered, given}
 use Rattle.paper.specs.Sums.{sum}
 use Rattle.gregorian.specs.declared.Date.{Date}
@@ -40,11 +41,11 @@ dayOk c y m d = leb 1 d && leb d (c .len (y - c .first) (m - 1))
 
 -- what a question about a month answers: refusals 1, 4, 5, else the value
 abbrev pub ofMonth : {A : Type 0} → Calendar → ℕ → ℕ → Answer A → Answer A
-ofMonth c y m a = given (c .good) 1 (given (yearOk c y) 4 (given (monthOk m) 5 a))
+ofMonth c y m a = given (c .good) BadTable (given (yearOk c y) NoYear (given (monthOk m) NoMonth a))
 
 -- what a question about a date answers: refusals 1, 4, 5, 6, else the value
 abbrev pub ofDate : {A : Type 0} → Calendar → ℕ → ℕ → ℕ → A → Answer A
-ofDate c y m d x = ofMonth c y m (given (dayOk c y m d) 6 (answered x))
+ofDate c y m d x = ofMonth c y m (given (dayOk c y m d) NoDay (answered x))
 
 -- whether there is such a date: refusals 1, 4, 5, 6, else yes
 unfoldable pub validBs : Calendar → ℕ → ℕ → ℕ → Answer Unit
@@ -83,7 +84,7 @@ dateAfter c r = dateInYear c (last (yearLen c) (c .years) r) (r - sum (yearLen c
 
 -- the date of a day: refusals 1, 7
 unfoldable pub fromDay : Calendar → ℕ → Answer BsDate
-fromDay c n = given (c .good) 1 (given (leb (c .start) n && ltb n (end c)) 7 (answered (dateAfter c (n - c .start))))
+fromDay c n = given (c .good) BadTable (given (leb (c .start) n && ltb n (end c)) Outside (answered (dateAfter c (n - c .start))))
 
 -- where a day lies: a date, or so many days before the first day or after the last
 unfoldable pub placed : Calendar → ℕ → Placed
@@ -99,7 +100,7 @@ toAd c y m d = ofDate c y m d (dateOf (dayAt c (y - c .first) (m - 1) (d - 1)))
 
 -- the BS date of a Gregorian date: refusals 1, 3, 7
 unfoldable pub fromAd : Calendar → ℕ → ℕ → ℕ → Answer BsDate
-fromAd c y m d = given (c .good) 1 (given (isDate y m d) 3 (fromDay c (dayNumber (record { year = y; month = m; day = d }))))
+fromAd c y m d = given (c .good) BadTable (given (isDate y m d) NoSuchDate (fromDay c (dayNumber (record { year = y; month = m; day = d }))))
 
 -- ---- the order of BS dates: by the year, then the month, then the day, as that of Gregorian dates
 

@@ -2,6 +2,7 @@
 use Prim.Native.Nat.{ℕ, _+_, _-_, _≤_, _<_}
 use mathlib.Core.Path.{_≡_}
 use mathlib.Core.Bool.{true}
+use Rattle.paper.specs.declared.Refusal.{Refusal}
 use Rattle.paper.specs.Answers.{Answer, refused}
 use Rattle.gregorian.specs.declared.Date.{Date}
 use Rattle.gregorian.specs.Calendar.{isDate, dateOf, Earlier}
@@ -38,7 +39,7 @@ pub record TableDay (c : Calendar) (x : Date) : Type 0 where
 abbrev pub Added : Calendar → ℕ → Type 0
 Added c y = c .first + c .years ≤ y
 
--- refused exactly if P holds, and then with the number k
-pub record RefusedIf {A : Type 0} (a : Answer A) (k : ℕ) (P : Type 0) : Type 0 where
+-- refused exactly if P holds, and then with k
+pub record RefusedIf {A : Type 0} (a : Answer A) (k : Refusal) (P : Type 0) : Type 0 where
   pub when : P → a ≡ refused k
-  pub only : (j : ℕ) → a ≡ refused j → P
+  pub only : (j : Refusal) → a ≡ refused j → P

@@ -4,11 +4,11 @@ ghost use mathlib.Core.Bool.{true};
 ghost use Prim.Native.Nat.{_+_, _-_, _<_};
 ghost use Rattle.paper.specs.Sums.{sum};
 ghost use Rattle.gregorian.specs.Calendar.{dateOf};
-ghost use Rattle.gregorian.specs.Answers.{numbered};
-ghost use Rattle.conversion.specs.Calendar.{monthLen, validBs, toDay, dateInYear, placed, toAd, fromAd};
+ghost use Rattle.gregorian.specs.Answers.{numbered, numberSays, dateSays};
+ghost use Rattle.conversion.specs.Calendar.{yearOk, monthLen, validBs, toDay, dateInYear, placed, toAd, fromAd};
 ghost use Rattle.conversion.specs.Flat.{accepted, flat, lens, rowCount};
 ghost use Rattle.conversion.specs.Inner.{numberOrZero, firstNumber, InRow, PlacedIn};
-ghost use Rattle.conversion.specs.Answers.{daysSays, checkSays, daySays, monthLenSays, validSays, adSays, bsSays};
+ghost use Rattle.conversion.specs.Answers.{daysSays, validSays, bsSays};
 
 mod check;
 mod columns;
@@ -16,6 +16,7 @@ mod columns;
 use gregorian::Date;
 use gregorian::DateAnswer;
 use gregorian::NumberAnswer;
+use paper::Refusal;
 
 // What a table says besides its rows: the first BS year, and the Gregorian date of its first day.
 pub struct Table {
@@ -32,61 +33,22 @@ pub struct BsDate {
     pub day: u16,
 }
 
-// The length of a month, or refusal 4 or 5.
+// The length of a month, or a refusal.
 pub enum MonthDays {
     Days(u16),
-    NoYear,
-    NoMonth,
+    Refused(Refusal),
 }
 
-// The length of a month, or refusal 1, 4 or 5.
-pub enum MonthLen {
-    Days(u16),
-    BadTable,
-    NoYear,
-    NoMonth,
-}
-
-// Whether there is such a date: yes, or refusal 1, 4, 5 or 6.
+// Whether there is such a date: yes, or a refusal.
 pub enum Validity {
     Valid,
-    BadTable,
-    NoYear,
-    NoMonth,
-    NoDay,
+    Refused(Refusal),
 }
 
-// A Gregorian date, or refusal 1, 4, 5 or 6.
-pub enum AdAnswer {
-    Is(Date),
-    BadTable,
-    NoYear,
-    NoMonth,
-    NoDay,
-}
-
-// A BS date, or refusal 1, 3 or 7.
+// A BS date, or a refusal.
 pub enum BsAnswer {
     Is(BsDate),
-    BadTable,
-    NoSuchDate,
-    Outside,
-}
-
-// Whether there is such a date: yes, or refusal 4, 5 or 6.
-pub enum DateCheck {
-    Good,
-    NoYear,
-    NoMonth,
-    NoDay,
-}
-
-// The number of a day, or refusal 4, 5 or 6.
-pub enum DayAnswer {
-    Day(u32),
-    NoYear,
-    NoMonth,
-    NoDay,
+    Refused(Refusal),
 }
 
 // A date of the table, or how many days before its first day or after its last.
@@ -103,7 +65,7 @@ fn number_or_zero(year: u16, month: u16, day: u16) -> u32
     let date = Date { year, month, day };
     match date.day_number() {
         NumberAnswer::Number(n) => n,
-        NumberAnswer::NoSuchDate => 0,
+        NumberAnswer::Refused(_) => 0,
     }
 }
 
@@ -122,45 +84,81 @@ pub fn accepts(table: Table, rows: &[u16]) -> bool
     p.days != 0
 }
 
+// How many years the rows of a table hold.
+pub fn year_count(rows: &[u16]) -> usize
+    ensures { λ r. ⌜ r ≡ rowCount (now (rows .entry)) ⌝ }
+{
+    rows.len() / 13
+}
+
+// Column m of row i, 0 where there is none: columns 0 to 11 have the lengths of the months, column 12 their sum.
+pub fn number_at(rows: &[u16], i: usize, m: usize) -> u16
+    ensures { λ r. ⌜ r ≡ lens (now (rows .entry)) i m ⌝ }
+{
+    if year_count(rows) < i {
+        return 0;
+    }
+    let k = 13 * i;
+    if m < rows.len() - k {
+        return rows[k + m];
+    }
+    0
+}
+
+// Whether a year is one of a table.
+pub fn is_year(table: Table, rows: &[u16], year: u16) -> bool
+    ensures { λ r. ⌜ r ≡ yearOk (flat table (now (rows .entry))) year ⌝ }
+{
+    if year < table.first_year {
+        return false;
+    }
+    ((year - table.first_year) as usize) < year_count(rows)
+}
+
+// The row of a year; 0 where it is before the first.
+fn row_of(table: Table, year: u16) -> usize
+    ensures { λ r. ⌜ r ≡ year - table .«first_year» ⌝ }
+{
+    if year < table.first_year {
+        return 0;
+    }
+    (year - table.first_year) as usize
+}
+
 // The length of a month of an accepted table.
 pub fn month_days(table: Table, rows: &[u16], year: u16, month: u16) -> MonthDays
     requires { ⌜ accepted table (now rows) ≡ true ⌝ }
     ensures { λ r. ⌜ daysSays r ≡ monthLen (flat table (now (rows .entry))) year month ⌝ }
 {
-    if year < table.first_year {
-        return MonthDays::NoYear;
-    }
-    let i = (year - table.first_year) as usize;
-    if rows.len() / 13 <= i {
-        return MonthDays::NoYear;
+    if !is_year(table, rows, year) {
+        return MonthDays::Refused(Refusal::NoYear);
     }
     if month < 1 {
-        return MonthDays::NoMonth;
+        return MonthDays::Refused(Refusal::NoMonth);
     }
     if 12 < month {
-        return MonthDays::NoMonth;
+        return MonthDays::Refused(Refusal::NoMonth);
     }
-    let j = (month - 1) as usize;
-    MonthDays::Days(rows[13 * i + j])
+    let len = number_at(rows, row_of(table, year), (month - 1) as usize);
+    MonthDays::Days(len)
 }
 
 // Whether a date is one of an accepted table.
-pub fn date_check(table: Table, rows: &[u16], date: BsDate) -> DateCheck
+pub fn date_check(table: Table, rows: &[u16], date: BsDate) -> Validity
     requires { ⌜ accepted table (now rows) ≡ true ⌝ }
-    ensures { λ r. ⌜ checkSays r ≡ validBs (flat table (now (rows .entry))) (date .year) (date .month) (date .day) ⌝ }
+    ensures { λ r. ⌜ validSays r ≡ validBs (flat table (now (rows .entry))) (date .year) (date .month) (date .day) ⌝ }
 {
     let days = month_days(table, rows, date.year, date.month);
     match days {
-        MonthDays::NoYear => DateCheck::NoYear,
-        MonthDays::NoMonth => DateCheck::NoMonth,
+        MonthDays::Refused(k) => Validity::Refused(k),
         MonthDays::Days(len) => {
             if date.day < 1 {
-                return DateCheck::NoDay;
+                return Validity::Refused(Refusal::NoDay);
             }
             if len < date.day {
-                return DateCheck::NoDay;
+                return Validity::Refused(Refusal::NoDay);
             }
-            DateCheck::Good
+            Validity::Valid
         }
     }
 }
@@ -175,19 +173,17 @@ fn day_in_row(rows: &[u16], i: usize, first: u32, month: u16, day: u16) -> u32
 }
 
 // The number of a day of an accepted table.
-pub fn day_of(table: Table, rows: &[u16], date: BsDate) -> DayAnswer
+pub fn day_of(table: Table, rows: &[u16], date: BsDate) -> NumberAnswer
     requires { ⌜ accepted table (now rows) ≡ true ⌝ }
-    ensures { λ r. ⌜ daySays r ≡ toDay (flat table (now (rows .entry))) (date .year) (date .month) (date .day) ⌝ }
+    ensures { λ r. ⌜ numberSays r ≡ toDay (flat table (now (rows .entry))) (date .year) (date .month) (date .day) ⌝ }
 {
     let check = date_check(table, rows, date);
     match check {
-        DateCheck::NoYear => DayAnswer::NoYear,
-        DateCheck::NoMonth => DayAnswer::NoMonth,
-        DateCheck::NoDay => DayAnswer::NoDay,
-        DateCheck::Good => {
+        Validity::Refused(k) => NumberAnswer::Refused(k),
+        Validity::Valid => {
             let i = (date.year - table.first_year) as usize;
             let first = first_day(table) + columns::span(rows, 12, 13, i);
-            DayAnswer::Day(day_in_row(rows, i, first, date.month, date.day))
+            NumberAnswer::Number(day_in_row(rows, i, first, date.month, date.day))
         }
     }
 }
@@ -241,18 +237,13 @@ pub fn place(table: Table, rows: &[u16], n: u32) -> Placed
 }
 
 // The length of a month: refusals 1, 4, 5.
-pub fn bs_month_len(table: Table, rows: &[u16], year: u16, month: u16) -> MonthLen
-    ensures { λ r. ⌜ monthLenSays r ≡ monthLen (flat table (now (rows .entry))) year month ⌝ }
+pub fn bs_month_len(table: Table, rows: &[u16], year: u16, month: u16) -> MonthDays
+    ensures { λ r. ⌜ daysSays r ≡ monthLen (flat table (now (rows .entry))) year month ⌝ }
 {
     if !accepts(table, rows) {
-        return MonthLen::BadTable;
+        return MonthDays::Refused(Refusal::BadTable);
     }
-    let days = month_days(table, rows, year, month);
-    match days {
-        MonthDays::Days(n) => MonthLen::Days(n),
-        MonthDays::NoYear => MonthLen::NoYear,
-        MonthDays::NoMonth => MonthLen::NoMonth,
-    }
+    month_days(table, rows, year, month)
 }
 
 // Whether there is such a BS date: refusals 1, 4, 5, 6.
@@ -260,25 +251,9 @@ pub fn validate_bs_date(table: Table, rows: &[u16], date: BsDate) -> Validity
     ensures { λ r. ⌜ validSays r ≡ validBs (flat table (now (rows .entry))) (date .year) (date .month) (date .day) ⌝ }
 {
     if !accepts(table, rows) {
-        return Validity::BadTable;
+        return Validity::Refused(Refusal::BadTable);
     }
-    let check = date_check(table, rows, date);
-    match check {
-        DateCheck::Good => Validity::Valid,
-        DateCheck::NoYear => Validity::NoYear,
-        DateCheck::NoMonth => Validity::NoMonth,
-        DateCheck::NoDay => Validity::NoDay,
-    }
-}
-
-// The row of a year; 0 where it is before the first.
-fn row_of(table: Table, year: u16) -> usize
-    ensures { λ r. ⌜ r ≡ year - table .«first_year» ⌝ }
-{
-    if year < table.first_year {
-        return 0;
-    }
-    (year - table.first_year) as usize
+    date_check(table, rows, date)
 }
 
 // The date of a number that is a date's.
@@ -289,7 +264,7 @@ fn date_of(n: u32) -> Date
     let date = Date::from_day_number(n);
     match date {
         DateAnswer::Is(d) => d,
-        DateAnswer::NoSuchDate => Date {
+        DateAnswer::Refused(_) => Date {
             year: 0,
             month: 0,
             day: 0,
@@ -298,22 +273,20 @@ fn date_of(n: u32) -> Date
 }
 
 // The Gregorian date of a BS date: refusals 1, 4, 5, 6.
-pub fn bs_to_ad(table: Table, rows: &[u16], date: BsDate) -> AdAnswer
-    ensures { λ r. ⌜ adSays r ≡ toAd (flat table (now (rows .entry))) (date .year) (date .month) (date .day) ⌝ }
+pub fn bs_to_ad(table: Table, rows: &[u16], date: BsDate) -> DateAnswer
+    ensures { λ r. ⌜ dateSays r ≡ toAd (flat table (now (rows .entry))) (date .year) (date .month) (date .day) ⌝ }
 {
     let start = check::frame(table, rows.len());
     let p = check::pass_table(table, rows, start, row_of(table, date.year), 4294967295);
     if p.days == 0 {
-        return AdAnswer::BadTable;
+        return DateAnswer::Refused(Refusal::BadTable);
     }
     let check = date_check(table, rows, date);
     match check {
-        DateCheck::NoYear => AdAnswer::NoYear,
-        DateCheck::NoMonth => AdAnswer::NoMonth,
-        DateCheck::NoDay => AdAnswer::NoDay,
-        DateCheck::Good => {
+        Validity::Refused(k) => DateAnswer::Refused(k),
+        Validity::Valid => {
             let n = day_in_row(rows, p.row, start + p.before, date.month, date.day);
-            AdAnswer::Is(date_of(n))
+            DateAnswer::Is(date_of(n))
         }
     }
 }
@@ -327,15 +300,15 @@ pub fn ad_to_bs(table: Table, rows: &[u16], year: u16, month: u16, day: u16) -> 
     let offset = days_from(start, n);
     let p = check::pass_table(table, rows, start, rows.len() / 13, offset);
     if p.days == 0 {
-        return BsAnswer::BadTable;
+        return BsAnswer::Refused(Refusal::BadTable);
     }
     if n == 0 {
-        return BsAnswer::NoSuchDate;
+        return BsAnswer::Refused(Refusal::NoSuchDate);
     }
     let place = place_in(table, rows, start, n, p.row, offset - p.before);
     match place {
         Placed::Inside(d) => BsAnswer::Is(d),
-        Placed::Before(_) => BsAnswer::Outside,
-        Placed::After(_) => BsAnswer::Outside,
+        Placed::Before(_) => BsAnswer::Refused(Refusal::Outside),
+        Placed::After(_) => BsAnswer::Refused(Refusal::Outside),
     }
 }

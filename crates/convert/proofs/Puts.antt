@@ -13,7 +13,7 @@ use Rattle.text.proofs.Writes.{then, wrote-none}
 use Rattle.text.proofs.Runs.{length-run}
 use Rattle.text.proofs.Decimals.{has-fewest, places-fewest, Fewest, nought, some}
 use Rattle.convert.specs.Lines.{numberText}
-use Rattle.convert.specs.Replies.{Put, Gathered}
+use Rattle.convert.specs.Inner.{Put, Gathered}
 
 -- one text after the other
 pub on : {j k : ℕ} {l : List ℕ} {i : ℕ} {vs m : List ℕ} {p : ℕ} {ws n : List ℕ} {q : ℕ} → Put j l i vs m p → Put k m p ws n q → Put (j + k) l i (vs ++ ws) n q

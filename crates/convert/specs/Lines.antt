@@ -1,15 +1,16 @@
 -- The lines that `convert` reads: bs=Y-M-D with numbers at most 65,535 and no leading zeros, and ad=YYYY-MM-DD. Assumes nothing.
 use Prim.Native.Nat.{ℕ, zero, suc, _≤_, _<_, _^_}
 use mathlib.Core.Path.{_≡_}
-use mathlib.Core.List.{List, [], _∷_, _++_}
+use mathlib.Core.List.{List, _++_}
 use Rattle.text.specs.Digits.{run, digits, found, past}
+use Rattle.text.specs.Quoted.{bytes}
 use Rattle.text.specs.Dashed.{dash, numbers, ended}
 use Rattle.text.specs.declared.triples.Numbers.{Numbers}
 use Rattle.text.specs.declared.triples.Numbers.the-variants.{Are, Not}
 use Rattle.convert.specs.declared.line.Line.{Line}
 use Rattle.convert.specs.declared.line.Line.the-variants.{Bs, Ad, Other}
 
--- ---- three numbers with a dash (45) between them
+-- ---- three numbers with a dash between them
 
 -- a number in the fewest digits (width 0), or in so many
 abbrev pub numberText : ℕ → ℕ → List ℕ
@@ -22,12 +23,11 @@ numbersText first others y m d = numberText first y ++ ((dash ++ numberText othe
 
 -- ---- a line
 
--- bs= and ad=
 abbrev pub bsTag : List ℕ
-bsTag = 98 ∷ 115 ∷ 61 ∷ []
+bsTag = bytes "bs="
 
 abbrev pub adTag : List ℕ
-adTag = 97 ∷ 100 ∷ 61 ∷ []
+adTag = bytes "ad="
 
 abbrev pub bsLine : ℕ → ℕ → ℕ → List ℕ
 bsLine y m d = bsTag ++ numbersText 0 0 y m d

@@ -1,12 +1,9 @@
 -- What `convert` writes for a line. Assumes nothing.
-use Prim.Native.Nat.{ℕ, _+_, _≤_}
-use mathlib.Core.Path.{_≡_}
+use Prim.Native.Nat.{ℕ}
 use mathlib.Core.List.{List, [], _∷_, _++_}
-use lib.ListN.{length}
-use lib.Seq.{sets}
 use Rattle.paper.specs.Answers.{Answer, answered, refused}
 use Rattle.text.specs.Digits.{digits}
-use Rattle.text.specs.Written.{Wrote}
+use Rattle.text.specs.Quoted.{bytes}
 use Rattle.gregorian.specs.declared.Date.{Date}
 use Rattle.conversion.specs.Calendar.{Calendar, toAd, fromAd}
 use Rattle.conversion.specs.Flat.{flat}
@@ -54,13 +51,13 @@ adReply y m d = fromAdDate y m d (fromAd calendar y m d)
 -- Y-M-D or YYYY-MM-DD, by the widths, or none
 abbrev pub shownText : ℕ → ℕ → Shown → List ℕ
 shownText first others (shown.Date y m d) = numbersText first others y m d
-shownText first others shown.Nothing = 110 ∷ 111 ∷ 110 ∷ 101 ∷ []
+shownText first others shown.Nothing = bytes "none"
 
 -- bs=.., ad=.. and refusal=.., each with a line feed
 abbrev pub replyText : Reply → List ℕ
 replyText r =
-    (98 ∷ 115 ∷ 61 ∷ []) ++ (shownText 0 0 (r .bs) ++ ((10 ∷ 97 ∷ 100 ∷ 61 ∷ []) ++ (shownText 4 2 (r .ad)
-    ++ ((10 ∷ 114 ∷ 101 ∷ 102 ∷ 117 ∷ 115 ∷ 97 ∷ 108 ∷ 61 ∷ []) ++ (digits (r .refusal) ++ (10 ∷ []))))))
+    bytes "bs=" ++ (shownText 0 0 (r .bs) ++ (bytes "\nad=" ++ (shownText 4 2 (r .ad)
+    ++ (bytes "\nrefusal=" ++ (digits (r .refusal) ++ bytes "\n")))))
 
 abbrev pub lineReply : Line → List ℕ
 lineReply (Bs y m d) = replyText (bsReply y m d)
@@ -70,17 +67,3 @@ lineReply Other = []
 -- what is written for a line
 abbrev pub replyTo : List ℕ → List ℕ
 replyTo s = lineReply (lineForm s)
-
--- ---- what the writers promise
-
--- a text of at most so many bytes was written
-pub record Put (most : ℕ) (out : List ℕ) (at : ℕ) (text after : List ℕ) (next : ℕ) : Type 0 where
-  pub wrote : Wrote out at text after next
-  pub short : length text ≤ most
-
--- the whole text was stored from some place on, and the next place is right after it, in the buffer
-pub record Gathered (out text after : List ℕ) (next : ℕ) : Type 0 where
-  pub place : ℕ
-  pub stored : after ≡ sets out place text
-  pub end : next ≡ place + length text
-  pub inside : next ≤ length out

@@ -1,13 +1,14 @@
 // Reads lines bs=Y-M-D and ad=YYYY-MM-DD, and writes both dates and the refusal of each.
 ghost use Prim.Native.Nat.{_-_, _≤_};
 ghost use lib.ListN.{length};
-ghost use Rattle.convert.specs.Replies.{replyTo, Gathered};
+ghost use Rattle.convert.specs.Replies.{replyTo};
+ghost use Rattle.convert.specs.Inner.{Gathered};
 
 mod line;
 mod reply;
 
-use replay::Out;
-use replay::Turn;
+use asked::Turn;
+use output::Out;
 
 // Gathers the reply to a line, whole, where the buffer has 64 bytes or more.
 fn answer(o: Out, out: &mut [u8], s: &[u8]) -> Out
@@ -34,11 +35,11 @@ fn turn(t: Turn, piece: &mut [u8], line: &mut [u8], out: &mut [u8]) -> Turn
 {
     let o = t.out;
     let answered = answer_first(o, out, line, t.len);
-    replay::next(t, answered, piece, line, out)
+    asked::next_turn(t, answered, piece, line, out)
 }
 
 fn run(piece: &mut [u8], line: &mut [u8], out: &mut [u8]) {
-    let mut t = replay::begin(piece, line, out);
+    let mut t = asked::first_turn(piece, line, out);
     while 0 < t.left {
         t = turn(t, piece, line, out);
     }

@@ -6,12 +6,12 @@ use mathlib.Core.List.{List}
 use native.Mathlib.Omega.{arith}
 use Rattle.paper.specs.Answers.{answered, refused, given}
 use Rattle.paper.proofs.Answers.{given-answered}
-use Rattle.replay.specs.Gathered.{gathered}
-use Rattle.replay.specs.declared.output.Out.{Out}
+use Rattle.output.specs.Gathered.{gathered}
+use Rattle.output.specs.declared.Out.{Out}
 use Rattle.conversion.specs.Calendar.{Calendar, yearOk, monthLen}
 use Rattle.rules.specs.declared.Rule.{Rule}
-use Rattle.pieces.specs.Pieces.{Puts}
-use Rattle.pieces.proofs.Pieces.{then}
+use Rattle.output.specs.Pieces.{Puts}
+use Rattle.output.proofs.Pieces.{then}
 use Rattle.doubtful.specs.declared.page.Page.{Page}
 use Rattle.doubtful.specs.Tallies.{tallyOf, firstPage, countPieces}
 use Rattle.doubtful.specs.Years.{sheet, yearsPage}

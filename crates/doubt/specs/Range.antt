@@ -3,10 +3,10 @@ use Prim.Native.Nat.{ℕ, _+_, _-_}
 use mathlib.Core.List.{List, [], _∷_, _++_}
 use Rattle.text.specs.Digits.{digits}
 use Rattle.text.specs.Quoted.{bytes}
-use Rattle.replay.specs.Gathered.{Gathered}
+use Rattle.output.specs.Gathered.{Gathered}
 use Rattle.conversion.specs.Calendar.{Calendar}
 use Rattle.rules.specs.declared.Rule.{Rule}
-use Rattle.pieces.specs.Pieces.{Text, putPieces}
+use Rattle.output.specs.Pieces.{Text, putPieces}
 use Rattle.doubtful.specs.Tallies.{countPieces}
 use Rattle.doubtful.specs.Years.{Sheet, yearsPage}
 

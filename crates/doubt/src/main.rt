@@ -3,15 +3,15 @@ use conversion::MonthDays;
 use conversion::Table;
 use files::RulesRead;
 use files::TableRead;
-use replay::Out;
+use output::Out;
 use text::Whole;
 ghost use mathlib.Core.Path.{_≡_};
 ghost use mathlib.Core.Bool.{true};
 ghost use Rattle.conversion.specs.Flat.{accepted, flat};
 ghost use Rattle.conversion.specs.Calendar.{yearOk};
 ghost use Rattle.rules.specs.Rules.{rulesOf};
-ghost use Rattle.replay.specs.Gathered.{gathered};
-ghost use Rattle.pieces.specs.Pieces.{Puts};
+ghost use Rattle.output.specs.Gathered.{gathered};
+ghost use Rattle.output.specs.Pieces.{Puts};
 ghost use Rattle.doubtful.specs.Tallies.{firstPage};
 ghost use Rattle.doubtful.specs.Years.{sheet};
 ghost use Rattle.doubt.specs.Range.{rangePieces, askedPage};
@@ -37,9 +37,9 @@ fn is_year(table: Table, rows: &[u16], year: u16) -> bool
 fn put_range(o: Out, out: &mut [u8], first: u16, last: u16) -> Out
     ensures { λ r. ⌜ Puts (now (out .entry)) o (rangePieces first last) (now (out .exit)) r ⌝ }
 {
-    let a = pieces::put_labelled(o, out, b"BS ", first as u64);
-    let b = pieces::put_labelled(a, out, b" to ", last as u64);
-    pieces::put_text(b, out, b": ")
+    let a = output::put_labelled(o, out, b"BS ", first as u64);
+    let b = output::put_labelled(a, out, b" to ", last as u64);
+    output::put_text(b, out, b": ")
 }
 
 // The page over an accepted table.
@@ -116,7 +116,7 @@ fn answer(
         answer_over(table, rows, first, last, rules, names, out);
         return;
     }
-    complain(b"TABLE: refused with 1; ./spring TABLE TABLE says where it breaks a rule\n");
+    complain(b"TABLE: refused with 1; ./patro spring TABLE TABLE says where it breaks a rule\n");
 }
 
 // The same with the parts of the lent buffers that were read.

@@ -14,8 +14,8 @@ use lib.Ieee.{Float, nan, eq}
 use Rattle.paper.specs.Answers.{Answer, answered}
 use Rattle.paper.proofs.Answers.{given-answered}
 use Rattle.paper.proofs.Tests.{and-left, and-right}
-use Rattle.replay.specs.Gathered.{Gathered, gathered}
-use Rattle.replay.specs.declared.output.Out.{Out}
+use Rattle.output.specs.Gathered.{Gathered, gathered}
+use Rattle.output.specs.declared.Out.{Out}
 use Rattle.conversion.specs.declared.BsDate.{BsDate}
 use Rattle.conversion.specs.declared.MonthDays.{MonthDays}
 use Rattle.conversion.specs.declared.MonthDays.the-variants as MD
@@ -30,17 +30,17 @@ use Rattle.festivals.specs.Answers.{daysAre}
 use Rattle.festivals.specs.declared.months.Months.{Months}
 use Rattle.festivals.specs.declared.months.YearDays.{YearDays}
 use Rattle.festivals.specs.declared.months.YearDays.the-variants as YD
-use Rattle.nearness.specs.Near.{datedMoon, datedSays, nearness, nearSays}
-use Rattle.pieces.specs.Pieces.{Text, putPieces, Puts}
+use Rattle.notes.specs.Near.{datedMoon, datedSays, nearness, nearSays}
+use Rattle.output.specs.Pieces.{Text, putPieces, Puts}
 use Rattle.notes.specs.Lines.{momentPieces, openingPieces, nonePieces, rulesPieces, besidePieces}
 use Rattle.doubtful.specs.Tallies.{Tally, tallyOf, withHeading, withOut, oneMore, doubted, unopened, headingPieces}
 use Rattle.doubtful.specs.Years.{Sheet, sheet, under, nearLine, datedLine, monthLine, monthLines, opensMonth, openedAt, Opened, lengthLine, placedLine, dayLine, moonLine, moonLines, daysPage, yearPage, yearsPage, hasPlace, opensPlace}
 use Rattle.doubtful.specs.declared.page.Page.{Page}
-use Rattle.nearness.specs.declared.Dated.{Dated}
-use Rattle.nearness.specs.declared.Dated.the-variants as D
-use Rattle.nearness.specs.declared.Nearness.{Nearness}
-use Rattle.nearness.specs.declared.Nearness.the-variants as N
-use Rattle.pieces.proofs.Pieces.{then}
+use Rattle.notes.specs.declared.moons.Dated.{Dated}
+use Rattle.notes.specs.declared.moons.Dated.the-variants as D
+use Rattle.notes.specs.declared.moons.Nearness.{Nearness}
+use Rattle.notes.specs.declared.moons.Nearness.the-variants as N
+use Rattle.output.proofs.Pieces.{then}
 
 -- ---- lines under a heading
 

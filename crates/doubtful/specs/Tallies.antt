@@ -5,8 +5,8 @@ use mathlib.Core.List.{List, [], _∷_, _++_}
 use lib.Dec.{ltb}
 use Rattle.text.specs.Digits.{digits}
 use Rattle.text.specs.Quoted.{bytes}
-use Rattle.replay.specs.declared.output.Out.{Out}
-use Rattle.pieces.specs.Pieces.{Text}
+use Rattle.output.specs.declared.Out.{Out}
+use Rattle.output.specs.Pieces.{Text}
 use Rattle.doubtful.specs.declared.page.Page.{Page}
 
 -- ---- a page
@@ -77,9 +77,9 @@ headingPieces headed y = cond headed [] (bytes "BS " ∷ digits y ∷ bytes "\n"
 
 -- of new moons near a boundary
 unfoldable pub nearPieces : ℕ → ℕ → List Text
-nearPieces near first = digits near ∷ bytes " doubtful new moons, on a month's first day " ∷ digits first ∷ bytes "; " ∷ []
+nearPieces near first = digits near ∷ bytes " doubtful new moons, on a month's first day " ∷ digits first ∷ bytes "\n" ∷ []
 
--- of a page, to the line's end
+-- of a page, two lines
 unfoldable pub countPieces : Tally → List Text
 countPieces t =
     nearPieces (t .near) (t .first)

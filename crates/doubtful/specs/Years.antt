@@ -8,7 +8,7 @@ use lib.Dec.{eqb}
 use lib.ListN.{getD}
 use lib.Ieee.{Float, eq}
 use Rattle.paper.specs.Answers.{Answer, answered, refused}
-use Rattle.replay.specs.Gathered.{Gathered, gathered}
+use Rattle.output.specs.Gathered.{Gathered, gathered}
 use Rattle.conversion.specs.declared.BsDate.{BsDate}
 use Rattle.conversion.specs.Calendar.{Calendar, monthOk, monthLen}
 use Rattle.rules.specs.declared.Rule.{Rule}
@@ -17,8 +17,8 @@ use Rattle.rules.specs.Festivals.{opening}
 use Rattle.festivals.specs.Kathmandu.{moonsAround, kathmandu}
 use Rattle.festivals.specs.Months.{yearDays, monthAt}
 use Rattle.festivals.specs.declared.months.Months.{Months}
-use Rattle.nearness.specs.Near.{datedMoon, nearness}
-use Rattle.pieces.specs.Pieces.{Text, putPieces}
+use Rattle.notes.specs.Near.{datedMoon, nearness}
+use Rattle.output.specs.Pieces.{Text, putPieces}
 use Rattle.notes.specs.Lines.{momentPieces, openingPieces, nonePieces, rulesPieces, besidePieces}
 use Rattle.doubtful.specs.Tallies.{Tally, tallyOf, withHeading, doubted, unopened, headingPieces}
 use Rattle.doubtful.specs.declared.page.Page.{Page}

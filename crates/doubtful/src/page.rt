@@ -1,8 +1,8 @@
 // A page of doubtful new moons and what it counts.
-use replay::Out;
+use output::Out;
 ghost use mathlib.Core.Path.{_≡_};
 ghost use mathlib.Core.Bool.{true, false};
-ghost use Rattle.pieces.specs.Pieces.{Puts};
+ghost use Rattle.output.specs.Pieces.{Puts};
 ghost use Rattle.doubtful.specs.Tallies.{oneMore, firstPage, pageWith, withOut, tallyOf, withHeading, moreIf, doubted, headingPieces, nearPieces, countPieces};
 
 // What is written, whether the year of the lines has its heading, and how many new moons are near a boundary, of these on a month's first day; how many
@@ -78,8 +78,8 @@ pub fn head(p: Page, out: &mut [u8], year: u16) -> Page
         return p;
     }
     let o = p.out;
-    let a = pieces::put_labelled(o, out, b"BS ", year as u64);
-    written(p, pieces::put_text(a, out, b"\n"))
+    let a = output::put_labelled(o, out, b"BS ", year as u64);
+    written(p, output::put_text(a, out, b"\n"))
 }
 
 // The page with one doubtful new moon more.
@@ -115,27 +115,27 @@ pub fn unheaded(p: Page) -> Page
 fn put_near(p: Page, o: Out, out: &mut [u8]) -> Out
     ensures { λ r. ⌜ Puts (now (out .entry)) o (nearPieces (p .near) (p .first)) (now (out .exit)) r ⌝ }
 {
-    let a = pieces::put_number(o, out, p.near as u64);
-    let b = pieces::put_labelled(
+    let a = output::put_number(o, out, p.near as u64);
+    let b = output::put_labelled(
         a,
         out,
         b" doubtful new moons, on a month's first day ",
         p.first as u64,
     );
-    pieces::put_text(b, out, b"; ")
+    output::put_text(b, out, b"\n")
 }
 
-// The counts of a page, to the line's end.
+// The counts of a page, two lines.
 pub fn put_counts(p: Page, o: Out, out: &mut [u8]) -> Out
     ensures { λ r. ⌜ Puts (now (out .entry)) o (countPieces (tallyOf p)) (now (out .exit)) r ⌝ }
 {
     let a = put_near(p, o, out);
-    let b = pieces::put_labelled(a, out, b"new moons that open nothing ", p.second as u64);
-    let c = pieces::put_labelled(
+    let b = output::put_labelled(a, out, b"new moons that open nothing ", p.second as u64);
+    let c = output::put_labelled(
         b,
         out,
         b"; lunar months that nothing opens ",
         p.empty as u64,
     );
-    pieces::put_text(c, out, b"\n")
+    output::put_text(c, out, b"\n")
 }

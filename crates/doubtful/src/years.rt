@@ -8,8 +8,8 @@ use festivals::months;
 use festivals::months::Months;
 use festivals::months::YearDays;
 use gregorian::UtDay;
-use nearness::Dated;
-use nearness::Nearness;
+use notes::Dated;
+use notes::Nearness;
 ghost use mathlib.Core.Path.{_≡_};
 ghost use mathlib.Core.Bool.{true};
 ghost use Prim.Native.Nat.{_+_, _-_, _≤_};
@@ -32,7 +32,7 @@ fn put_dated(
 ) -> Page
     ensures { λ r. ⌜ sheet (now (out .exit)) r ≡ datedLine (rulesOf (now (rules .entry))) (now (names .entry)) (x .0) «n» date opens len (sheet (now (out .entry)) p) ⌝ }
 {
-    match nearness::near(x, n, date.day, len) {
+    match notes::near(x, n, date.day, len) {
         Nearness::Beside(after, minutes) => {
             let h = page::head(p, out, date.year);
             let g = h.out;
@@ -109,7 +109,7 @@ fn put_moon(
     requires { ⌜ (accepted table (now rows) ≡ true) × Opened (flat table (now rows)) year m ⌝ }
     ensures { λ r. ⌜ sheet (now (out .exit)) r ≡ moonLine (flat table (now (rows .entry))) year (rulesOf (now (rules .entry))) (now (names .entry)) (x .0) (sheet (now (out .entry)) p) ⌝ }
 {
-    let Dated::On(n, date) = nearness::date_of(table, rows, x) else {
+    let Dated::On(n, date) = notes::date_of(table, rows, x) else {
         return p;
     };
     if date.year != year {
@@ -162,7 +162,7 @@ fn put_unopened(
     }
     let h = page::head(p, out, year);
     let o = h.out;
-    let a = notes::put_none(o, out, year, month);
+    let a = notes::put_no_moon(o, out, year, month);
     let b = notes::put_month_rules(a, out, month, rules, names);
     Page {
         out: b,

@@ -1,27 +1,27 @@
--- What a day claims over Kathmandu, and the first of some days. Assumes nothing.
-use Prim.Native.Nat.{ℕ, zero, suc, _+_, _-_, _<_}
+-- What a tithi claims, and the first of some days, over any sky. Assumes nothing.
+use Prim.Native.Nat.{ℕ, zero, suc, _+_, _-_, _≤_, _<_}
 use mathlib.Core.Path.{_≡_, refl, sym, ap, _∙_}
 use mathlib.Core.Bool.{Bool, true, false, cond, _&&_}
 use mathlib.Core.Option.{Option, some, none}
 use native.Mathlib.Omega.{arith}
-use lib.Ieee.{Float, le, lt}
+use lib.Ieee.{Float}
 use Rattle.panchanga.specs.declared.Kala.{Kala}
-use Rattle.panchanga.specs.Noaa.{eventsOn}
-use Rattle.panchanga.specs.Kalas.{kalaAt, isNishita, nishitaBetween}
-use Rattle.panchanga.specs.Answers.{mapped}
+use Rattle.panchanga.specs.Kalas.{isNishita}
+use Rattle.rules.specs.Sky.{Sky}
 use Rattle.rules.specs.Days.{holds, firstFrom, nishita, claims, claimed}
-use Rattle.festivals.specs.Kathmandu.{kalaNumber, kalaOf, nightOf, kathmandu}
-use Rattle.festivals.proofs.Kalas.{named-number, nishita-is}
+use Rattle.festivals.specs.Kathmandu.{kalaNumber}
+use Rattle.festivals.proofs.Kalas.{nishita-is}
 
-pub kala-claims : (b e : Float) (k : Kala) (n : ℕ) (o : Option (Float × Float)) → isNishita k ≡ false → o ≡ eventsOn n
-    → holds (mapped (λ z. kalaAt k (z .0) (z .1)) o) (λ x. le b x && lt x e) ≡ claims kathmandu b e (kalaNumber k) n
-unfolding claims kalaOf
-kala-claims b e k n o h q = rw (nishita-is k, h, q, named-number k)
+module _ (s : Sky Float) (b e : Float) where
+  pub kala-claims : (k : Kala) (n : ℕ) (o : Option Float) → isNishita k ≡ false → o ≡ s .kalaOn (kalaNumber k) n
+      → holds o (λ x. s .notAfter b x && s .before x e) ≡ claims s b e (kalaNumber k) n
+  unfolding claims
+  kala-claims k n o h q = rw (nishita-is k, h, q)
 
-pub night-claims : (b e : Float) (n : ℕ) (o p w : Option (Float × Float)) → o ≡ eventsOn n → p ≡ eventsOn (n + 1) → w ≡ nishitaBetween o p
-    → holds w (λ z. le b (z .0) && le (z .1) e) ≡ claims kathmandu b e nishita n
-unfolding claims nightOf
-night-claims b e n o p w h q r = rw (r, h, q)
+  pub night-claims : (n : ℕ) (o : Option (Float × Float)) → o ≡ s .nishitaOn n
+      → holds o (λ w. s .notAfter b (w .0) && s .notAfter (w .1) e) ≡ claims s b e nishita n
+  unfolding claims
+  night-claims n o q = rw q
 
 -- ---- the first of some days
 
@@ -40,13 +40,17 @@ unfolding firstFrom
 from-none p n k t e q = rw e at q
 
 -- a turn of the loop over them
-module _ (p : ℕ → Bool) (n k : ℕ) (h : 0 < k) (t : Option ℕ) (b : Bool) (e : b ≡ p n) (q : firstFrom p n k ≡ t) where
+module _ (p : ℕ → Bool) (n k : ℕ) (t : Option ℕ) (q : firstFrom p n k ≡ t) (h : 0 < k) (b : Bool) (e : b ≡ p n) where
   pub from-hit : b ≡ true → some n ≡ t
   from-hit y = sym (from-step p n k h ∙ ap (λ (z : Bool). cond z (some n) (firstFrom p (n + 1) (k - 1))) (sym e ∙ y)) ∙ q
 
   pub from-miss : b ≡ false → firstFrom p (n + 1) (k - 1) ≡ t
   from-miss y = sym (from-step p n k h ∙ ap (λ (z : Bool). cond z (some n) (firstFrom p (n + 1) (k - 1))) (sym e ∙ y)) ∙ q
 
-pub claimed-is : (b e : Float) (k n : ℕ) → firstFrom (claims kathmandu b e k) (n - 1) 4 ≡ claimed kathmandu b e k n
+-- of the four days from the one before `begin`, so many are left from day n on, and they give the answer
+abbrev pub Left : {I : Type 0} → Sky I → I → I → ℕ → ℕ → ℕ → ℕ → Type 0
+Left s b e k begin n left = (n + left ≤ begin + 3) × (firstFrom (claims s b e k) n left ≡ claimed s b e k begin)
+
+pub claimed-is : {I : Type 0} (s : Sky I) (b e : I) (k n : ℕ) → firstFrom (claims s b e k) (n - 1) 4 ≡ claimed s b e k n
 unfolding claimed
-claimed-is b e k n = refl
+claimed-is s b e k n = refl

@@ -1,15 +1,19 @@
 -- The kalas by their numbers. Assumes nothing.
-use Prim.Native.Nat.{ℕ, zero, suc, _≤_}
+use Prim.Native.Nat.{ℕ, zero, suc, _+_, _≤_}
 use mathlib.Core.Path.{_≡_, refl, sym, ap, _∙_}
 use mathlib.Core.Bool.{Bool}
+use mathlib.Core.Option.{Option}
 use native.Mathlib.Omega.{arith}
 use lib.Dec.{eqb}
+use lib.Ieee.{Float}
 use Rattle.panchanga.specs.declared.Kala.{Kala}
 use Rattle.panchanga.specs.declared.Kala.the-variants.{Udaya, Madhyanna, Aparahna, Pradosh, Nishita, Begins}
-use Rattle.panchanga.specs.Kalas.{isNishita}
+use Rattle.panchanga.specs.Noaa.{eventsOn}
+use Rattle.panchanga.specs.Kalas.{kalaAt, isNishita, nishitaBetween}
+use Rattle.panchanga.specs.Answers.{mapped}
 use Rattle.rules.specs.Sky.{Sky}
 use Rattle.rules.specs.Days.{begins, rank, askedDay}
-use Rattle.festivals.specs.Kathmandu.{kalaNumber, kalaNamed, isBegins}
+use Rattle.festivals.specs.Kathmandu.{kalaNumber, kalaNamed, isBegins, kalaOf, nightOf}
 
 pub named-number : (k : Kala) → kalaNamed (kalaNumber k) ≡ k
 named-number Udaya = refl
@@ -60,3 +64,12 @@ begins-named k n b h e q = ap (λ (z : ℕ). eqb z begins) (sym (number-named k 
 -- the question in the words of the number
 pub asked-named : {I : Type 0} (s : Sky I) (k : ℕ) (n : Kala) (b e : I) (d : ℕ) → k ≤ 5 → n ≡ kalaNamed k → askedDay s (rank (kalaNumber n)) b e (kalaNumber n) d ≡ askedDay s (rank k) b e k d
 asked-named s k n b e d h q = ap (λ (z : ℕ). askedDay s (rank z) b e z d) (ap kalaNumber q ∙ number-named k h)
+
+-- ---- the instants of a day, by the sun's events
+pub kala-on : (k : Kala) (n : ℕ) (o : Option (Float × Float)) → o ≡ eventsOn n → mapped (λ z. kalaAt k (z .0) (z .1)) o ≡ kalaOf (kalaNumber k) n
+unfolding kalaOf
+kala-on k n o q = rw (q, named-number k)
+
+pub night-on : (n : ℕ) (o p w : Option (Float × Float)) → o ≡ eventsOn n → p ≡ eventsOn (n + 1) → w ≡ nishitaBetween o p → w ≡ nightOf n
+unfolding nightOf
+night-on n o p w h q r = rw (r, h, q)

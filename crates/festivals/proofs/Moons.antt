@@ -31,9 +31,16 @@ module _ (s : Sky Float) (c : Calendar) (y : ℕ) where
   placed-none l n m = rw (slice-empty n l)
 
   -- a turn of the loop
-  pub turn : (l : List Float) (i n : ℕ) → i < n → n ≤ length l → (m m′ t : Months) → m′ ≡ place s c y m (getD l i nan) → placed s c y (slice i n l) m ≡ t → placed s c y (slice (i + 1) n l) m′ ≡ t
+  turn : (l : List Float) (i n : ℕ) → i < n → n ≤ length l → (m m′ t : Months) → m′ ≡ place s c y m (getD l i nan) → placed s c y (slice i n l) m ≡ t → placed s c y (slice (i + 1) n l) m′ ≡ t
   unfolding placed
   turn l i n h k m m′ t e q = rw (add-one, e) (rw (slice-cons i n l nan h k) at q)
+
+  -- after i of the n new moons the months stand placed: the rest of them leads to the whole
+  abbrev pub Stands : List Float → ℕ → Months → Months → ℕ → Type 0
+  Stands found n m₀ m i = (i ≤ n) × (placed s c y (slice i n found) m ≡ placed s c y (take n found) m₀)
+
+  pub stands-turn : (found : List Float) (n : ℕ) (m₀ m m′ : Months) (i : ℕ) → i < n → n ≤ length found → m′ ≡ place s c y m (getD found i nan) → Stands found n m₀ m i → Stands found n m₀ m′ (i + 1)
+  stands-turn found n m₀ m m′ i h k e v = (omega arith, turn found i n h k m m′ _ e (v .1))
 
   module _ (m : Months) (x : Float) where
     -- no day, a day outside the table, a day of another year, a day of the year
@@ -56,9 +63,9 @@ module _ (s : Sky Float) (c : Calendar) (y : ℕ) where
         place-in z = rw (← e, f, eq-eqb (t .year) y z)
 
 -- ---- what the places hold
-pub record Twelve (m : Months) : Type 0 where
-  pub moons : length (m .moon) ≡ 12
-  pub marks : length (m .has) ≡ 12
+record Twelve (m : Months) : Type 0 where
+  moons : length (m .moon) ≡ 12
+  marks : length (m .has) ≡ 12
 
 put-twelve : (m : Months) (j : ℕ) (x : Float) → Twelve m → Twelve (put m j x)
 unfolding put
@@ -109,18 +116,23 @@ unfolding placeDay
 day-twelve m x c y none w = w
 day-twelve m x c y (some n) w = date-twelve m x y (fromDay c n) w
 
+none-yet : (m : Months) → m .has ≡ replicate 12 false → (j : ℕ) → j < 12 → monthAt m j ≡ none
+unfolding monthAt
+none-yet m e j h = rw (e, getD-replicate 12 j false false h)
+
 module _ (s : Sky Float) (c : Calendar) (y : ℕ) (j : ℕ) (h : j < 12) where
   -- place j holds the last that lies in month j + 1
-  pub placed-reads : (xs : List Float) (m : Months) → Twelve m → monthAt (placed s c y xs m) j ≡ lastOf (inMonth s c y (j + 1)) (monthAt m j) xs
+  placed-reads : (xs : List Float) (m : Months) → Twelve m → monthAt (placed s c y xs m) j ≡ lastOf (inMonth s c y (j + 1)) (monthAt m j) xs
   unfolding placed place lastOf inMonth
   placed-reads [] m w = refl
   placed-reads (x ∷ xs) m w =
       placed-reads xs (placeDay c y m x (s .dayOf x)) (day-twelve m x c y (s .dayOf x) w)
       ∙ ap (λ o. lastOf (inMonth s c y (j + 1)) o xs) (day-reads m x w j h c y (s .dayOf x))
 
-pub none-yet : (m : Months) → m .has ≡ replicate 12 false → (j : ℕ) → j < 12 → monthAt m j ≡ none
-unfolding monthAt
-none-yet m e j h = rw (e, getD-replicate 12 j false false h)
+  -- from no new moon on
+  pub placed-first : (xs : List Float) (m : Months) → length (m .moon) ≡ 12 → m .has ≡ replicate 12 false → monthAt (placed s c y xs m) j ≡ lastOf (inMonth s c y (j + 1)) none xs
+  placed-first xs m l e =
+      placed-reads xs m (record { moons = l; marks = ap length e }) ∙ ap (λ o. lastOf (inMonth s c y (j + 1)) o xs) (none-yet m e j h)
 
 -- ---- the new moons that a walk wrote to the front of a list of 1,024 places
 pub moons-front : (a b : Float) (d x : List Float) (n : ℕ) → n ≡ length (startsOf 1 a b .starts) → x ≡ startsOf 1 a b .starts ++ drop n d → length d ≡ 1024

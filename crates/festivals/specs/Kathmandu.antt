@@ -14,7 +14,13 @@ use Rattle.panchanga.specs.declared.Kala.the-variants.{Udaya, Madhyanna, Aparah
 use Rattle.panchanga.specs.Noaa.{zeroOf, eventsOn}
 use Rattle.panchanga.specs.Kalas.{kalaAt, nishitaBetween}
 use Rattle.panchanga.specs.Answers.{mapped}
+use Rattle.conversion.specs.declared.BsDate.{BsDate}
+use Rattle.conversion.specs.Calendar.{Calendar}
+use Rattle.rules.specs.declared.Rule.{Rule}
+use Rattle.rules.specs.declared.lists.Years.{Years}
 use Rattle.rules.specs.Sky.{Sky}
+use Rattle.rules.specs.Festivals.{Pair, opening, dayList}
+use Rattle.rules.specs.Resolved.{resolved, yearsFor}
 
 -- ---- the kalas by their numbers
 
@@ -85,3 +91,21 @@ kathmandu =
       notAfter = le;
       before = lt;
     }
+
+-- ---- festivals under this sky, by a calendar and rules
+
+-- the new moon that opens lunar month m of year y
+abbrev pub openingIn : Calendar → ℕ → ℕ → Option Float
+openingIn c y m = opening kathmandu c y m
+
+-- the computed entries of year y
+abbrev pub resolvedYear : Calendar → List Rule → ℕ → List ℕ
+resolvedYear c rs y = resolved kathmandu c y rs
+
+-- the two years that the lists of month m of year y come from
+abbrev pub yearsIn : Calendar → List Rule → ℕ → ℕ → Years
+yearsIn c rs y m = yearsFor kathmandu c rs y m
+
+-- the list of day number n, whose BS date is t
+abbrev pub dayListOf : Calendar → List Rule → BsDate → ℕ → List Pair
+dayListOf c rs t n = dayList kathmandu c rs t n

@@ -22,7 +22,7 @@ ghost use Rattle.festivals.specs.Kathmandu.{kalaNumber, kalaNamed, isBeg
 ghost use Rattle.festivals.specs.Answers.{dayIs};
 
 // The day in Nepal at an instant.
-pub fn day_of(instant: UtDay) -> DayFound
+pub fn nepal_day(instant: UtDay) -> DayFound
     ensures { λ r. ⌜ dayIs r ≡ nepalDay (instant .0) ⌝ }
 {
     let date = npt_date(instant);
@@ -183,7 +183,7 @@ pub fn festival_date(tithi: u16, kala: u16, start: UtDay) -> DayFound
     requires { ⌜ (tithi ≤ 30) × (kala ≤ 5) ⌝ }
     ensures { λ r. ⌜ dayIs r ≡ festivalDay kathmandu tithi kala (start .0) ⌝ }
 {
-    let DayFound::Day(begin) = day_of(start) else {
+    let DayFound::Day(begin) = nepal_day(start) else {
         return DayFound::Nothing;
     };
     let named = kala_named(kala);

@@ -18,9 +18,9 @@ ghost use Rattle.paper.specs.Answers.{answered};
 ghost use Rattle.gregorian.specs.Answers.{numbered};
 ghost use Rattle.conversion.specs.Flat.{accepted, flat};
 ghost use Rattle.rules.specs.Rules.{rulesOf, acceptedRules};
-ghost use Rattle.rules.specs.Festivals.{dayList, listed};
+ghost use Rattle.rules.specs.Festivals.{listed};
 ghost use Rattle.rules.specs.Resolved.{dayNumbered};
-ghost use Rattle.festivals.specs.Kathmandu.{kathmandu};
+ghost use Rattle.festivals.specs.Kathmandu.{dayListOf};
 ghost use Rattle.festivals.specs.Answers.{listSays, onBs, onAd};
 
 // A day by its number, or nothing.
@@ -72,18 +72,17 @@ fn list_day(
     out: &mut [u16],
 ) -> ListAnswer
     requires { ⌜ (accepted table (now rows) ≡ true) × (acceptedRules (now rules) ≡ true) × (numbered number ≡ true) ⌝ }
-    ensures { λ r. ⌜ listSays r ≡ listed (answered (dayList kathmandu (flat table (now (rows .entry))) (rulesOf (now (rules .entry))) bs number)) (now (out .entry)) .answer ⌝ }
-    ensures { λ r. ⌜ now (out .exit) ≡ listed (answered (dayList kathmandu (flat table (now (rows .entry))) (rulesOf (now (rules .entry))) bs number)) (now (out .entry)) .buffer ⌝ }
+    ensures { λ r. ⌜ listSays r ≡ listed (answered (dayListOf (flat table (now (rows .entry))) (rulesOf (now (rules .entry))) bs number)) (now (out .entry)) .answer ⌝ }
+    ensures { λ r. ⌜ now (out .exit) ≡ listed (answered (dayListOf (flat table (now (rows .entry))) (rulesOf (now (rules .entry))) bs number)) (now (out .entry)) .buffer ⌝ }
 {
     let day = day_numbered(bs, number);
-    let before = years::resolve_before(table, rows, rules, bs);
-    let this = years::resolve_year(table, rows, rules, bs.year);
+    let years = years::years_for(table, rows, rules, bs.year, bs.month);
     let mut none = [0u16; 1];
-    let n = lists::put_day(rules, day, before, this, &mut none, 0);
+    let n = lists::put_day_list(rules, day, years, &mut none, 0);
     if out.len() < n * 2 {
         return ListAnswer::NoRoom;
     }
-    ListAnswer::Count(lists::put_day(rules, day, before, this, out, 0))
+    ListAnswer::Count(lists::put_day_list(rules, day, years, out, 0))
 }
 
 // The festivals of a BS date, as name, holiday. Refusals 1, 2, 4, 5, 6, 9.

@@ -1,6 +1,6 @@
 // The lunar months of a BS year.
 use super::DayFound;
-use super::days::day_of;
+use super::days::nepal_day;
 use conversion::BsDate;
 use conversion::DayAnswer;
 use conversion::MonthDays;
@@ -14,8 +14,8 @@ ghost use mathlib.Core.Option.{none};
 ghost use Prim.Native.Nat.{ℕ, _+_, _≤_, _<_};
 ghost use lib.ListN.{length, take};
 ghost use Rattle.conversion.specs.Flat.{accepted, flat};
-ghost use Rattle.rules.specs.Festivals.{lastOf, inMonth, opening};
-ghost use Rattle.festivals.specs.Kathmandu.{moonsAround, kathmandu};
+ghost use Rattle.rules.specs.Festivals.{lastOf, inMonth};
+ghost use Rattle.festivals.specs.Kathmandu.{moonsAround, kathmandu, openingIn};
 ghost use Rattle.festivals.specs.Months.{yearDays, monthAt};
 ghost use Rattle.festivals.specs.Answers.{daysAre};
 
@@ -70,8 +70,9 @@ pub fn new_moons(first: u32, last: u32, found: &mut [f64; 1024]) -> usize
     walked.count
 }
 
-// The last of the first n new moons in each month of a year: a new moon whose day is outside the table or in another year opens none.
-fn place_moons(table: Table, rows: &[u16], year: u16, found: &[f64; 1024], n: usize) -> Months
+// The lunar months of a year by the first n of its new moons found: the last in each month opens it. A new moon whose day is outside the table or in
+// another year opens none.
+pub fn months_of(table: Table, rows: &[u16], year: u16, found: &[f64; 1024], n: usize) -> Months
     requires { ⌜ (accepted table (now rows) ≡ true) × (n ≤ 1024) × (length (now found) ≡ 1024) ⌝ }
     ensures { λ r. ⌜ ((j : ℕ) → j < 12 → monthAt r j ≡ lastOf (inMonth kathmandu (flat table (now (rows .entry))) year (j + 1)) none (take n (now (found .entry)))) ⌝ }
 {
@@ -83,7 +84,7 @@ fn place_moons(table: Table, rows: &[u16], year: u16, found: &[f64; 1024], n: us
     while i < n {
         let x = found[i];
         i += 1;
-        let DayFound::Day(k) = day_of(UtDay(x)) else {
+        let DayFound::Day(k) = nepal_day(UtDay(x)) else {
             continue;
         };
         let Placed::Inside(date) = conversion::place(table, rows, k) else {
@@ -102,12 +103,12 @@ fn place_moons(table: Table, rows: &[u16], year: u16, found: &[f64; 1024], n: us
 // The lunar months of a year; a year not in the table has none.
 pub fn lunar_months(table: Table, rows: &[u16], year: u16) -> Months
     requires { ⌜ accepted table (now rows) ≡ true ⌝ }
-    ensures { λ r. ⌜ ((j : ℕ) → j < 12 → monthAt r j ≡ opening kathmandu (flat table (now (rows .entry))) year (j + 1)) ⌝ }
+    ensures { λ r. ⌜ ((j : ℕ) → j < 12 → monthAt r j ≡ openingIn (flat table (now (rows .entry))) year (j + 1)) ⌝ }
 {
     let mut found = [0.0; 1024];
     let YearDays::Days(first, last) = year_days(table, rows, year) else {
-        return place_moons(table, rows, year, &found, 0);
+        return months_of(table, rows, year, &found, 0);
     };
     let n = new_moons(first, last, &mut found);
-    place_moons(table, rows, year, &found, n)
+    months_of(table, rows, year, &found, n)
 }

@@ -3,24 +3,22 @@ use super::DayFound;
 use super::days::festival_date;
 use super::months::Months;
 use super::months::lunar_months;
-use conversion::BsDate;
 use conversion::Placed;
 use conversion::Table;
 use gregorian::UtDay;
 use rules::Rule;
 use rules::lists::Resolved;
+use rules::lists::Years;
 use sky::search;
 use sky::search::FirstStart;
 ghost use mathlib.Core.Path.{_≡_};
 ghost use mathlib.Core.Bool.{true};
 ghost use Prim.Native.Nat.{_-_};
-ghost use lib.Dec.{leb};
 ghost use Rattle.sky.specs.Answers.{firstSays};
 ghost use Rattle.conversion.specs.Flat.{accepted, flat};
 ghost use Rattle.rules.specs.Rules.{ruleGood, rulesOf, acceptedRules};
 ghost use Rattle.rules.specs.Festivals.{beginning};
-ghost use Rattle.rules.specs.Resolved.{resolved};
-ghost use Rattle.festivals.specs.Kathmandu.{kathmandu};
+ghost use Rattle.festivals.specs.Kathmandu.{kathmandu, resolvedYear, yearsIn};
 ghost use Rattle.festivals.specs.Months.{monthAt, dayBy};
 ghost use Rattle.festivals.specs.Answers.{dayIs};
 
@@ -54,7 +52,7 @@ fn rule_day(months: Months, r: Rule) -> DayFound
 // The computed entries of a year. A rule whose day is outside the table gives nothing; the others go on.
 pub fn resolve_year(table: Table, rows: &[u16], rules: &[u16], year: u16) -> Resolved
     requires { ⌜ (accepted table (now rows) ≡ true) × (acceptedRules (now rules) ≡ true) ⌝ }
-    ensures { λ r. ⌜ r .days ≡ resolved kathmandu (flat table (now (rows .entry))) year (rulesOf (now (rules .entry))) ⌝ }
+    ensures { λ r. ⌜ r .days ≡ resolvedYear (flat table (now (rows .entry))) (rulesOf (now (rules .entry))) year ⌝ }
 {
     let months = lunar_months(table, rows, year);
     let mut out = Resolved { days: [0; 64] };
@@ -86,13 +84,23 @@ fn year_before(year: u16) -> u16
     if 0 < year { year - 1 } else { 0 }
 }
 
-// The computed entries of the year before a day's own, which is asked in months 1 and 2 only.
-pub fn resolve_before(table: Table, rows: &[u16], rules: &[u16], bs: BsDate) -> Resolved
+// The computed entries of the year before, which is asked in months 1 and 2 only: past them all places are 0.
+fn resolve_before(table: Table, rows: &[u16], rules: &[u16], year: u16, month: u16) -> Resolved
     requires { ⌜ (accepted table (now rows) ≡ true) × (acceptedRules (now rules) ≡ true) ⌝ }
-    ensures { λ r. ⌜ (leb (bs .month) 2 ≡ true → r .days ≡ resolved kathmandu (flat table (now (rows .entry))) (bs .year - 1) (rulesOf (now (rules .entry)))) ⌝ }
+    ensures { λ r. ⌜ r ≡ yearsIn (flat table (now (rows .entry))) (rulesOf (now (rules .entry))) year month .before ⌝ }
 {
-    if 2 < bs.month {
+    if 2 < month {
         return Resolved { days: [0; 64] };
     }
-    resolve_year(table, rows, rules, year_before(bs.year))
+    resolve_year(table, rows, rules, year_before(year))
+}
+
+// The two years that the lists of a month come from, each resolved once.
+pub fn years_for(table: Table, rows: &[u16], rules: &[u16], year: u16, month: u16) -> Years
+    requires { ⌜ (accepted table (now rows) ≡ true) × (acceptedRules (now rules) ≡ true) ⌝ }
+    ensures { λ r. ⌜ r ≡ yearsIn (flat table (now (rows .entry))) (rulesOf (now (rules .entry))) year month ⌝ }
+{
+    let before = resolve_before(table, rows, rules, year, month);
+    let this = resolve_year(table, rows, rules, year);
+    Years { before, this }
 }

@@ -1,11 +1,12 @@
 // Gregorian dates from 1900-01-01 to 2149-12-31.
 ghost use mathlib.Core.Path.{_≡_};
-ghost use Prim.Native.Nat.{_+_, _-_, _*_, _<_, _≤_};
+ghost use Prim.Native.Nat.{_+_, _<_, _≤_};
 ghost use lib.Dec.{T};
-ghost use Rattle.paper.specs.Floats.{near, floorOf};
-ghost use Rattle.gregorian.specs.Calendar.{leap, monthLength, monthStart, yearStart, yearLength, firstNumber, allDays, isDate, dayNumber, dateAfter};
-ghost use Rattle.gregorian.specs.Instants.{instant, julianSays, julianAnswer, nptSays, nptAnswer, localDay};
+ghost use Rattle.paper.specs.Floats.{floorOf};
+ghost use Rattle.gregorian.specs.Calendar.{leap, monthLength, monthStart, yearStart, yearLength, allDays, isDate, dayNumber, weekdayOf, dateAfter};
+ghost use Rattle.gregorian.specs.Instants.{instant, zeroOf, julianSays, julianAnswer, nptAnswer, localDay};
 ghost use Rattle.gregorian.specs.Answers.{dateSays, numberSays, newDate, numberAnswer, weekdayAnswer, nextAnswer, dateAnswer};
+use paper::Refusal;
 
 // A date as three numbers. A record that is no date is refused by every call, with 3.
 pub struct Date {
@@ -14,37 +15,29 @@ pub struct Date {
     pub day: u16,
 }
 
-// A date, or refusal 3.
+// A date, or a refusal.
 pub enum DateAnswer {
     Is(Date),
-    NoSuchDate,
+    Refused(Refusal),
 }
 
-// A number, or refusal 3.
+// The number of a day or of a weekday, or a refusal.
 pub enum NumberAnswer {
     Number(u32),
-    NoSuchDate,
+    Refused(Refusal),
 }
 
 // A Julian day of universal time.
 pub struct UtDay(pub f64);
 
-// An instant, or refusal 3 or 8.
+// An instant, or a refusal.
 pub enum JulianAnswer {
     At(UtDay),
-    NoSuchDate,
-    OutOfRange,
-}
-
-// A date, or refusal 3 or 8.
-pub enum NptAnswer {
-    Is(Date),
-    NoSuchDate,
-    OutOfRange,
+    Refused(Refusal),
 }
 
 // Nepal time, 5 hours and 45 minutes east, as a fraction of a day.
-const NPT_OFFSET: f64 = 5.75 / 24.0;
+pub const NPT_OFFSET: f64 = 5.75 / 24.0;
 
 // The lengths of the months of a common year.
 const LENGTHS: [u16; 13] = [0, 31, 28, 31, 30, 31, 30, 31, 31, 30, 31, 30, 31];
@@ -140,6 +133,13 @@ fn number(y: u16, m: u16, d: u16) -> u32
     2415021 + years + months + ((d - 1) as u32)
 }
 
+// The day of the week of a day number, 0 for Sunday.
+pub fn weekday_of(n: u32) -> u32
+    ensures { λ r. ⌜ r ≡ weekdayOf n ⌝ }
+{
+    (n % 7 + 1) % 7
+}
+
 // The year, counted from 1900, that holds the day n, counted from 1 January 1900.
 fn year_of(n: u32) -> u32
     requires { ⌜ n < allDays ⌝ }
@@ -190,7 +190,7 @@ impl Date {
         if is_date(year, month, day) {
             DateAnswer::Is(Date { year, month, day })
         } else {
-            DateAnswer::NoSuchDate
+            DateAnswer::Refused(Refusal::NoSuchDate)
         }
     }
 
@@ -201,7 +201,7 @@ impl Date {
         if is_date(self.year, self.month, self.day) {
             NumberAnswer::Number(number(self.year, self.month, self.day))
         } else {
-            NumberAnswer::NoSuchDate
+            NumberAnswer::Refused(Refusal::NoSuchDate)
         }
     }
 
@@ -210,9 +210,9 @@ impl Date {
         ensures { λ r. ⌜ numberSays r ≡ weekdayAnswer self ⌝ }
     {
         if is_date(self.year, self.month, self.day) {
-            NumberAnswer::Number((number(self.year, self.month, self.day) + 1) % 7)
+            NumberAnswer::Number(weekday_of(number(self.year, self.month, self.day)))
         } else {
-            NumberAnswer::NoSuchDate
+            NumberAnswer::Refused(Refusal::NoSuchDate)
         }
     }
 
@@ -246,7 +246,7 @@ impl Date {
                 });
             }
         }
-        DateAnswer::NoSuchDate
+        DateAnswer::Refused(Refusal::NoSuchDate)
     }
 
     // The date of a day number.
@@ -254,10 +254,10 @@ impl Date {
         ensures { λ r. ⌜ dateSays r ≡ dateAnswer n ⌝ }
     {
         if n < 2415021 {
-            return DateAnswer::NoSuchDate;
+            return DateAnswer::Refused(Refusal::NoSuchDate);
         }
         if 2506332 <= n {
-            return DateAnswer::NoSuchDate;
+            return DateAnswer::Refused(Refusal::NoSuchDate);
         }
         DateAnswer::Is(date_after(n - 2415021))
     }
@@ -273,12 +273,11 @@ pub fn is_instant(x: f64) -> bool
     false
 }
 
-// The Julian day at 0h of the date whose number is n: half a day before, exactly.
-fn zero_hour(n: u32) -> f64
-    requires { ⌜ (firstNumber ≤ n) × (n < firstNumber + allDays) ⌝ }
-    ensures { λ r. ⌜ r ≡ near (2 * n - 1) 2 ⌝ }
+// 0h of the day whose number is n, as a Julian day: half a day before its noon.
+pub fn zero_hour(n: u32) -> f64
+    ensures { λ r. ⌜ r ≡ zeroOf n ⌝ }
 {
-    ((n - 1) as f64) + 0.5
+    n as f64 - 0.5
 }
 
 // The Julian day of a date at a fraction of the day.
@@ -290,9 +289,16 @@ pub fn julian_day(date: Date, fraction: f64) -> JulianAnswer
         if is_instant(t) {
             return JulianAnswer::At(UtDay(t));
         }
-        return JulianAnswer::OutOfRange;
+        return JulianAnswer::Refused(Refusal::OutOfRange);
     }
-    JulianAnswer::NoSuchDate
+    JulianAnswer::Refused(Refusal::NoSuchDate)
+}
+
+// The local day in Nepal of an instant: its whole part is the number of the date there, and its fraction the part of that date gone by.
+pub fn local_day(x: f64) -> f64
+    ensures { λ r. ⌜ r ≡ localDay x ⌝ }
+{
+    x + NPT_OFFSET + 0.5
 }
 
 // The whole local day of an instant.
@@ -300,21 +306,16 @@ fn whole_day(x: f64) -> u32
     requires { ⌜ T (instant x) ⌝ }
     ensures { λ r. ⌜ r ≡ floorOf (localDay x) ⌝ }
 {
-    std::num::truncating_f64_to_u64(x + NPT_OFFSET + 0.5) as u32
+    std::num::truncating_f64_to_u64(local_day(x)) as u32
 }
 
 // The date in Nepal at an instant.
-pub fn npt_date(instant: UtDay) -> NptAnswer
-    ensures { λ r. ⌜ nptSays r ≡ nptAnswer (instant .0) ⌝ }
+pub fn npt_date(instant: UtDay) -> DateAnswer
+    ensures { λ r. ⌜ dateSays r ≡ nptAnswer (instant .0) ⌝ }
 {
     let x = instant.0;
     if is_instant(x) {
-        let a = Date::from_day_number(whole_day(x));
-        match a {
-            DateAnswer::Is(d) => NptAnswer::Is(d),
-            DateAnswer::NoSuchDate => NptAnswer::NoSuchDate,
-        }
-    } else {
-        NptAnswer::OutOfRange
+        return Date::from_day_number(whole_day(x));
     }
+    DateAnswer::Refused(Refusal::OutOfRange)
 }

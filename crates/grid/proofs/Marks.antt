@@ -12,7 +12,7 @@ use Rattle.rules.specs.declared.lists.Day.{Day}
 use Rattle.rules.specs.Festivals.{Pair, numbers}
 use Rattle.rules.proofs.Listed.{numbers-length}
 use Rattle.panchanga.specs.declared.lunar.Reading.{Reading}
-use Rattle.grid.specs.Cells.{anyHoliday, cellWith, dayCell}
+use Rattle.grid.specs.Cells.{anyHoliday, holidayOf, cellWith, dayCell}
 use Rattle.grid.specs.Inner.{anyMark}
 
 mark-suc : (xs : List ℕ) (i k : ℕ) → anyMark xs i (suc k) ≡ (eqb (getD xs (i * 2 + 1) 0) 1 || anyMark xs (i + 1) k)
@@ -58,7 +58,7 @@ shown l xs ys i e p q h =
     (n, rw (n, p) (stored-marks l xs i (omega (arith, numbers-length l))))
 
 -- a day's cell from what was told of its list
-pub cell-of : (today : Date) (q : Day) (l : List Pair) (r v : Reading) (n : ℕ) (h : Bool) → n ≡ length l → h ≡ anyHoliday l → v ≡ r → cellWith today q n h v ≡ dayCell today q l r
+pub cell-of : (today : Date) (q : Day) (l : List Pair) (r v : Reading) (n : ℕ) (h : Bool) → n ≡ length l → h ≡ holidayOf (q .number) l → v ≡ r → cellWith today q n h v ≡ dayCell today q l r
 cell-of today q l r v n h a b e = rw (a, b, e)
 
 pub cell-length : (today : Date) (q : Day) (n : ℕ) (h : Bool) (r : Reading) → length (cellWith today q n h r) ≡ 12

@@ -4,7 +4,6 @@ use mathlib.Core.Path.{_≡_, sym, _∙_}
 use mathlib.Core.Bool.{true}
 use mathlib.Core.List.{List}
 use native.Mathlib.Omega.{arith}
-use lib.Dec.{leb}
 use Rattle.paper.specs.Answers.{answered, refused}
 use Rattle.paper.proofs.Answers.{answered-same, refused-answered}
 use Rattle.conversion.specs.declared.Table.{Table}
@@ -15,10 +14,9 @@ use Rattle.conversion.proofs.Accepted.{facts}
 use Rattle.conversion.proofs.Rows.{row-lens}
 use Rattle.conversion.proofs.Days.{len-told, converts}
 use Rattle.rules.specs.Rules.{rulesOf, acceptedRules}
-use Rattle.rules.specs.Resolved.{resolved}
 use Rattle.rules.proofs.Accepted.{good-rules}
 use Rattle.rules.proofs.Used.{two-years}
-use Rattle.festivals.specs.Kathmandu.{kathmandu}
+use Rattle.festivals.specs.Kathmandu.{yearsIn}
 use Rattle.grid.specs.declared.page.Plan.{Plan}
 use Rattle.grid.specs.Kathmandu.{readingOn, listUnder, gridUnder}
 use Rattle.grid.specs.Inner.{Planned, listFor, gridBy}
@@ -55,12 +53,10 @@ module _ (t : Table) (rows : List ℕ) (e : accepted t rows ≡ true) (y m n : �
         let r = in-range t rows e y m n (k .0) (k .1) in
         record { some = omega (arith, r .some); few = omega (arith, r .few); from = omega (arith, r .from); to = omega (arith, r .to) }
 
-    module _ (rules : List ℕ) (ok : acceptedRules rules ≡ true)
-        (eb : leb m 2 ≡ true → p .before .days ≡ resolved kathmandu (flat t rows) (y - 1) (rulesOf rules))
-        (et : p .this .days ≡ resolved kathmandu (flat t rows) y (rulesOf rules)) where
+    module _ (rules : List ℕ) (ok : acceptedRules rules ≡ true) (ez : p .years ≡ yearsIn (flat t rows) (rulesOf rules) y m) where
       pub same-grid : gridBy rules p ≡ gridUnder (flat t rows) rules (p .today) y m n
       same-grid =
           let w = planned in
           rw (ey, em, en, ← ef)
           (grid-ext (listFor rules p) (listUnder (flat t rows) rules) readingOn (p .today) y m (p .first) n
-          (λ d l. two-years kathmandu (flat t rows) (rulesOf rules) (bs y m (d + 1)) (p .first + d) _ _ (good-rules rules ok .counts .computed-few) (omega (arith, w .from)) eb et))
+          (λ d l. rw ez (two-years _ (flat t rows) (rulesOf rules) (bs y m (d + 1)) (p .first + d) (good-rules rules ok .counts .computed-few) (omega (arith, w .from)))))

@@ -3,11 +3,10 @@
 -- count say of the day's list. Assumes nothing.
 use Prim.Native.Nat.{ℕ, zero, suc, _+_, _-_, _*_, _%_, _<_}
 use mathlib.Core.Path.{_≡_, refl, sym, ap, subst, _∙_}
-use mathlib.Core.Bool.{Bool, _||_}
+use mathlib.Core.Bool.{Bool}
 use mathlib.Core.List.{List}
 use native.Mathlib.Nat.{zero-add}
 use native.Mathlib.Omega.{arith}
-use lib.Dec.{eqb}
 use lib.ListN.{length, getD, take, drop, replicate}
 use lib.Seq.{take-at}
 use Rattle.paper.specs.Answers.{Answer, answered, refused}
@@ -20,7 +19,7 @@ use Rattle.rules.specs.Festivals.{Pair}
 use Rattle.rules.proofs.Listed.{numbers-length}
 use Rattle.panchanga.specs.declared.lunar.Reading.{Reading}
 use Rattle.grid.specs.declared.Month.{Month}
-use Rattle.grid.specs.Cells.{one, anyHoliday, cellWith, blank, toFill, each}
+use Rattle.grid.specs.Cells.{one, holidayOf, cellWith, blank, toFill, each}
 use Rattle.grid.specs.Month.{Grid, listOn, cellOn, gridOf, cellNumbers, festivalNumbers, monthGrid, shown}
 use Rattle.grid.proofs.Marks.{cell-length}
 use Rattle.grid.proofs.Weeks.{each-length, month-length, month-numbers, weeks-whole, weeks-lead, weeks-at, weeks-tail}
@@ -57,7 +56,7 @@ module _ (list : Day → List Pair) (reading : Day → Reading) (today : Date) (
       }
 
   -- the holiday number of a day's cell: a Saturday, or a holiday in the list as shown
-  pub holiday-says : (d : ℕ) → getD (cellOn list reading today y m first d) 6 0 ≡ one (eqb (weekdayOf (first + d)) 6 || anyHoliday (listOn list reading today y m first d))
+  pub holiday-says : (d : ℕ) → getD (cellOn list reading today y m first d) 6 0 ≡ one (holidayOf (first + d) (listOn list reading today y m first d))
   unfolding cellWith
   holiday-says d = refl
 
@@ -78,7 +77,7 @@ module _ (c : Calendar) (ok : Bool) (list : Day → List Pair) (reading : Day �
   pub month-weeks : InWeeks (weekdayOf first) days (cellOn list reading today y m first) (g .cells)
   month-weeks = subst (λ (z : Grid). InWeeks (weekdayOf first) days (cellOn list reading today y m first) (z .cells)) (told c ok list reading today y m a b g h .grid) (laid-out list reading today y m first days)
 
-  pub month-holiday : (d : ℕ) → d < days → getD (getD (g .cells) (weekdayOf first + d) blank) 6 0 ≡ one (eqb (weekdayOf (first + d)) 6 || anyHoliday (listOn list reading today y m first d))
+  pub month-holiday : (d : ℕ) → d < days → getD (getD (g .cells) (weekdayOf first + d) blank) 6 0 ≡ one (holidayOf (first + d) (listOn list reading today y m first d))
   month-holiday d k = ap (λ (l : List ℕ). getD l 6 0) (month-weeks .each-day d k) ∙ holiday-says list reading today y m first d
 
   pub month-count : (d : ℕ) → d < days → getD (getD (g .cells) (weekdayOf first + d) blank) 11 0 ≡ length (listOn list reading today y m first d)

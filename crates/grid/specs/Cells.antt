@@ -24,7 +24,14 @@ unfoldable pub anyHoliday : List Pair → Bool
 anyHoliday [] = false
 anyHoliday (e ∷ es) = eqb (e .1) 1 || anyHoliday es
 
--- the cell of a day: how many festivals it has, whether one is a holiday, and its reading
+abbrev pub saturday : ℕ → Bool
+saturday n = eqb (weekdayOf n) 6
+
+-- the holiday of day number n with its list as shown: a Saturday, or a holiday in that list
+abbrev pub holidayOf : ℕ → List Pair → Bool
+holidayOf n list = saturday n || anyHoliday list
+
+-- the cell of a day: how many festivals it has, whether it is a holiday, and its reading
 -- (BS day; Gregorian year, month, day; weekday; today; holiday; tithi; tithi end; sunrise; sunset; festival count)
 unfoldable pub cellWith : Date → Day → ℕ → Bool → Reading → List ℕ
 cellWith today q count holiday r =
@@ -34,7 +41,7 @@ cellWith today q count holiday r =
     ∷ q .ad .day
     ∷ weekdayOf (q .number)
     ∷ one (same (q .ad) today)
-    ∷ one (eqb (weekdayOf (q .number)) 6 || holiday)
+    ∷ one holiday
     ∷ r .tithi
     ∷ r .end
     ∷ r .sunrise
@@ -42,9 +49,9 @@ cellWith today q count holiday r =
     ∷ count
     ∷ []
 
--- the cell of a day with its list as shown: a holiday is a Saturday, or has a holiday in that list
+-- the cell of a day with its list as shown
 abbrev pub dayCell : Date → Day → List Pair → Reading → List ℕ
-dayCell today q list r = cellWith today q (length list) (anyHoliday list) r
+dayCell today q list r = cellWith today q (length list) (holidayOf (q .number) list) r
 
 -- ---- the layout
 

@@ -41,7 +41,7 @@ anyMark xs i (suc k) = eqb (getD xs (i * 2 + 1) 0) 1 || anyMark xs (i + 1) k
 
 module _ (rules : List ℕ) (p : Plan) where
   abbrev pub listFor : Day → List Pair
-  listFor q = listBy (rulesOf rules) q (p .before .days) (p .this .days)
+  listFor q = listBy (rulesOf rules) q (p .years)
 
   abbrev pub listAt : ℕ → List Pair
   listAt = listOn listFor readingOn (p .today) (p .year) (p .month) (p .first)

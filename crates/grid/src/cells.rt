@@ -1,9 +1,11 @@
 // A day's cell: twelve numbers.
 ghost use mathlib.Core.Path.{_≡_};
-ghost use Prim.Native.Nat.{_+_, _<_};
-ghost use Rattle.grid.specs.Cells.{one, same, cellWith};
+ghost use mathlib.Core.Bool.{_||_};
+ghost use Prim.Native.Nat.{_+_, _-_, _*_, _≤_, _<_};
+ghost use lib.ListN.{length};
+ghost use Rattle.grid.specs.Cells.{one, same, saturday, cellWith};
 ghost use Rattle.grid.specs.Month.{dayOn};
-ghost use Rattle.grid.specs.Inner.{Dated};
+ghost use Rattle.grid.specs.Inner.{Dated, anyMark};
 use conversion::BsDate;
 use festivals::day_numbered;
 use gregorian::Date;
@@ -37,7 +39,32 @@ fn mark(b: bool) -> u16
     if b { 1 } else { 0 }
 }
 
-// The cell of a day: how many festivals it has and whether one is a holiday, and its reading.
+// Whether one of the pairs from at to before end is a holiday.
+fn any_holiday(lists: &[u16], at: usize, end: usize) -> bool
+    requires { ⌜ (at ≤ end) × (end * 2 ≤ length (now lists)) ⌝ }
+    ensures { λ r. ⌜ r ≡ anyMark (now (lists .entry)) at (end - at) ⌝ }
+{
+    let mut found = false;
+    let mut i = at;
+    while i < end {
+        found = found | (lists[i * 2 + 1] == 1);
+        i += 1;
+    }
+    found
+}
+
+// Whether a day is a holiday: a Saturday, or one of the pairs of its list, from at to before end, is a holiday.
+pub fn is_holiday(number: u32, lists: &[u16], at: usize, end: usize) -> bool
+    requires { ⌜ Dated number × (at ≤ end) × (end * 2 ≤ length (now lists)) ⌝ }
+    ensures { λ r. ⌜ r ≡ (saturday number || anyMark (now (lists .entry)) at (end - at)) ⌝ }
+{
+    if (number + 1) % 7 == 6 {
+        return true;
+    }
+    any_holiday(lists, at, end)
+}
+
+// The cell of a day: how many festivals it has, whether it is a holiday, and its reading.
 pub fn day_cell(today: Date, day: Day, festivals: u16, holiday: bool, reading: Reading) -> [u16; 12]
     requires { ⌜ Dated (day .number) ⌝ }
     ensures { λ r. ⌜ r ≡ cellWith today day festivals holiday reading ⌝ }
@@ -51,7 +78,7 @@ pub fn day_cell(today: Date, day: Day, festivals: u16, holiday: bool, reading: R
         ad.day,
         weekday,
         mark(is_same(ad, today)),
-        mark((weekday == 6) | holiday),
+        mark(holiday),
         reading.tithi,
         reading.end,
         reading.sunrise,

@@ -9,15 +9,16 @@ ghost use Rattle.rules.specs.Rules.{acceptedRules};
 ghost use Rattle.rules.specs.Festivals.{numbers};
 ghost use Rattle.grid.specs.Cells.{each, joined};
 ghost use Rattle.grid.specs.Month.{gridSays};
-ghost use Rattle.grid.specs.Inner.{Planned, Roomy, anyMark, listAt, cellAt, shownBy, cellsOf, monthOf};
+ghost use Rattle.grid.specs.Inner.{Planned, Roomy, listAt, cellAt, shownBy, cellsOf, monthOf};
 use crate::GridAnswer;
 use crate::Month;
 use crate::cells::day_cell;
 use crate::cells::day_on;
+use crate::cells::is_holiday;
 use gregorian::Date;
 use panchanga::lunar::reading_of;
-use rules::lists::Resolved;
-use rules::lists::put_day;
+use rules::lists::Years;
+use rules::lists::put_day_list;
 
 // A month of an accepted table: its first day's number, its days, and the two resolved years that its lists come from.
 pub struct Plan {
@@ -26,12 +27,11 @@ pub struct Plan {
     pub month: u16,
     pub first: u32,
     pub days: u16,
-    pub before: Resolved,
-    pub this: Resolved,
+    pub years: Years,
 }
 
 // Stores src in out, from at on.
-fn put(out: &mut [u16], at: usize, src: &[u16])
+fn put_at(out: &mut [u16], at: usize, src: &[u16])
     requires { ⌜ at + length (now src) ≤ length (now out) ⌝ }
     ensures { λ _. ⌜ now (out .exit) ≡ sets (now (out .entry)) at (now (src .entry)) ⌝ }
 {
@@ -40,20 +40,6 @@ fn put(out: &mut [u16], at: usize, src: &[u16])
         out[at + i] = src[i];
         i += 1;
     }
-}
-
-// Whether one of the pairs from at to before end is a holiday.
-fn any_holiday(lists: &[u16], at: usize, end: usize) -> bool
-    requires { ⌜ (at ≤ end) × (end * 2 ≤ length (now lists)) ⌝ }
-    ensures { λ r. ⌜ r ≡ anyMark (now (lists .entry)) at (end - at) ⌝ }
-{
-    let mut found = false;
-    let mut i = at;
-    while i < end {
-        found = found | (lists[i * 2 + 1] == 1);
-        i += 1;
-    }
-    found
 }
 
 // How many blanks stand before a day in its week.
@@ -82,11 +68,11 @@ fn put_cell(
     ensures { λ r. ⌜ r ≤ at + 384 ⌝ }
 {
     let day = day_on(plan.year, plan.month, plan.first, d);
-    let end = put_day(rules, day, plan.before, plan.this, lists, at);
-    let holiday = any_holiday(lists, at, end);
+    let end = put_day_list(rules, day, plan.years, lists, at);
+    let holiday = is_holiday(day.number, lists, at, end);
     let reading = reading_of(day.ad, day.number);
     let cell = day_cell(plan.today, day, (end - at) as u16, holiday, reading);
-    put(page, (lead_of(plan.first) + d as usize) * 12, &cell);
+    put_at(page, (lead_of(plan.first) + d as usize) * 12, &cell);
     end
 }
 
@@ -114,7 +100,7 @@ fn put_front(out: &mut [u16], src: &[u16], n: usize)
     requires { ⌜ (n ≤ length (now src)) × (n ≤ length (now out)) ⌝ }
     ensures { λ _. ⌜ now (out .exit) ≡ sets (now (out .entry)) 0 (take n (now (src .entry))) ⌝ }
 {
-    put(out, 0, &src[..n]);
+    put_at(out, 0, &src[..n]);
 }
 
 // How many cells a month takes: whole weeks.

@@ -13,7 +13,7 @@ use crate::page::Plan;
 use conversion::BsDate;
 use conversion::DayAnswer;
 use conversion::Table;
-use festivals::years;
+use festivals::years::years_for;
 use gregorian::Date;
 
 // The number of a month's first day.
@@ -28,7 +28,7 @@ fn first_of(table: Table, rows: &[u16], first: BsDate) -> u32
     n
 }
 
-// The plan of a month of so many days. Each lunar year is resolved once: the year before in months 1 and 2 only.
+// The plan of a month of so many days.
 pub fn plan_of(
     table: Table,
     rows: &[u16],
@@ -49,15 +49,13 @@ pub fn plan_of(
         day: 1,
     };
     let first = first_of(table, rows, bs);
-    let before = years::resolve_before(table, rows, rules, bs);
-    let this = years::resolve_year(table, rows, rules, year);
+    let years = years_for(table, rows, rules, year, month);
     Plan {
         today,
         year,
         month,
         first,
         days,
-        before,
-        this,
+        years,
     }
 }

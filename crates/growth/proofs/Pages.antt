@@ -5,15 +5,15 @@ use mathlib.Core.List.{List, [], _∷_}
 use mathlib.Core.Option.{Option, some}
 use borrow.Author.Tests.{le-leb, lt-leb}
 use Rattle.text.specs.Quoted.{bytes}
-use Rattle.replay.specs.Gathered.{Gathered, gathered}
-use Rattle.replay.specs.declared.output.Out.{Out}
+use Rattle.output.specs.Gathered.{Gathered, gathered}
+use Rattle.output.specs.declared.Out.{Out}
 use Rattle.conversion.specs.Calendar.{Calendar}
 use Rattle.rules.specs.declared.Rule.{Rule}
 use Rattle.festivals.specs.Months.{yearDays}
 use Rattle.festivals.specs.Answers.{daysAre}
 use Rattle.festivals.specs.declared.months.YearDays.{YearDays}
 use Rattle.festivals.specs.declared.months.YearDays.the-variants as YD
-use Rattle.pieces.specs.Pieces.{Text, Puts}
+use Rattle.output.specs.Pieces.{Text, Puts}
 use Rattle.doubtful.specs.declared.page.Page.{Page}
 use Rattle.doubtful.specs.Tallies.{tallyOf, pageWith, countPieces}
 use Rattle.doubtful.specs.Years.{sheet, yearsPage}

@@ -6,12 +6,12 @@ use mathlib.Core.Option.{Option, some, none}
 use lib.Dec.{leb, eqb}
 use Rattle.text.specs.Digits.{digits}
 use Rattle.text.specs.Quoted.{bytes}
-use Rattle.replay.specs.Gathered.{Gathered}
+use Rattle.output.specs.Gathered.{Gathered}
 use Rattle.conversion.specs.declared.Table.{Table}
 use Rattle.conversion.specs.Calendar.{Calendar}
 use Rattle.rules.specs.declared.Rule.{Rule}
 use Rattle.festivals.specs.Months.{yearDays}
-use Rattle.pieces.specs.Pieces.{Text, putPieces, datePieces}
+use Rattle.output.specs.Pieces.{Text, putPieces, datePieces}
 use Rattle.doubtful.specs.Tallies.{noTally, countPieces}
 use Rattle.doubtful.specs.Years.{Sheet, yearsPage}
 

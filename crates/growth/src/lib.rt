@@ -2,13 +2,13 @@
 use conversion::Table;
 use festivals::months;
 use festivals::months::YearDays;
-use replay::Out;
+use output::Out;
 ghost use mathlib.Core.Path.{_≡_};
 ghost use mathlib.Core.Bool.{true};
-ghost use Rattle.replay.specs.Gathered.{gathered};
+ghost use Rattle.output.specs.Gathered.{gathered};
 ghost use Rattle.conversion.specs.Flat.{accepted, flat};
 ghost use Rattle.rules.specs.Rules.{rulesOf};
-ghost use Rattle.pieces.specs.Pieces.{Puts};
+ghost use Rattle.output.specs.Pieces.{Puts};
 ghost use Rattle.growth.specs.Growth.{sameFirst, lastYear, daysPieces, linePieces, spanPieces, tablesPieces, samePieces, newPieces, gainedPieces, addedPage, grownPage};
 
 // Whether two tables begin with the same year and day.
@@ -30,10 +30,10 @@ fn last_year(table: Table, rows: &[u16]) -> u16
 fn put_days(o: Out, out: &mut [u8], first: u32, last: u32) -> Out
     ensures { λ r. ⌜ Puts (now (out .entry)) o (daysPieces first last) (now (out .exit)) r ⌝ }
 {
-    let a = pieces::put_text(o, out, b", ");
-    let b = pieces::put_date(a, out, first);
-    let c = pieces::put_text(b, out, b" to ");
-    pieces::put_date(c, out, last)
+    let a = output::put_text(o, out, b", ");
+    let b = output::put_date(a, out, first);
+    let c = output::put_text(b, out, b" to ");
+    output::put_date(c, out, last)
 }
 
 // One line on years and their days.
@@ -48,10 +48,10 @@ fn put_line(
 ) -> Out
     ensures { λ r. ⌜ Puts (now (out .entry)) o (linePieces (now (label .entry)) year last «first_day» «last_day») (now (out .exit)) r ⌝ }
 {
-    let a = pieces::put_labelled(o, out, label, year as u64);
-    let b = pieces::put_labelled(a, out, b" to ", last as u64);
+    let a = output::put_labelled(o, out, label, year as u64);
+    let b = output::put_labelled(a, out, b" to ", last as u64);
     let c = put_days(b, out, first_day, last_day);
-    pieces::put_text(c, out, b"\n")
+    output::put_text(c, out, b"\n")
 }
 
 // One line on the years of an accepted table from one to another.
@@ -106,17 +106,17 @@ fn put_tables(o: Out, out: &mut [u8], table: Table, old: &[u16], new: &[u16]) ->
 fn put_same(o: Out, out: &mut [u8]) -> Out
     ensures { λ r. ⌜ Puts (now (out .entry)) o samePieces (now (out .exit)) r ⌝ }
 {
-    let a = pieces::put_text(
+    let a = output::put_text(
         o,
         out,
         b"What OLD answers NEW answers with the same numbers: dates, month lengths, month steps, day lists, month grids.\n",
     );
-    let b = pieces::put_text(
+    let b = output::put_text(
         a,
         out,
         b"  theorem `steady`, crates/steady/proofs/Steady.antt",
     );
-    pieces::put_text(
+    output::put_text(
         b,
         out,
         b"; for dates `steady`, crates/conversion/proofs/Theorems.antt\n",
@@ -127,12 +127,12 @@ fn put_same(o: Out, out: &mut [u8]) -> Out
 fn put_new(o: Out, out: &mut [u8]) -> Out
     ensures { λ r. ⌜ Puts (now (out .entry)) o newPieces (now (out .exit)) r ⌝ }
 {
-    let a = pieces::put_text(
+    let a = output::put_text(
         o,
         out,
         b"What NEW answers OLD refuses exactly if it lies in an added year.\n",
     );
-    pieces::put_text(a, out, b"  the same theorem, its fields `added`\n")
+    output::put_text(a, out, b"  the same theorem, its fields `added`\n")
 }
 
 // The years from one to another as gained, and what cannot have changed.
@@ -160,7 +160,7 @@ fn put_added(
     ensures { λ r. ⌜ gathered (now (out .exit)) r ≡ addedPage (flat table (now (new .entry))) (rulesOf (now (rules .entry))) (now (names .entry)) year last (gathered (now (out .entry)) o) ⌝ }
 {
     if last <= year {
-        return pieces::put_text(o, out, b"Added: nothing\n");
+        return output::put_text(o, out, b"Added: nothing\n");
     }
     let next = year + 1;
     let a = put_gained(o, out, table, new, next, last);

@@ -9,8 +9,8 @@ use lib.Dec.{eqb}
 use lib.ListN.{length, length-append}
 use Rattle.text.specs.Written.{Wrote}
 use Rattle.text.proofs.Writes.{then}
-use Rattle.replay.specs.Tags.{TABLE, CELLS, RULES, RULE}
-use Rattle.replay.specs.declared.words.Words.{Words}
+use Rattle.asked.specs.Tags.{TABLE, CELLS, RULES, RULE}
+use Rattle.asked.specs.declared.words.Words.{Words}
 use Rattle.replies.specs.Replies.{small}
 use Rattle.lending.specs.declared.Lending.{Lending}
 use Rattle.lending.specs.declared.Lending.the-variants as L

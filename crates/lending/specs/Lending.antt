@@ -7,8 +7,8 @@ use lib.ListN.{length}
 use lib.Seq.{sets}
 use Rattle.conversion.specs.declared.Table.{Table}
 use Rattle.replies.specs.Replies.{small}
-use Rattle.replay.specs.Tags.{TABLE, CELLS, RULES, RULE}
-use Rattle.replay.specs.declared.words.Words.{Words}
+use Rattle.asked.specs.Tags.{TABLE, CELLS, RULES, RULE}
+use Rattle.asked.specs.declared.words.Words.{Words}
 use Rattle.lending.specs.declared.Lent.{Lent}
 use Rattle.lending.specs.declared.Lending.{Lending}
 use Rattle.lending.specs.declared.Lending.the-variants as L

@@ -4,9 +4,9 @@ ghost use Prim.Native.Nat.{_≤_};
 ghost use mathlib.Core.List.{[], _∷_};
 ghost use Rattle.text.specs.Written.{Wrote};
 ghost use Rattle.lending.specs.Lending.{numbersIn, lendingOf, lends, numbersOf, tableIn, noLoan, loanAfter};
+use asked::Words;
+use asked::tags;
 use conversion::Table;
-use replay::Words;
-use replay::tags;
 
 // A table, how many numbers its rows have, and how many the rule list has.
 pub struct Lent {

@@ -8,12 +8,12 @@ use lib.Dec.{eqb}
 use Rattle.fields.specs.Line.{nameOf}
 use Rattle.rules.specs.declared.Rule.{Rule}
 use Rattle.rules.specs.Rules.{ruleAt, rulesFrom}
-use Rattle.replay.specs.Gathered.{Gathered, gathered}
-use Rattle.replay.specs.declared.output.Out.{Out}
-use Rattle.pieces.specs.Pieces.{putPieces, Puts}
+use Rattle.output.specs.Gathered.{Gathered, gathered}
+use Rattle.output.specs.declared.Out.{Out}
+use Rattle.output.specs.Pieces.{putPieces, Puts}
 use Rattle.notes.specs.Lines.{isOf, endOf, rulePieces, itemPieces, listPieces}
-use Rattle.notes.specs.declared.Listed.{Listed}
-use Rattle.pieces.proofs.Pieces.{pieces-append, puts-none}
+use Rattle.notes.specs.declared.lines.Listed.{Listed}
+use Rattle.output.proofs.Pieces.{pieces-append, puts-none}
 
 -- ---- a rule
 
@@ -40,17 +40,18 @@ or-true false = refl
 
 module _ (month : ℕ) {q r : Rule} (e : q ≡ r) where
   module _ (t : no-rule month q ≡ true) where
-    pub next-none : (names : List ℕ) (i : ℕ) (begun : Bool) (l : List ℕ) (o : Out) → Puts l o (itemPieces names month i begun r) l o
+    pub next-none : (names : List ℕ) (i : ℕ) (l : List ℕ) (o : Out) → Puts l o (itemPieces names month i r) l o
     unfolding itemPieces
-    next-none names i begun l o = rw (← e, of-no month q, t) (puts-none l o)
+    next-none names i l o = rw (← e, of-no month q, t) (puts-none l o)
 
     pub begun-none : (begun : Bool) → begun ≡ (begun || isOf month r)
     begun-none begun = rw (← e, of-no month q, t) (or-false begun)
 
   module _ (t : no-rule month q ≡ false) where
-    pub next-rule : (names : List ℕ) (i : ℕ) (begun : Bool) {l : List ℕ} {o : Out} {m : List ℕ} {p : Out} → Puts l o (rulePieces begun (q .name) (nameOf i names)) m p → Puts l o (itemPieces names month i begun r) m p
+    pub next-rule : (names : List ℕ) (i : ℕ) {l : List ℕ} {o : Out} {m : List ℕ} {p : Out}
+        → Puts l o (rulePieces (q .name) (nameOf i names)) m p → Puts l o (itemPieces names month i r) m p
     unfolding itemPieces
-    next-rule names i begun w = rw (← e, of-no month q, t) w
+    next-rule names i w = rw (← e, of-no month q, t) w
 
     pub begun-rule : (begun : Bool) → true ≡ (begun || isOf month r)
     begun-rule begun = rw (← e, of-no month q, t) (or-true begun)
@@ -63,7 +64,7 @@ module _ (names : List ℕ) (month : ℕ) (rules : List ℕ) where
   list-over i n begun h = let e : n - i ≡ 0 = omega arith in rw e
 
   list-turn : (i n : ℕ) (begun : Bool) → i < n
-      → itemPieces names month i begun (ruleAt rules i) ++ listPieces names month (i + 1) (begun || isOf month (ruleAt rules i)) (rulesFrom rules (i + 1) (n - (i + 1)))
+      → itemPieces names month i (ruleAt rules i) ++ listPieces names month (i + 1) (begun || isOf month (ruleAt rules i)) (rulesFrom rules (i + 1) (n - (i + 1)))
       ≡ listPieces names month i begun (rulesFrom rules i (n - i))
   unfolding listPieces
   list-turn i n begun h = let e : n - i ≡ suc (n - (i + 1)) = omega arith in rw e
@@ -77,10 +78,10 @@ module _ {names : List ℕ} {month : ℕ} {rules : List ℕ} {n : ℕ} where
   rest-all l d = record { same = let e : n - 0 ≡ n = omega arith in rw e }
 
   module _ {whole : Gathered} {i : ℕ} {l : List ℕ} {d : Listed} (a : Rest names month rules n whole i l d) where
-    pub rest-turn : {m : List ℕ} {e : Listed} → i < n → Puts l (d .out) (itemPieces names month i (d .some) (ruleAt rules i)) m (e .out)
+    pub rest-turn : {m : List ℕ} {e : Listed} → i < n → Puts l (d .out) (itemPieces names month i (ruleAt rules i)) m (e .out)
         → e .some ≡ (d .some || isOf month (ruleAt rules i)) → Rest names month rules n whole (i + 1) m e
     rest-turn {m} {e} h w s =
-        let item = itemPieces names month i (d .some) (ruleAt rules i) in
+        let item = itemPieces names month i (ruleAt rules i) in
         let rest = rulesFrom rules (i + 1) (n - (i + 1)) in
         record {
           same = ap (λ (g : Gathered). putPieces g (listPieces names month (i + 1) (e .some) rest)) (w .same)

@@ -1,2 +1,3 @@
 -- What the contracts of `notes` are written in.
+pub mod Near
 pub mod Lines

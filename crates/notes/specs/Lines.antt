@@ -10,7 +10,7 @@ use Rattle.fields.specs.Line.{nameOf}
 use Rattle.rules.specs.declared.Rule.{Rule}
 use Rattle.conversion.specs.declared.BsDate.{BsDate}
 use Rattle.panchanga.specs.Clock.{clockOf}
-use Rattle.pieces.specs.Pieces.{Text, datePieces, clockPieces, spanPieces, monthPieces}
+use Rattle.output.specs.Pieces.{Text, datePieces, clockPieces, spanPieces, monthPieces}
 
 -- ---- months, counted from 1 to 12 and round again
 
@@ -41,12 +41,12 @@ wherePieces t after minutes =
     ++ (cond after (bytes " after the beginning of ") (bytes " before the end of ")
     ∷ monthPieces (t .year) (t .month)))
 
--- the lunar month that it opens; or none, where another follows in its solar month
+-- on a line of its own, the lunar month that it opens; or none, where another follows in its solar month
 unfoldable pub openingPieces : BsDate → Bool → List Text
 openingPieces t opens =
     cond opens
-    (bytes ", opens lunar month " ∷ digits (t .month) ∷ bytes "\n" ∷ [])
-    (bytes ", opens nothing: another follows in " ∷ (monthPieces (t .year) (t .month) ++ (bytes "\n" ∷ [])))
+    (bytes "\n    opens lunar month " ∷ digits (t .month) ∷ bytes "\n" ∷ [])
+    (bytes "\n    opens nothing: another follows in " ∷ (monthPieces (t .year) (t .month) ++ (bytes "\n" ∷ [])))
 
 -- a solar month without one
 unfoldable pub nonePieces : ℕ → ℕ → List Text
@@ -58,26 +58,26 @@ nonePieces y m = bytes "  no new moon in " ∷ (monthPieces y m ++ (bytes ": not
 unfoldable pub isOf : ℕ → Rule → Bool
 isOf month r = eqb (r .kind) 3 && eqb (r .month) month
 
--- the end of a line of rules
+-- the end of a list of rules
 unfoldable pub endOf : Bool → Text
 endOf begun = cond begun (bytes "\n") (bytes " none\n")
 
--- a rule, behind others of its line or the first: a mark, its name as a number and as text
-unfoldable pub rulePieces : Bool → ℕ → Text → List Text
-rulePieces begun number name = cond begun (bytes ", ") (bytes " ") ∷ digits number ∷ bytes " " ∷ name ∷ []
+-- a rule, on a line of its own: its name as a number and as text
+unfoldable pub rulePieces : ℕ → Text → List Text
+rulePieces number name = bytes "\n      " ∷ digits number ∷ bytes " " ∷ name ∷ []
 
 module _ (names : List ℕ) (month : ℕ) where
   -- rule i, if it is one of the month
-  unfoldable pub itemPieces : ℕ → Bool → Rule → List Text
-  itemPieces i begun r = cond (isOf month r) (rulePieces begun (r .name) (nameOf i names)) []
+  unfoldable pub itemPieces : ℕ → Rule → List Text
+  itemPieces i r = cond (isOf month r) (rulePieces (r .name) (nameOf i names)) []
 
-  -- the rules of a list from number i on, to the line's end
+  -- the rules of a list from number i on, behind others or none
   unfoldable pub listPieces : ℕ → Bool → List Rule → List Text
   listPieces i begun [] = endOf begun ∷ []
-  listPieces i begun (r ∷ rs) = itemPieces i begun r ++ listPieces (i + 1) (begun || isOf month r) rs
+  listPieces i begun (r ∷ rs) = itemPieces i r ++ listPieces (i + 1) (begun || isOf month r) rs
 
 module _ (rules : List Rule) (names : List ℕ) where
-  -- the line
+  -- the month, and its rules each on a line
   unfoldable pub rulesPieces : ℕ → List Text
   rulesPieces month = bytes "    rules of lunar month " ∷ digits month ∷ bytes ":" ∷ listPieces names month 0 false rules
 

@@ -12,7 +12,7 @@ use Rattle.sky.specs.Sun.{meanLongitude, anomaly, sunLongitude}
 use Rattle.sky.proofs.Norms.{upto-within}
 use Rattle.sky.proofs.Numbers.{sine-number, tt-between, centuries-number, sun-upto}
 use Rattle.sky.proofs.Served as Sky
-use Rattle.panchanga.specs.Noaa.{zeroOf, centuriesAt, obliquity, declination, latitude, longitude}
+use Rattle.panchanga.specs.Noaa.{zeroOf, centuriesAt, obliquity, declination, kathmandu}
 use Rattle.paper.proofs.Within.{Within, refined, clamped, inside, lit, got, _⊞_, _⊟_, _⊠_, by, _⧄_, within}
 use Rattle.panchanga.proofs.Small.{tilt-sine, small-arc}
 use Rattle.panchanga.proofs.Noon.{Dated, noon-instant}
@@ -98,6 +98,6 @@ unfolding centuriesAt
 sun-served lon n t h = Sky.instant-angles _ (noon-instant lon n t h)
 
 -- over Kathmandu
-pub kathmandu-served : (n : ℕ) → Dated n → Served (centuriesAt longitude (zeroOf n)) latitude
+pub kathmandu-served : (n : ℕ) → Dated n → Served (centuriesAt (kathmandu .longitude) (zeroOf n)) (kathmandu .latitude)
 unfolding near le neg
-kathmandu-served n h = events-served latitude longitude n tt tt h
+kathmandu-served n h = events-served (kathmandu .latitude) (kathmandu .longitude) n tt tt h

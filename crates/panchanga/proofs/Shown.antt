@@ -18,9 +18,10 @@ use Rattle.sky.specs.Sun.{meanLongitude, anomaly, sunLongitude}
 use Rattle.sky.specs.Tithi.{elongationOf}
 use Rattle.sky.specs.Answers.{tithiAnswer}
 use Rattle.sky.proofs.Twelves.{tithi-range}
+use Rattle.panchanga.specs.declared.Place.{Place}
 use Rattle.panchanga.specs.declared.lunar.Reading.{Reading}
 use Rattle.panchanga.specs.Clock.{clockOf}
-use Rattle.panchanga.specs.Noaa.{zeroOf, centuriesAt, declination, equationOfTime, cosHourAngle, solarNoon, halfDay, eventsAround, sunEvents, latitude, longitude, eventsOn}
+use Rattle.panchanga.specs.Noaa.{zeroOf, centuriesAt, declination, equationOfTime, cosHourAngle, solarNoon, halfDay, eventsAround, sunEvents, eventsOn}
 use Rattle.panchanga.specs.Reading.{sameDate, endOn, morning, readingAt, readingBy, readingOf}
 use Rattle.panchanga.proofs.Minutes.{clock-below}
 use Rattle.panchanga.proofs.Noon.{Dated, morning-instant}
@@ -54,8 +55,8 @@ by-shown : (x : Date) (n : ℕ) (o : Option (Float × Float)) → Shown (reading
 by-shown x n none = at-shown x (morning n) 1440 1440 (le-refl 1440) (le-refl 1440)
 by-shown x n (some e) = at-shown x (e .0) (clockOf (e .0)) (clockOf (e .1)) (clock-upto (e .0)) (clock-upto (e .1))
 
-pub reading-shown : (x : Date) (n : ℕ) → Shown (readingOf x n)
-reading-shown x n = by-shown x n (eventsOn n)
+pub reading-shown : (p : Place) (x : Date) (n : ℕ) → Shown (readingOf p x n)
+reading-shown p x n = by-shown x n (eventsOn p n)
 
 -- ---- the events are instants
 abbrev pub Instants : Option (Float × Float) → Type 0
@@ -76,17 +77,17 @@ or-none : (b : Bool) (o : Option (Float × Float)) → Instants o → Instants (
 or-none true o p = p
 or-none false o p = tt
 
-sun-instants : (lat lon zero : Float) → Instants (sunEvents lat lon zero)
+sun-instants : (p : Place) (zero : Float) → Instants (sunEvents p zero)
 unfolding sunEvents
-sun-instants lat lon zero =
-    let t = centuriesAt lon zero in
-    let c = cosHourAngle lat (declination t (sunLongitude t)) in
-    let noon = zero ⊕ dec 0 0 ⊕ solarNoon lon (equationOfTime t (meanLongitude t) (anomaly t)) in
+sun-instants p zero =
+    let t = centuriesAt (p .longitude) zero in
+    let c = cosHourAngle (p .latitude) (declination t (sunLongitude t)) in
+    let noon = zero ⊕ dec 0 0 ⊕ solarNoon (p .longitude) (equationOfTime t (meanLongitude t) (anomaly t)) in
     or-none (withinOne c) (eventsAround noon (halfDay c)) (around-instants noon (halfDay c))
 
-pub events-instants : (n : ℕ) → Instants (eventsOn n)
+pub events-instants : (p : Place) (n : ℕ) → Instants (eventsOn p n)
 unfolding eventsOn
-events-instants n = sun-instants latitude longitude (zeroOf n)
+events-instants p n = sun-instants p (zeroOf n)
 
 -- ---- the instant that names the day
 abbrev pub naming : ℕ → Option (Float × Float) → Float
@@ -98,8 +99,8 @@ unfolding morning
 named n (some e) h p = p .0
 named n none h p = morning-instant n h
 
-pub naming-instant : (n : ℕ) → Dated n → T (instant (naming n (eventsOn n)))
-naming-instant n h = named n (eventsOn n) h (events-instants n)
+pub naming-instant : (p : Place) (n : ℕ) → Dated n → T (instant (naming n (eventsOn p n)))
+naming-instant p n h = named n (eventsOn p n) h (events-instants p n)
 
 tithi-by : (x : Date) (n : ℕ) (o : Option (Float × Float)) → T (instant (naming n o)) → tithiAnswer (naming n o) ≡ answered (readingBy x n o .tithi)
 unfolding given
@@ -107,5 +108,5 @@ tithi-by x n (some e) t = rw (T-true (instant (e .0)) t)
 tithi-by x n none t = rw (T-true (instant (morning n)) t)
 
 -- the reading's tithi is what `tithi_at` answers
-pub reading-tithi : (x : Date) (n : ℕ) → Dated n → tithiAnswer (naming n (eventsOn n)) ≡ answered (readingOf x n .tithi)
-reading-tithi x n h = tithi-by x n (eventsOn n) (naming-instant n h)
+pub reading-tithi : (p : Place) (x : Date) (n : ℕ) → Dated n → tithiAnswer (naming n (eventsOn p n)) ≡ answered (readingOf p x n .tithi)
+reading-tithi p x n h = tithi-by x n (eventsOn p n) (naming-instant p n h)

@@ -10,6 +10,7 @@ use Rattle.trig.specs.Trig.{sine, cosine, tangent, arcsine, arccosine, withinOn
 use Rattle.sky.specs.Angles.{deg}
 use Rattle.sky.specs.Time.{square, ttOf, julianCenturies}
 use Rattle.sky.specs.Sun.{meanLongitude, anomaly, sunLongitude}
+use Rattle.panchanga.specs.declared.Place.{Place}
 
 -- 0h of the day whose number is n, half a day before its noon
 unfoldable pub zeroOf : ℕ → Float
@@ -64,20 +65,18 @@ halfDay c = arccosine c ⊘ deg ⊗ dec 4 0 ⊘ dec 1440 0
 unfoldable pub eventsAround : Float → Float → Option (Float × Float)
 eventsAround noon half = cond (instant (noon ⊖ half) && instant (noon ⊕ half)) (some (noon ⊖ half, noon ⊕ half)) none
 
--- sunrise and sunset at a latitude and a longitude, in degrees, on the day whose 0h is given; none where the sun does not rise or set.
--- Midnight is `julian_day` at 0.0
-unfoldable pub sunEvents : Float → Float → Float → Option (Float × Float)
-sunEvents lat lon zero =
-    let t = centuriesAt lon zero in
-    let c = cosHourAngle lat (declination t (sunLongitude t)) in
-    cond (withinOne c) (eventsAround (zero ⊕ dec 0 0 ⊕ solarNoon lon (equationOfTime t (meanLongitude t) (anomaly t))) (halfDay c)) none
+-- sunrise and sunset at a place on the day whose 0h is given; none where the sun does not rise or set. Midnight is `julian_day` at 0.0
+unfoldable pub sunEvents : Place → Float → Option (Float × Float)
+sunEvents p zero =
+    let t = centuriesAt (p .longitude) zero in
+    let c = cosHourAngle (p .latitude) (declination t (sunLongitude t)) in
+    let noon = zero ⊕ dec 0 0 ⊕ solarNoon (p .longitude) (equationOfTime t (meanLongitude t) (anomaly t)) in
+    cond (withinOne c) (eventsAround noon (halfDay c)) none
 
--- over Kathmandu
-abbrev pub latitude : Float
-latitude = dec 277172 4
+-- by the day's number
+unfoldable pub eventsOn : Place → ℕ → Option (Float × Float)
+eventsOn p n = sunEvents p (zeroOf n)
 
-abbrev pub longitude : Float
-longitude = dec 853240 4
-
-unfoldable pub eventsOn : ℕ → Option (Float × Float)
-eventsOn n = sunEvents latitude longitude (zeroOf n)
+-- the place of the festivals and of every call that names none
+abbrev pub kathmandu : Place
+kathmandu = record { latitude = dec 277172 4; longitude = dec 853240 4 }

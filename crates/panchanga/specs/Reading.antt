@@ -10,6 +10,7 @@ use Rattle.gregorian.specs.declared.Date.{Date}
 use Rattle.gregorian.specs.Instants.{nptOffset, nptAnswer}
 use Rattle.sky.specs.Tithi.{elongationOf, tithiOf}
 use Rattle.sky.specs.Search.{endOf}
+use Rattle.panchanga.specs.declared.Place.{Place}
 use Rattle.panchanga.specs.declared.lunar.Reading.{Reading}
 use Rattle.panchanga.specs.Clock.{clockOf}
 use Rattle.panchanga.specs.Noaa.{zeroOf, eventsOn}
@@ -37,6 +38,6 @@ abbrev pub readingBy : Date → ℕ → Option (Float × Float) → Reading
 readingBy x n (some e) = readingAt x (e .0) (clockOf (e .0)) (clockOf (e .1))
 readingBy x n none = readingAt x (morning n) 1440 1440
 
--- the reading of the date x, whose number is n
-abbrev pub readingOf : Date → ℕ → Reading
-readingOf x n = readingBy x n (eventsOn n)
+-- the reading at a place of the date x, whose number is n
+abbrev pub readingOf : Place → Date → ℕ → Reading
+readingOf p x n = readingBy x n (eventsOn p n)

@@ -7,14 +7,30 @@ pub mod noaa;
 
 ghost use mathlib.Core.Path.{_≡_};
 ghost use Rattle.paper.specs.Answers.{answered};
+ghost use Rattle.sky.specs.Answers.{smallSays, instantSays};
 ghost use Rattle.panchanga.specs.Kalas.{kalaAt, middle};
-ghost use Rattle.panchanga.specs.Answers.{spanIs, spanSays, instantSays, minutesSays, chosen, eventsAnswer, riseAnswer, setAnswer, nishitaAnswer, kalaAnswer, clockAnswer, readingSays, readingAnswer};
+ghost use Rattle.panchanga.specs.Answers.{spanIs, spanSays, chosen, eventsAnswer, riseAnswer, setAnswer, nishitaAnswer, kalaAnswer, clockAnswer, readingSays, readingAnswer};
 pub use clock::minutes_of;
 use gregorian::Date;
 use gregorian::DateAnswer;
 use gregorian::NumberAnswer;
 use gregorian::UtDay;
 use lunar::Reading;
+use paper::Refusal;
+use sky::InstantAnswer;
+use sky::SmallAnswer;
+
+// A place on the Earth, in degrees: north and east are above 0.
+pub struct Place {
+    pub latitude: f64,
+    pub longitude: f64,
+}
+
+// The place of the festivals and of every call that names none.
+pub const KATHMANDU: Place = Place {
+    latitude: 27.7172,
+    longitude: 85.3240,
+};
 
 // When in a day a festival rule is evaluated; the numbers 0 to 5 of a rule's kala, in their order.
 pub enum Kala {
@@ -32,30 +48,17 @@ pub enum Span {
     Nothing,
 }
 
-// The same, or refusal 3.
+// The same, or a refusal.
 pub enum SpanAnswer {
     Is { from: UtDay, to: UtDay },
     Nothing,
-    NoSuchDate,
+    Refused(Refusal),
 }
 
-// An instant, none, or refusal 3.
-pub enum InstantAnswer {
-    At(UtDay),
-    Nothing,
-    NoSuchDate,
-}
-
-// Minutes, or refusal 8.
-pub enum MinutesAnswer {
-    Is(u16),
-    OutOfRange,
-}
-
-// A date's reading, or refusal 3.
+// A date's reading, or a refusal.
 pub enum ReadingAnswer {
     Is(Reading),
-    NoSuchDate,
+    Refused(Refusal),
 }
 
 // A span as an answer.
@@ -75,7 +78,7 @@ fn kala_of(kala: Kala, events: SpanAnswer) -> InstantAnswer
     match events {
         SpanAnswer::Is { from, to } => InstantAnswer::At(kalas::kala_at(kala, from, to)),
         SpanAnswer::Nothing => InstantAnswer::Nothing,
-        SpanAnswer::NoSuchDate => InstantAnswer::NoSuchDate,
+        SpanAnswer::Refused(k) => InstantAnswer::Refused(k),
     }
 }
 
@@ -86,7 +89,7 @@ fn end_of(s: SpanAnswer) -> InstantAnswer
     match s {
         SpanAnswer::Is { from: _, to } => InstantAnswer::At(to),
         SpanAnswer::Nothing => InstantAnswer::Nothing,
-        SpanAnswer::NoSuchDate => InstantAnswer::NoSuchDate,
+        SpanAnswer::Refused(k) => InstantAnswer::Refused(k),
     }
 }
 
@@ -97,7 +100,7 @@ fn middle_of(s: SpanAnswer) -> InstantAnswer
     match s {
         SpanAnswer::Is { from, to } => InstantAnswer::At(kalas::middle(from, to)),
         SpanAnswer::Nothing => InstantAnswer::Nothing,
-        SpanAnswer::NoSuchDate => InstantAnswer::NoSuchDate,
+        SpanAnswer::Refused(k) => InstantAnswer::Refused(k),
     }
 }
 
@@ -107,8 +110,8 @@ pub fn sun_events(date: Date) -> SpanAnswer
 {
     let a = date.day_number();
     match a {
-        NumberAnswer::Number(n) => span_answer(noaa::events_on(n)),
-        NumberAnswer::NoSuchDate => SpanAnswer::NoSuchDate,
+        NumberAnswer::Number(n) => span_answer(noaa::events_on(KATHMANDU, n)),
+        NumberAnswer::Refused(k) => SpanAnswer::Refused(k),
     }
 }
 
@@ -130,19 +133,19 @@ pub fn sunset(date: Date) -> InstantAnswer
 pub fn nishita_window(date: Date) -> SpanAnswer
     ensures { λ r. ⌜ spanSays r ≡ nishitaAnswer date ⌝ }
 {
-    let next = date.next();
-    match next {
+    let after = date.next();
+    match after {
         DateAnswer::Is(_) => {
             let a = date.day_number();
             match a {
                 NumberAnswer::Number(n) => span_answer(kalas::nishita_between(
-                    noaa::events_on(n),
-                    noaa::events_on(n + 1),
+                    noaa::events_on(KATHMANDU, n),
+                    noaa::events_on(KATHMANDU, n + 1),
                 )),
-                NumberAnswer::NoSuchDate => SpanAnswer::NoSuchDate,
+                NumberAnswer::Refused(k) => SpanAnswer::Refused(k),
             }
         }
-        DateAnswer::NoSuchDate => SpanAnswer::NoSuchDate,
+        DateAnswer::Refused(k) => SpanAnswer::Refused(k),
     }
 }
 
@@ -157,13 +160,13 @@ pub fn kala_instant(date: Date, kala: Kala) -> InstantAnswer
 }
 
 // The clock's minute in Nepal at an instant.
-pub fn npt_clock(instant: UtDay) -> MinutesAnswer
-    ensures { λ r. ⌜ minutesSays r ≡ clockAnswer (instant .0) ⌝ }
+pub fn npt_clock(instant: UtDay) -> SmallAnswer
+    ensures { λ r. ⌜ smallSays r ≡ clockAnswer (instant .0) ⌝ }
 {
     if gregorian::is_instant(instant.0) {
-        MinutesAnswer::Is(clock::clock_of(instant.0))
+        SmallAnswer::Is(clock::clock_of(instant.0))
     } else {
-        MinutesAnswer::OutOfRange
+        SmallAnswer::Refused(Refusal::OutOfRange)
     }
 }
 
@@ -173,7 +176,7 @@ pub fn reading(date: Date) -> ReadingAnswer
 {
     let a = date.day_number();
     match a {
-        NumberAnswer::Number(n) => ReadingAnswer::Is(lunar::reading_of(date, n)),
-        NumberAnswer::NoSuchDate => ReadingAnswer::NoSuchDate,
+        NumberAnswer::Number(n) => ReadingAnswer::Is(lunar::reading_of(KATHMANDU, date, n)),
+        NumberAnswer::Refused(k) => ReadingAnswer::Refused(k),
     }
 }

@@ -3,11 +3,12 @@ ghost use mathlib.Core.Path.{_≡_};
 ghost use Rattle.gregorian.specs.Instants.{nptAnswer};
 ghost use Rattle.sky.specs.Answers.{firstSays};
 ghost use Rattle.panchanga.specs.Reading.{sameDate, endOn, readingAt, morning, readingOf};
+use super::Place;
 use super::Span;
 use super::clock::clock_of;
 use super::noaa::events_on;
 use gregorian::Date;
-use gregorian::NptAnswer;
+use gregorian::DateAnswer;
 use gregorian::UtDay;
 use gregorian::npt_date;
 use sky::search::FirstStart;
@@ -36,11 +37,10 @@ fn falls_on(date: Date, at: UtDay) -> bool
 {
     let a = npt_date(at);
     match a {
-        NptAnswer::Is(d) => {
+        DateAnswer::Is(d) => {
             (d.year == date.year) & ((d.month == date.month) & (d.day == date.day))
         }
-        NptAnswer::NoSuchDate => false,
-        NptAnswer::OutOfRange => false,
+        DateAnswer::Refused(_) => false,
     }
 }
 
@@ -80,11 +80,11 @@ fn reading_at(date: Date, at: UtDay, sunrise: u16, sunset: u16) -> Reading
     }
 }
 
-// The reading of a date with its number.
-pub fn reading_of(date: Date, n: u32) -> Reading
-    ensures { λ r. ⌜ r ≡ readingOf date n ⌝ }
+// The reading at a place of a date with its number.
+pub fn reading_of(place: Place, date: Date, n: u32) -> Reading
+    ensures { λ r. ⌜ r ≡ readingOf place date n ⌝ }
 {
-    let events = events_on(n);
+    let events = events_on(place, n);
     match events {
         Span::Is { from, to } => reading_at(date, from, clock_of(from.0), clock_of(to.0)),
         Span::Nothing => reading_at(date, UtDay(morning(n)), NONE, NONE),

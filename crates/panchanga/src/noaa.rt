@@ -2,18 +2,12 @@
 ghost use mathlib.Core.Path.{_≡_};
 ghost use Rattle.panchanga.specs.Noaa.{centuriesAt, obliquity, eccentricity, declination, timeEquation, equationOfTime, cosHourAngle, solarNoon, halfDay, eventsAround, sunEvents, eventsOn};
 ghost use Rattle.panchanga.specs.Answers.{spanIs};
+use super::Place;
 use super::Span;
 use gregorian::UtDay;
+use sky::angles::DEG;
 use sky::sun;
 use sky::time;
-
-// A degree in radians.
-const DEG: f64 = 3.141592653589793 / 180.0;
-
-// Kathmandu, in degrees.
-const LATITUDE: f64 = 27.7172;
-
-const LONGITUDE: f64 = 85.3240;
 
 // The centuries at noon of a longitude, on the day that begins at `zero`.
 fn centuries_at(lon: f64, zero: f64) -> f64
@@ -101,25 +95,26 @@ fn events_around(noon: f64, half: f64) -> Span
     Span::Nothing
 }
 
-// Sunrise and sunset at a place, in degrees, on the day that begins at `zero`.
-pub fn events_at(lat: f64, lon: f64, zero: f64) -> Span
-    ensures { λ r. ⌜ spanIs r ≡ sunEvents lat lon zero ⌝ }
+// Sunrise and sunset at a place on the day that begins at `zero`.
+pub fn events_at(place: Place, zero: f64) -> Span
+    ensures { λ r. ⌜ spanIs r ≡ sunEvents place zero ⌝ }
 {
-    let t = centuries_at(lon, zero);
-    let place = sun::sun_at(t);
-    let c = cos_hour_angle(lat, declination(t, place.lambda));
+    let t = centuries_at(place.longitude, zero);
+    let sun = sun::sun_at(t);
+    let c = cos_hour_angle(place.latitude, declination(t, sun.longitude));
     if -1.0 <= c {
         if c <= 1.0 {
-            let noon = zero + 0.0 + solar_noon(lon, equation_of_time(t, place.l0, place.m));
+            let eot = equation_of_time(t, sun.mean, sun.anomaly);
+            let noon = zero + 0.0 + solar_noon(place.longitude, eot);
             return events_around(noon, half_day(c));
         }
     }
     Span::Nothing
 }
 
-// Sunrise and sunset over Kathmandu on the day with a number.
-pub fn events_on(n: u32) -> Span
-    ensures { λ r. ⌜ spanIs r ≡ eventsOn n ⌝ }
+// Sunrise and sunset at a place on the day with a number.
+pub fn events_on(place: Place, n: u32) -> Span
+    ensures { λ r. ⌜ spanIs r ≡ eventsOn place n ⌝ }
 {
-    events_at(LATITUDE, LONGITUDE, n as f64 - 0.5)
+    events_at(place, n as f64 - 0.5)
 }

@@ -1,13 +1,13 @@
--- What a call answers: a value, or the number of a refusal of document 01. Assumes nothing.
-use Prim.Native.Nat.{ℕ}
+-- What a call answers: a value, or a refusal of document 01. Assumes nothing.
 use mathlib.Core.Bool.{Bool, true, false}
+use Rattle.paper.specs.declared.Refusal.{Refusal}
 
 pub data Answer (A : Type 0) : Type 0 where
   answered : A → Answer A
-  refused : ℕ → Answer A
+  refused : Refusal → Answer A
 
 -- the refusal k unless the test passes
-unfoldable pub given : {A : Type 0} → Bool → ℕ → Answer A → Answer A
+unfoldable pub given : {A : Type 0} → Bool → Refusal → Answer A → Answer A
 given true k a = a
 given false k a = refused k
 

@@ -96,7 +96,7 @@ fn draw_part(
     match part {
         Part::Whole => {
             let title = page_of(year, month, m);
-            Laid::Bytes(wall::put_month(page, 0, title, rules, names, cells, festivals))
+            Laid::Bytes(wall::put_month_page(page, 0, title, rules, names, cells, festivals))
         }
         Part::Day(day) => {
             if day == 0 {
@@ -106,7 +106,17 @@ fn draw_part(
                 return Laid::Refused(Refusal::NoDay);
             }
             let cell = cell_of(cells, day);
-            Laid::Bytes(wall::put_day(page, 0, year, month, cell, rules, names, cells, festivals))
+            Laid::Bytes(wall::put_day_page(
+                page,
+                0,
+                year,
+                month,
+                cell,
+                rules,
+                names,
+                cells,
+                festivals,
+            ))
         }
     }
 }

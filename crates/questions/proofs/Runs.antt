@@ -4,13 +4,13 @@ use mathlib.Core.Path.{_≡_, refl, sym, ap, _∙_}
 use mathlib.Core.Bool.{false}
 use mathlib.Core.List.{List, [], _∷_, _++_}
 use lib.ListN.{take}
-use Rattle.replay.specs.Line.{wordsOf}
-use Rattle.replay.specs.Gathered.{Gathered, gathered, puts, ended, Gathers}
-use Rattle.replay.specs.Turns.{inputOf, TurnAfter}
-use Rattle.replay.specs.declared.output.Out.{Out}
-use Rattle.replay.specs.declared.words.Words.{Words}
-use Rattle.replay.specs.declared.input.Turn.{Turn}
-use Rattle.replay.proofs.Turns.{turn-buffer, turn-goes}
+use Rattle.asked.specs.Line.{wordsOf}
+use Rattle.output.specs.Gathered.{Gathered, gathered, puts, ended, Gathers}
+use Rattle.asked.specs.Turns.{inputOf, TurnAfter}
+use Rattle.output.specs.declared.Out.{Out}
+use Rattle.asked.specs.declared.words.Words.{Words}
+use Rattle.asked.specs.declared.input.Turn.{Turn}
+use Rattle.asked.proofs.Turns.{turn-buffer, turn-goes}
 use Rattle.questions.specs.declared.Stepped.{Stepped}
 use Rattle.lending.specs.declared.Lent.{Lent}
 use Rattle.lending.specs.Lending.{Loan, loanAfter}

@@ -9,8 +9,8 @@ use Rattle.conversion.specs.declared.Table.{Table}
 use Rattle.rules.specs.Rules.{acceptedRules}
 use Rattle.rules.specs.Festivals.{Listed}
 use Rattle.festivals.specs.Answers.{onBs, onAd}
-use Rattle.replay.specs.Tags.{LISTBS}
-use Rattle.replay.specs.declared.words.Words.{Words}
+use Rattle.asked.specs.Tags.{LISTBS}
+use Rattle.asked.specs.declared.words.Words.{Words}
 use Rattle.replies.specs.declared.Reply.{Reply}
 use Rattle.replies.specs.declared.Reply.the-variants as R
 use Rattle.replies.specs.Replies.{said, formed, small, replyWords, barred}

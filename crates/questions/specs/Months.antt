@@ -13,10 +13,10 @@ use Rattle.grid.specs.Month.{Shown}
 use Rattle.grid.specs.Kathmandu.{monthShown}
 use Rattle.grid.specs.declared.BsMonth.{BsMonth}
 use Rattle.grid.specs.declared.Month.{Month}
-use Rattle.replay.specs.Line.{wholeOf}
-use Rattle.replay.specs.declared.words.Whole.{Whole}
-use Rattle.replay.specs.declared.words.Whole.the-variants.{Is, TooLarge}
-use Rattle.replay.specs.declared.words.Words.{Words}
+use Rattle.asked.specs.Line.{wholeOf}
+use Rattle.asked.specs.declared.words.Whole.{Whole}
+use Rattle.asked.specs.declared.words.Whole.the-variants.{Is, TooLarge}
+use Rattle.asked.specs.declared.words.Words.{Words}
 use Rattle.replies.specs.declared.Reply.{Reply}
 use Rattle.replies.specs.declared.Reply.the-variants as R
 use Rattle.replies.specs.Replies.{said, formed, small, dateIn, dateWords, replyWords, barred}

@@ -4,10 +4,10 @@ use mathlib.Core.Path.{_≡_}
 use mathlib.Core.Bool.{false}
 use mathlib.Core.List.{List, [], _∷_}
 use lib.ListN.{take}
-use Rattle.replay.specs.Line.{wordsOf}
-use Rattle.replay.specs.Gathered.{Gathered, gathered, puts, ended}
-use Rattle.replay.specs.Turns.{inputOf, TurnAfter}
-use Rattle.replay.specs.declared.input.Turn.{Turn}
+use Rattle.asked.specs.Line.{wordsOf}
+use Rattle.output.specs.Gathered.{Gathered, gathered, puts, ended}
+use Rattle.asked.specs.Turns.{inputOf, TurnAfter}
+use Rattle.asked.specs.declared.input.Turn.{Turn}
 use Rattle.questions.specs.declared.Stepped.{Stepped}
 use Rattle.lending.specs.Lending.{Loan, loanAfter}
 use Rattle.questions.specs.Questions.{answerWords}

@@ -1,19 +1,19 @@
 // The answers to the line language: what lines lend, and what each question is answered over it.
 ghost use mathlib.Core.Path.{_≡_};
 ghost use Rattle.conversion.specs.Flat.{flat};
-ghost use Rattle.replay.specs.Gathered.{Gathers};
+ghost use Rattle.output.specs.Gathered.{Gathers};
 ghost use Rattle.questions.specs.Questions.{replyTo, wordsBy, answerWords};
 ghost use Rattle.questions.specs.Runs.{Lends, Answers, TurnDone};
 
 mod lists;
 mod months;
 
+use asked::Turn;
+use asked::Words;
+use asked::tags;
 use conversion::Table;
 use lending::Lent;
-use replay::Out;
-use replay::Turn;
-use replay::Words;
-use replay::tags;
+use output::Out;
 use replies::Reply;
 
 // The turn after a line, and what is lent after it.
@@ -85,12 +85,12 @@ fn step(
 ) -> Stepped
     ensures { λ r. ⌜ TurnDone t (record { lent = lent; rows = now (rows .entry); rules = now (rules .entry) }) (now (piece .entry)) (now (line .entry)) (now (out .entry)) (now (rows .exit)) (now (rules .exit)) (now (piece .exit)) (now (line .exit)) (now (out .exit)) r ⌝ }
 {
-    let w = replay::split(line, t.len);
+    let w = asked::split(line, t.len);
     let o = t.out;
     let after = lending::lend(lent, rows, rules, w);
     let answered = answer(o, out, w, after, rows, rules);
     Stepped {
-        turn: replay::next(t, answered, piece, line, out),
+        turn: asked::next_turn(t, answered, piece, line, out),
         lent: after,
     }
 }
@@ -106,7 +106,7 @@ fn run(
 )
     ensures { λ _. ⌜ Answers (record { lent = «first»; rows = now (rows .entry); rules = now (rules .entry) }) (now (out .entry)) (now (rows .exit)) (now (rules .exit)) (now (out .exit)) ⌝ }
 {
-    let mut t = replay::begin(piece, line, out);
+    let mut t = asked::first_turn(piece, line, out);
     let mut lent = first;
     while 0 < t.left {
         let s = step(t, lent, rows, rules, piece, line, out);

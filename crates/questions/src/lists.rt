@@ -3,15 +3,15 @@ ghost use mathlib.Core.Path.{_≡_};
 ghost use mathlib.Core.Bool.{cond};
 ghost use Rattle.rules.specs.Rules.{acceptedRules};
 ghost use Rattle.festivals.specs.Answers.{listSays};
-ghost use Rattle.replay.specs.Gathered.{Gathers};
+ghost use Rattle.output.specs.Gathered.{Gathers};
 ghost use Rattle.replies.specs.Replies.{said};
 ghost use Rattle.replies.specs.declared.Reply.the-variants as R;
 ghost use Rattle.questions.specs.Lists.{rulesReply, listAsked, listedWords, listWords};
+use asked::Words;
+use asked::tags;
 use conversion::Table;
 use festivals::ListAnswer;
-use replay::Out;
-use replay::Words;
-use replay::tags;
+use output::Out;
 use replies::Reply;
 
 // Whether the rules are accepted, or refusal 2.

@@ -5,17 +5,17 @@ ghost use Rattle.paper.specs.Answers.{answered};
 ghost use Rattle.grid.specs.Step.{stepSays};
 ghost use Rattle.grid.specs.Month.{gridSays};
 ghost use Rattle.grid.specs.Kathmandu.{monthShown};
-ghost use Rattle.replay.specs.Gathered.{Gathers};
+ghost use Rattle.output.specs.Gathered.{Gathers};
 ghost use Rattle.replies.specs.Replies.{said, small, dateIn};
 ghost use Rattle.questions.specs.Months as Months;
 ghost use Rattle.questions.specs.Months.{monthly, stepReply, monthWords, shownWords, gridWords};
+use asked::Whole;
+use asked::Words;
 use conversion::Table;
 use grid::GridAnswer;
 use grid::Month;
 use grid::StepAnswer;
-use replay::Out;
-use replay::Whole;
-use replay::Words;
+use output::Out;
 use replies::Reply;
 
 // The reply of a month.

@@ -10,8 +10,9 @@ use Rattle.paper.specs.Answers.{Answer, answered, refused}
 use Rattle.text.specs.Digits.{digits}
 use Rattle.text.specs.Quoted.{bytes}
 use Rattle.gregorian.specs.declared.Date.{Date}
-use Rattle.replay.specs.Line.{fitting, floatText}
-use Rattle.replay.specs.declared.words.Words.{Words}
+use Rattle.output.specs.Floats.{floatText}
+use Rattle.asked.specs.Line.{fitting}
+use Rattle.asked.specs.declared.words.Words.{Words}
 use Rattle.replies.specs.declared.Reply.{Reply}
 use Rattle.replies.specs.declared.Reply.the-variants as R
 

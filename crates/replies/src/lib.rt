@@ -1,13 +1,13 @@
 // What a question is answered, and its words.
 ghost use mathlib.Core.Path.{_≡_};
 ghost use Rattle.text.specs.Digits.{digits};
-ghost use Rattle.replay.specs.Gathered.{Gathers};
+ghost use Rattle.output.specs.Gathered.{Gathers};
 ghost use Rattle.replies.specs.Replies.{dateIn, dateWords, replyWords, barred};
 ghost use Rattle.replies.specs.declared.Reply.the-variants as R;
+use asked::Words;
 use gregorian::Date;
+use output::Out;
 use panchanga::lunar::Reading;
-use replay::Out;
-use replay::Words;
 
 // A question mark for a line out of form, the number of a refusal alone, or 0 and values.
 pub enum Reply {

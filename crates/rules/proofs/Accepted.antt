@@ -79,25 +79,24 @@ computed-of r e q =
     let m₁ = leb 1 (r .month) in
     let m₂ = leb (r .month) 12 in
     let d₁ = leb 1 (r .day) in
-    let h = leb (r .holiday) 1 in
-    let y = eqb (r .year) 0 in
     let d₂ = leb (r .day) 15 in
+    let w = m₁ && m₂ && d₁ && d₂ in
+    let y = eqb (r .year) 0 in
     let p = leb (r .half) 1 in
     let k = leb (r .kala) 5 in
-    let f : (m₁ && m₂ && d₁ && h && (y && d₂ && p && k || false)) ≡ true = rw q at e in
-    let a = and-left (m₁ && m₂ && d₁ && h) (y && d₂ && p && k || false) f in
-    let b = rw or-false at (and-right (m₁ && m₂ && d₁ && h) (y && d₂ && p && k || false) f) in
-    let a₃ = and-left (m₁ && m₂ && d₁) h a in
+    let f : (leb (r .holiday) 1 && (y && w && p && k || false)) ≡ true = rw q at e in
+    let b = rw or-false at (and-right (leb (r .holiday) 1) (y && w && p && k || false) f) in
+    let b₂ = and-left (y && w && p) k b in
+    let a₄ = and-right y w (and-left (y && w) p b₂) in
+    let a₃ = and-left (m₁ && m₂ && d₁) d₂ a₄ in
     let a₂ = and-left (m₁ && m₂) d₁ a₃ in
-    let b₂ = and-left (y && d₂ && p) k b in
-    let b₁ = and-left (y && d₂) p b₂ in
     record {
       month-from = leb-true 1 (r .month) (and-left m₁ m₂ a₂);
       month-to = leb-true (r .month) 12 (and-right m₁ m₂ a₂);
       day-from = leb-true 1 (r .day) (and-right (m₁ && m₂) d₁ a₃);
-      day-to = leb-true (r .day) 15 (and-right y d₂ b₁);
-      half-to = leb-true (r .half) 1 (and-right (y && d₂) p b₂);
-      kala-to = leb-true (r .kala) 5 (and-right (y && d₂ && p) k b);
+      day-to = leb-true (r .day) 15 (and-right (m₁ && m₂ && d₁) d₂ a₄);
+      half-to = leb-true (r .half) 1 (and-right (y && w) p b₂);
+      kala-to = leb-true (r .kala) 5 (and-right (y && w && p) k b);
     }
 
 -- rule number i of a good list

@@ -13,10 +13,11 @@ use Rattle.conversion.specs.declared.BsDate.{BsDate}
 use Rattle.conversion.specs.Calendar.{Calendar}
 use Rattle.rules.specs.declared.Rule.{Rule}
 use Rattle.rules.specs.declared.lists.Day.{Day}
+use Rattle.rules.specs.declared.lists.Years.{Years}
 use Rattle.rules.specs.Rules.{countKind}
 use Rattle.rules.specs.Sky.{Sky}
 use Rattle.rules.specs.Festivals.{Pair, picked, keptAfter, kept, isFixed, isGregorian, isOverride, isComputed, dayPairs, dayList}
-use Rattle.rules.specs.Resolved.{shows, used, falls, pairsBy, listBy}
+use Rattle.rules.specs.Resolved.{shows, used, falls, usedIn, pairsBy, listBy}
 use Rattle.rules.proofs.Accepted.{Counts}
 
 count-more : (k : ℕ) (r : Rule) (rs : List Rule) → countKind k rs ≤ countKind k (r ∷ rs)
@@ -87,13 +88,13 @@ module _ (rs : List Rule) (w : Counts rs) where
   override-most t = omega (arith, w .overrides-few, picked-most 4 (isOverride t) (λ r e. first-four _ _ _ _ e) rs)
 
   -- from two resolved years
-  pub list-most : (q : Day) (before this : List ℕ) → length (listBy rs q before this) ≤ 384
+  pub list-most : (q : Day) (ys : Years) → length (listBy rs q ys) ≤ 384
   unfolding listBy pairsBy
-  list-most q before this =
-      let b = used rs (q .bs .year) before (q .number) 0 rs in
-      let t = used rs (q .bs .year) this (q .number) 0 rs in
-      let few-b : length b ≤ 64 = omega (arith, w .computed-few, used-most rs (q .bs .year) before (q .number) 0 rs) in
-      let few-t : length t ≤ 64 = omega (arith, w .computed-few, used-most rs (q .bs .year) this (q .number) 0 rs) in
+  list-most q ys =
+      let b = usedIn rs (q .bs .year) (ys .before .days) (q .number) in
+      let t = usedIn rs (q .bs .year) (ys .this .days) (q .number) in
+      let few-b : length b ≤ 64 = omega (arith, w .computed-few, used-most rs (q .bs .year) (ys .before .days) (q .number) 0 rs) in
+      let few-t : length t ≤ 64 = omega (arith, w .computed-few, used-most rs (q .bs .year) (ys .this .days) (q .number) 0 rs) in
       let early = leb (q .bs .month) 2 in
       five-most (picked (falls 1 q) rs) (picked (falls 2 q) rs) (cond early b []) t (picked (falls 4 q) rs)
       (fixed-most (q .bs)) (gregorian-most (q .ad)) (early-most early b few-b) few-t (override-most (q .bs))

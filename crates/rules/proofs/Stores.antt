@@ -14,7 +14,7 @@ use Rattle.rules.specs.declared.lists.Kept.{Kept}
 use Rattle.rules.specs.Rules.{ruleAt, rulesFrom}
 use Rattle.rules.specs.Festivals.{Pair, picked, any, overrides, silenced, keptAfter, kept, numbers}
 use Rattle.rules.specs.Resolved.{shows, used}
-use Rattle.rules.specs.Store.{State, repeats, storeIf, storePairs}
+use Rattle.rules.specs.Inner.{State, repeats, storeIf, storePairs}
 use Rattle.rules.proofs.Walk.{rest, left}
 
 -- ---- one pair

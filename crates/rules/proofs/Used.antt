@@ -17,7 +17,7 @@ use Rattle.rules.specs.Rules.{countKind}
 use Rattle.rules.specs.Sky.{Sky}
 use Rattle.rules.specs.Days.{holds}
 use Rattle.rules.specs.Festivals.{entry, entryOn, Pair, picked, silenced, isComputed, dayPairs, dayList}
-use Rattle.rules.specs.Resolved.{putEntry, filled, resolved, dayNumbered, used, pairsBy, listBy}
+use Rattle.rules.specs.Resolved.{putEntry, filled, resolved, yearsFor, dayNumbered, used, pairsBy, listBy}
 use Rattle.rules.proofs.Walk.{count-is, count-not}
 use Rattle.rules.proofs.Stores.{picked-cons, used-not, used-is}
 
@@ -123,17 +123,14 @@ module _ {I : Type 0} (s : Sky I) (c : Calendar) (rules : List Rule) (y : ℕ) w
     from-none rs h = served rs (replicate 64 0) 0 (omega (arith, length-replicate {A = ℕ} 64 0)) (λ k l. zeros 64 k)
 
 -- a year that is not asked plays no part
-early-only : (b : Bool) (u v : List Pair) → (b ≡ true → u ≡ v) → cond b u [] ≡ cond b v []
-early-only true u v h = h refl
-early-only false u v h = refl
+early-only : (b : Bool) (f : List ℕ → List Pair) (d z : List ℕ) (v : List Pair) → f d ≡ v → cond b (f (cond b d z)) [] ≡ cond b v []
+early-only true f d z v h = h
+early-only false f d z v h = refl
 
--- a day's list from two resolved years; the year before counts in months 1 and 2 alone
-pub two-years : {I : Type 0} (s : Sky I) (c : Calendar) (rs : List Rule) (t : BsDate) (n : ℕ) (before this : List ℕ) → countKind 3 rs ≤ 64 → 1 ≤ n
-    → (leb (t .month) 2 ≡ true → before ≡ resolved s c (t .year - 1) rs) → this ≡ resolved s c (t .year) rs
-    → listBy rs (dayNumbered t n) before this ≡ dayList s c rs t n
-unfolding listBy pairsBy dayList dayPairs
-two-years s c rs t n before this h p eb et =
-    let b = early-only (leb (t .month) 2) (used rs (t .year) before n 0 rs) (picked (isComputed s c rs (t .year - 1) t n) rs)
-    (λ e. ap (λ (d : List ℕ). used rs (t .year) d n 0 rs) (eb e) ∙ from-none s c rs (t .year - 1) t n p rs h) in
-    let u = ap (λ (d : List ℕ). used rs (t .year) d n 0 rs) et ∙ from-none s c rs (t .year) t n p rs h in
-    rw (b, u)
+-- a day's list from the two years of its month
+pub two-years : {I : Type 0} (s : Sky I) (c : Calendar) (rs : List Rule) (t : BsDate) (n : ℕ) → countKind 3 rs ≤ 64 → 1 ≤ n
+    → listBy rs (dayNumbered t n) (yearsFor s c rs (t .year) (t .month)) ≡ dayList s c rs t n
+unfolding listBy pairsBy yearsFor dayList dayPairs
+two-years s c rs t n h p =
+    let b = early-only (leb (t .month) 2) (λ (d : List ℕ). used rs (t .year) d n 0 rs) _ (replicate 64 0) _ (from-none s c rs (t .year - 1) t n p rs h) in
+    rw (b, from-none s c rs (t .year) t n p rs h)

@@ -3,5 +3,5 @@ pub mod Sky
 pub mod Days
 pub mod Festivals
 pub mod Resolved
-pub mod Store
+pub mod Inner
 pub mod Steady

@@ -1,5 +1,5 @@
 -- A resolved year in sixty-four places, one for each computed rule in list order, and a day's list from two of them. Assumes nothing.
-use Prim.Native.Nat.{ℕ, _+_}
+use Prim.Native.Nat.{ℕ, _+_, _-_}
 use mathlib.Core.Bool.{Bool, cond, not, _&&_}
 use mathlib.Core.List.{List, [], _∷_, _++_}
 use mathlib.Core.Option.{Option, some, none}
@@ -10,6 +10,7 @@ use Rattle.conversion.specs.declared.BsDate.{BsDate}
 use Rattle.conversion.specs.Calendar.{Calendar}
 use Rattle.rules.specs.declared.Rule.{Rule}
 use Rattle.rules.specs.declared.lists.Day.{Day}
+use Rattle.rules.specs.declared.lists.Years.{Years}
 use Rattle.rules.specs.Sky.{Sky}
 use Rattle.rules.specs.Festivals.{entry, Pair, picked, kept, silenced, isFixed, isGregorian, isOverride}
 
@@ -29,6 +30,14 @@ filled s c y d j (r ∷ rs) =
 -- the computed entries of year y
 unfoldable pub resolved : {I : Type 0} → Sky I → Calendar → ℕ → List Rule → List ℕ
 resolved s c y rs = filled s c y (replicate 64 0) 0 rs
+
+-- the two years that the lists of month m of year y come from; past month 2 the year before is not resolved, and all its places are 0
+unfoldable pub yearsFor : {I : Type 0} → Sky I → Calendar → List Rule → ℕ → ℕ → Years
+yearsFor s c rs y m =
+    record {
+      before = record { days = cond (leb m 2) (resolved s c (y - 1) rs) (replicate 64 0) };
+      this = record { days = resolved s c y rs };
+    }
 
 -- ---- a day's list
 
@@ -52,14 +61,22 @@ used rules y d n j (r ∷ rs) =
 abbrev pub falls : ℕ → Day → Rule → Bool
 falls k q r = cond (eqb k 1) (isFixed (q .bs) r) (cond (eqb k 2) (isGregorian (q .ad) r) (isOverride (q .bs) r))
 
--- the day's pairs from two resolved years, the one before and this one
-unfoldable pub pairsBy : List Rule → Day → List ℕ → List ℕ → List Pair
-pairsBy rs q before this =
+-- the pairs of a resolved year on day n of year y
+abbrev pub usedIn : List Rule → ℕ → List ℕ → ℕ → List Pair
+usedIn rs y d n = used rs y d n 0 rs
+
+-- the year before is asked in months 1 and 2 only
+abbrev pub usedEarly : List Rule → Day → List ℕ → List Pair
+usedEarly rs q d = cond (leb (q .bs .month) 2) (usedIn rs (q .bs .year) d (q .number)) []
+
+-- the day's pairs from its two resolved years
+unfoldable pub pairsBy : List Rule → Day → Years → List Pair
+pairsBy rs q ys =
     picked (falls 1 q) rs
     ++ picked (falls 2 q) rs
-    ++ cond (leb (q .bs .month) 2) (used rs (q .bs .year) before (q .number) 0 rs) []
-    ++ used rs (q .bs .year) this (q .number) 0 rs
+    ++ usedEarly rs q (ys .before .days)
+    ++ usedIn rs (q .bs .year) (ys .this .days) (q .number)
     ++ picked (falls 4 q) rs
 
-unfoldable pub listBy : List Rule → Day → List ℕ → List ℕ → List Pair
-listBy rs q before this = kept (pairsBy rs q before this)
+unfoldable pub listBy : List Rule → Day → Years → List Pair
+listBy rs q ys = kept (pairsBy rs q ys)

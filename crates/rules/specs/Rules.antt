@@ -29,9 +29,9 @@ abbrev pub rulesOf : List ℕ → List Rule
 rulesOf xs = rulesFrom xs 0 (length xs / 8)
 
 module _ (r : Rule) where
-  -- every kind: month 1 to 12, a day, holiday 0 or 1; the name is free
-  abbrev pub common : Bool
-  common = leb 1 (r .month) && leb (r .month) 12 && leb 1 (r .day) && leb (r .holiday) 1
+  -- a date: month 1 to 12, and a day from 1 to so many
+  abbrev pub hasDate : ℕ → Bool
+  hasDate most = leb 1 (r .month) && leb (r .month) 12 && leb 1 (r .day) && leb (r .day) most
 
   -- half and kala are not used
   abbrev pub plain : Bool
@@ -39,23 +39,23 @@ module _ (r : Rule) where
 
   -- kind 1: a fixed BS date
   abbrev pub fixed : Bool
-  fixed = eqb (r .kind) 1 && eqb (r .year) 0 && leb (r .day) 32 && plain
+  fixed = eqb (r .kind) 1 && eqb (r .year) 0 && hasDate 32 && plain
 
   -- kind 2: a fixed Gregorian date
   abbrev pub gregorian : Bool
-  gregorian = eqb (r .kind) 2 && eqb (r .year) 0 && leb (r .day) 31 && plain
+  gregorian = eqb (r .kind) 2 && eqb (r .year) 0 && hasDate 31 && plain
 
   -- kind 3: a tithi of a lunar month, in a half, at a kala
   abbrev pub computed : Bool
-  computed = eqb (r .kind) 3 && eqb (r .year) 0 && leb (r .day) 15 && leb (r .half) 1 && leb (r .kala) 5
+  computed = eqb (r .kind) 3 && eqb (r .year) 0 && hasDate 15 && leb (r .half) 1 && leb (r .kala) 5
 
   -- kind 4: an override, of any year
   abbrev pub override : Bool
-  override = eqb (r .kind) 4 && leb (r .day) 32 && plain
+  override = eqb (r .kind) 4 && hasDate 32 && plain
 
--- a rule keeps the lines of its kind
+-- a rule keeps the line of its kind; the holiday is 0 or 1 and the name is free
 unfoldable pub ruleGood : Rule → Bool
-ruleGood r = common r && (fixed r || gregorian r || computed r || override r)
+ruleGood r = leb (r .holiday) 1 && (fixed r || gregorian r || computed r || override r)
 
 unfoldable pub allGood : List Rule → Bool
 allGood [] = true

@@ -4,7 +4,7 @@ pub mod lists;
 ghost use mathlib.Core.Path.{_≡_};
 ghost use Prim.Native.Nat.{_+_, _*_, _/_, _≤_};
 ghost use lib.ListN.{length};
-ghost use Rattle.rules.specs.Rules.{ruleAt, rulesOf, ruleGood, allGood, countKind, acceptedRules};
+ghost use Rattle.rules.specs.Rules.{ruleAt, rulesOf, hasDate, ruleGood, allGood, countKind, acceptedRules};
 
 // A rule: fixed BS date (kind 1), fixed Gregorian date (2), computed (3) or override (4).
 pub struct Rule {
@@ -36,20 +36,26 @@ pub fn rule_at(rules: &[u16], i: usize) -> Rule
     }
 }
 
-// Whether a rule keeps the lines of its kind.
+// Whether a rule has a month from 1 to 12 and a day from 1 to so many.
+fn has_date(r: Rule, most: u16) -> bool
+    ensures { λ b. ⌜ b ≡ hasDate r most ⌝ }
+{
+    (1 <= r.month) & (r.month <= 12) & (1 <= r.day) & (r.day <= most)
+}
+
+// Whether a rule keeps the line of its kind.
 fn is_good(r: Rule) -> bool
     ensures { λ b. ⌜ b ≡ ruleGood r ⌝ }
 {
-    let common = (1 <= r.month) & (r.month <= 12) & (1 <= r.day) & (r.holiday <= 1);
     let plain = (r.half == 0) & (r.kala == 0);
-    let fixed = (r.kind == 1) & (r.year == 0) & (r.day <= 32) & plain;
-    let gregorian = (r.kind == 2) & (r.year == 0) & (r.day <= 31) & plain;
-    let computed = (r.kind == 3) & (r.year == 0) & (r.day <= 15) & (r.half <= 1) & (r.kala <= 5);
-    let other = (r.kind == 4) & (r.day <= 32) & plain;
-    common & (fixed | gregorian | computed | other)
+    let fixed = (r.kind == 1) & (r.year == 0) & has_date(r, 32) & plain;
+    let gregorian = (r.kind == 2) & (r.year == 0) & has_date(r, 31) & plain;
+    let computed = (r.kind == 3) & (r.year == 0) & has_date(r, 15) & (r.half <= 1) & (r.kala <= 5);
+    let other = (r.kind == 4) & has_date(r, 32) & plain;
+    (r.holiday <= 1) & (fixed | gregorian | computed | other)
 }
 
-// Whether every rule of the list keeps the lines of its kind.
+// Whether every rule of the list keeps the line of its kind.
 fn all_good(rules: &[u16]) -> bool
     ensures { λ b. ⌜ b ≡ allGood (rulesOf (now (rules .entry))) ⌝ }
 {

@@ -1,23 +1,27 @@
-// A day's list from two resolved years: name, holiday, of each rule that falls on the day; neighbours with equal names keep the first.
+// A day's list from its two resolved years: name, holiday, of each rule that falls on the day; neighbours with equal names keep the first.
 use crate::Rule;
 use crate::rule_at;
 use conversion::BsDate;
 use gregorian::Date;
 ghost use mathlib.Core.Path.{_≡_};
-ghost use mathlib.Core.Bool.{true, cond};
-ghost use mathlib.Core.List.{[]};
+ghost use mathlib.Core.Bool.{true};
 ghost use Prim.Native.Nat.{_+_, _*_, _/_, _≤_};
-ghost use lib.Dec.{leb};
 ghost use lib.ListN.{length, set};
 ghost use lib.Seq.{sets};
 ghost use Rattle.rules.specs.Rules.{rulesOf, countKind, acceptedRules};
 ghost use Rattle.rules.specs.Festivals.{picked, overrides, silenced, isFixed, isGregorian, isOverride, numbers};
-ghost use Rattle.rules.specs.Resolved.{shows, used, falls, listBy};
-ghost use Rattle.rules.specs.Store.{repeats, storeIf, storePairs};
+ghost use Rattle.rules.specs.Resolved.{shows, usedIn, usedEarly, falls, listBy};
+ghost use Rattle.rules.specs.Inner.{repeats, storeIf, storePairs};
 
 // A resolved year: the day number of each computed rule, in list order; 0 for nothing.
 pub struct Resolved {
     pub days: [u32; 64],
+}
+
+// The two resolved years that the lists of a month come from: the year before, which counts in months 1 and 2 alone, and the month's own.
+pub struct Years {
+    pub before: Resolved,
+    pub this: Resolved,
 }
 
 // A day: its BS date, its Gregorian date and its number.
@@ -51,7 +55,7 @@ fn is_repeat(s: Kept, name: u16) -> bool
 }
 
 // Keeps a pair where `on` says so and its name is not the last one.
-fn push(buf: &mut [u16], s: Kept, on: bool, name: u16, holiday: u16) -> Kept
+fn keep_pair(buf: &mut [u16], s: Kept, on: bool, name: u16, holiday: u16) -> Kept
     requires { ⌜ s .n ≤ 4611686018427387903 ⌝ }
     ensures { λ r. ⌜ (now (buf .exit), r) ≡ storeIf on (now (buf .entry), s) name holiday ⌝ }
     ensures { λ r. ⌜ r .n ≤ s .n + 1 ⌝ }
@@ -114,7 +118,7 @@ fn put_dated(rules: &[u16], k: u16, day: Day, buf: &mut [u16], s: Kept) -> Kept
     let mut i = 0;
     while i < n {
         let r = rule_at(rules, i);
-        t = push(buf, t, falls_on(k, day, r), r.name, r.holiday);
+        t = keep_pair(buf, t, falls_on(k, day, r), r.name, r.holiday);
         i += 1;
     }
     t
@@ -159,7 +163,7 @@ fn put_resolved(
 ) -> Kept
     requires { ⌜ countKind 3 (rulesOf (now rules)) ≤ 64 ⌝ }
     requires { ⌜ s .n + length (now rules) / 8 ≤ 4611686018427387903 ⌝ }
-    ensures { λ r. ⌜ (now (buf .exit), r) ≡ storePairs (now (buf .entry), s) (used (rulesOf (now (rules .entry))) year (entries .days) n 0 (rulesOf (now (rules .entry)))) ⌝ }
+    ensures { λ r. ⌜ (now (buf .exit), r) ≡ storePairs (now (buf .entry), s) (usedIn (rulesOf (now (rules .entry))) year (entries .days) n) ⌝ }
     ensures { λ r. ⌜ r .n ≤ s .n + length (now (rules .entry)) / 8 ⌝ }
 {
     let count = rules.len() / 8;
@@ -174,7 +178,7 @@ fn put_resolved(
         }
         let k = entries.days[j];
         j += 1;
-        t = push(
+        t = keep_pair(
             buf,
             t,
             shows_on(rules, year, r.name, k, n),
@@ -189,7 +193,7 @@ fn put_resolved(
 fn put_before(rules: &[u16], day: Day, entries: Resolved, buf: &mut [u16], s: Kept) -> Kept
     requires { ⌜ countKind 3 (rulesOf (now rules)) ≤ 64 ⌝ }
     requires { ⌜ s .n + length (now rules) / 8 ≤ 4611686018427387903 ⌝ }
-    ensures { λ r. ⌜ (now (buf .exit), r) ≡ storePairs (now (buf .entry), s) (cond (leb (day .bs .month) 2) (used (rulesOf (now (rules .entry))) (day .bs .year) (entries .days) (day .number) 0 (rulesOf (now (rules .entry)))) []) ⌝ }
+    ensures { λ r. ⌜ (now (buf .exit), r) ≡ storePairs (now (buf .entry), s) (usedEarly (rulesOf (now (rules .entry))) day (entries .days)) ⌝ }
     ensures { λ r. ⌜ r .n ≤ s .n + length (now (rules .entry)) / 8 ⌝ }
 {
     if 2 < day.bs.month {
@@ -199,18 +203,11 @@ fn put_before(rules: &[u16], day: Day, entries: Resolved, buf: &mut [u16], s: Ke
 }
 
 // The day's list, after the `at` pairs that stand in buf, as far as buf goes; how many pairs stand there then.
-pub fn put_day(
-    rules: &[u16],
-    day: Day,
-    before: Resolved,
-    this: Resolved,
-    buf: &mut [u16],
-    at: usize,
-) -> usize
+pub fn put_day_list(rules: &[u16], day: Day, years: Years, buf: &mut [u16], at: usize) -> usize
     requires { ⌜ acceptedRules (now rules) ≡ true ⌝ }
     requires { ⌜ at ≤ 1000000 ⌝ }
-    ensures { λ r. ⌜ now (buf .exit) ≡ sets (now (buf .entry)) (at * 2) (numbers (listBy (rulesOf (now (rules .entry))) day (before .days) (this .days))) ⌝ }
-    ensures { λ r. ⌜ r ≡ at + length (listBy (rulesOf (now (rules .entry))) day (before .days) (this .days)) ⌝ }
+    ensures { λ r. ⌜ now (buf .exit) ≡ sets (now (buf .entry)) (at * 2) (numbers (listBy (rulesOf (now (rules .entry))) day years)) ⌝ }
+    ensures { λ r. ⌜ r ≡ at + length (listBy (rulesOf (now (rules .entry))) day years) ⌝ }
     ensures { λ r. ⌜ r ≤ at + 384 ⌝ }
 {
     let none = Kept {
@@ -220,8 +217,8 @@ pub fn put_day(
     };
     let fixed = put_dated(rules, 1, day, buf, none);
     let both = put_dated(rules, 2, day, buf, fixed);
-    let prior = put_before(rules, day, before, buf, both);
-    let own = put_resolved(rules, day.bs.year, this, day.number, buf, prior);
+    let prior = put_before(rules, day, years.before, buf, both);
+    let own = put_resolved(rules, day.bs.year, years.this, day.number, buf, prior);
     let whole = put_dated(rules, 4, day, buf, own);
     whole.n
 }

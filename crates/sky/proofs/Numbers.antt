@@ -17,7 +17,7 @@ use Rattle.trig.proofs.Laws.{sine-within}
 use Rattle.sky.specs.Time.{before1920, before1941, before1961, before1986, before2005, before2050, after2050, deltaT, yearOf, ttOf, ttDay, julianCenturies}
 use Rattle.sky.specs.Sun.{meanLongitude, center, sunLongitude}
 use Rattle.sky.specs.MoonTable.{moonTerms}
-use Rattle.sky.specs.Moon.{meanPlace, eccentricity, moonArgs, eccPower, zeroOr, addTerm, termAt, added, series, moonSum, additive, moonLongitude}
+use Rattle.sky.specs.Moon.{meanPlace, eccentricityFactor, moonArgs, factorPower, zeroOr, termAt, series, moonSum, additive, moonLongitude}
 use Rattle.sky.specs.Tithi.{elongationOf}
 use Rattle.sky.proofs.Norms.{Upto, norm-number, upto-within}
 
@@ -165,28 +165,28 @@ abbrev most : ℕ
 most = 7200000 * 2 ^ 20
 
 module _ {t : Float} (p : Within 20 1680000 t) where
-  eccentricity-number : Within 20 1060000 (eccentricity t)
-  unfolding eccentricity near
-  eccentricity-number = let t = got p in within 1060000 (lit _ ⊟ by _ t ⊟ by _ t ⊠ t) tt
+  factor-number : Within 20 1060000 (eccentricityFactor t)
+  unfolding eccentricityFactor near
+  factor-number = let t = got p in within 1060000 (lit _ ⊟ by _ t ⊟ by _ t ⊠ t) tt
 
-  power-number : (z : ℤ) → Within 20 1072000 (eccPower (eccentricity t) z)
-  unfolding eccPower near
+  power-number : (z : ℤ) → Within 20 1072000 (factorPower (eccentricityFactor t) z)
+  unfolding factorPower near
   power-number (pos zero) = within 1072000 (lit (dec 1 0)) tt
-  power-number (pos (suc zero)) = within 1072000 (got eccentricity-number) tt
-  power-number (pos (suc (suc n))) = within 1072000 (got eccentricity-number ⊠ got eccentricity-number) tt
-  power-number (negsuc zero) = within 1072000 (got eccentricity-number) tt
-  power-number (negsuc (suc n)) = within 1072000 (got eccentricity-number ⊠ got eccentricity-number) tt
+  power-number (pos (suc zero)) = within 1072000 (got factor-number) tt
+  power-number (pos (suc (suc n))) = within 1072000 (got factor-number ⊠ got factor-number) tt
+  power-number (negsuc zero) = within 1072000 (got factor-number) tt
+  power-number (negsuc (suc n)) = within 1072000 (got factor-number ⊠ got factor-number) tt
 
   series-number : (n : ℕ) → n ≤ 60 → Within 20 (n * most + 1) (series moonTerms (moonArgs t) n)
-  unfolding series added addTerm near
+  unfolding series near
   series-number zero h = within 1 (lit (dec 0 0)) tt
   series-number (suc n) h =
       let x = termAt moonTerms n in
       let s = series-number n (omega arith) in
-      let c : Within 20 (7000000 * 2 ^ 20) (whole (x .coeff)) =
-      (let e = entry-small (5 * n + 4) in integer 20 (7000000 * 2 ^ 20) (x .coeff) (omega arith) (lit≤ tt) (lit< tt)) in
-      let k : Within 20 most _ = within most (got c ⊠ got (power-number (x .m)) ⊠ got (sine-number _)) tt in
-      zeroOr-number (x .coeff) (widen (suc n * most + 1) (le→leb (n * most + 1) (suc n * most + 1) (omega arith)) s)
+      let c : Within 20 (7000000 * 2 ^ 20) (whole (x .coefficient)) =
+      (let e = entry-small (5 * n + 4) in integer 20 (7000000 * 2 ^ 20) (x .coefficient) (omega arith) (lit≤ tt) (lit< tt)) in
+      let k : Within 20 most _ = within most (got c ⊠ got (power-number (x .sun)) ⊠ got (sine-number _)) tt in
+      zeroOr-number (x .coefficient) (widen (suc n * most + 1) (le→leb (n * most + 1) (suc n * most + 1) (omega arith)) s)
       (plus-up (suc n * most + 1) s k (omega arith) (omega arith))
 
   sum-number : Within 20 (60 * most + 1) (moonSum (moonArgs t))

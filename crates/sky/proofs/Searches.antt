@@ -8,6 +8,8 @@ use native.Mathlib.Omega.{arith}
 use borrow.Author.Tests.{le-leb, lt-leb}
 use lib.ListN.{length, drop, length-append}
 use lib.Ieee.{Float, lt}
+use Rattle.paper.specs.declared.Refusal.{Refusal}
+use Rattle.paper.specs.declared.Refusal.the-variants.{OutOfRange, NoRoom, NotEnded}
 use Rattle.paper.specs.Answers.{Answer, answered, refused, given}
 use Rattle.sky.specs.Search.{halved, stepEnd, crosses, here, walk, searched, startsOf}
 use Rattle.sky.specs.Answers.{query, startsAnswer, held, startsBuffer}
@@ -59,7 +61,7 @@ module _ (f : Float → Float) where
 
 -- ---- what a call gives: the answer, and what the buffer holds
 -- a refusal leaves the buffer as it was
-pub held-refused : {A B : Type 0} (r : Answer A) {k : ℕ} (w b : B) → r ≡ refused k → held r w b ≡ b
+pub held-refused : {A B : Type 0} (r : Answer A) {k : Refusal} (w b : B) → r ≡ refused k → held r w b ≡ b
 unfolding held
 held-refused r w b e = rw e
 
@@ -71,23 +73,23 @@ module _ (n : ℕ) (a b : Float) (out : List Float) where
   abbrev answer : Answer (ℕ × ℕ)
   answer = startsAnswer n a b (length out)
 
-  pub refused-buffer : {k : ℕ} → answer ≡ refused k → startsBuffer n a b out ≡ out
+  pub refused-buffer : {k : Refusal} → answer ≡ refused k → startsBuffer n a b out ≡ out
   unfolding startsBuffer
   refused-buffer e = held-refused answer _ out e
 
-  pub gives-8 : query n a b ≡ false → answer ≡ refused 8
+  pub out-of-range : query n a b ≡ false → answer ≡ refused OutOfRange
   unfolding startsAnswer given
-  gives-8 h = rw h
+  out-of-range h = rw h
 
   module _ (good : query n a b ≡ true) where
-    pub gives-11 : startsOf n a b .ended ≡ false → answer ≡ refused 11
+    pub not-ended : startsOf n a b .ended ≡ false → answer ≡ refused NotEnded
     unfolding startsAnswer given
-    gives-11 h = rw (good, h)
+    not-ended h = rw (good, h)
 
     module _ (e : startsOf n a b .ended ≡ true) where
-      pub gives-9 : length out < length (startsOf n a b .starts) → answer ≡ refused 9
+      pub no-room : length out < length (startsOf n a b .starts) → answer ≡ refused NoRoom
       unfolding startsAnswer given
-      gives-9 h = rw (good, e, lt-leb (length (startsOf n a b .starts)) (length out) h)
+      no-room h = rw (good, e, lt-leb (length (startsOf n a b .starts)) (length out) h)
 
       module _ (room : length (startsOf n a b .starts) ≤ length out) where
         pub gives-found : answer ≡ answered (length (startsOf n a b .starts), startsOf n a b .steps)

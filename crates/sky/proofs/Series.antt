@@ -1,4 +1,4 @@
--- The moon's series: a power of the eccentricity by cases, one row's term, one row more. Assumes nothing.
+-- The moon's series: a power of E by cases, one row's term, one row more. Assumes nothing.
 use mathlib.Core.Path.{_≡_, refl, _∙_}
 use mathlib.Core.List.{List}
 use Prim.Native.Nat.{ℕ, zero, suc, _+_, _<_, _≤_}
@@ -14,8 +14,10 @@ use mir.Val.{SFits, toZ, ofZ}
 use mir.ValLaws.{toZ-ofZ}
 use Rattle.paper.proofs.Tests.{split}
 use Rattle.paper.specs.Floats.{_⊕_, _⊗_, whole}
+use Rattle.trig.specs.Trig.{sine}
 use Rattle.sky.specs.Angles.{deg}
-use Rattle.sky.specs.Moon.{eccPower, angle, zeroOr, addTerm, termAt, added}
+use Rattle.sky.specs.Moon.{factorPower, angle, zeroOr, termAt, series}
+use Rattle.sky.specs.Inner.{addTerm, added}
 use Rattle.sky.specs.declared.moon.MoonArgs.{MoonArgs}
 use Rattle.sky.specs.declared.moon.Term.{Term}
 
@@ -25,41 +27,44 @@ zero-not (pos zero) a b h = absurd (h refl)
 zero-not (pos (suc n)) a b h = refl
 zero-not (negsuc n) a b h = refl
 
-pub ecc-else : (e : Float) (z : ℤ) → (z ≡ pos 0 → ⊥) → (z ≡ pos 1 → ⊥) → (z ≡ negsuc 0 → ⊥) → e ⊗ e ≡ eccPower e z
-unfolding eccPower
-ecc-else e (pos zero) h k l = absurd (h refl)
-ecc-else e (pos (suc zero)) h k l = absurd (k refl)
-ecc-else e (pos (suc (suc n))) h k l = refl
-ecc-else e (negsuc zero) h k l = absurd (l refl)
-ecc-else e (negsuc (suc n)) h k l = refl
+pub factor-else : (e : Float) (z : ℤ) → (z ≡ pos 0 → ⊥) → (z ≡ pos 1 → ⊥) → (z ≡ negsuc 0 → ⊥) → e ⊗ e ≡ factorPower e z
+unfolding factorPower
+factor-else e (pos zero) h k l = absurd (h refl)
+factor-else e (pos (suc zero)) h k l = absurd (k refl)
+factor-else e (pos (suc (suc n))) h k l = refl
+factor-else e (negsuc zero) h k l = absurd (l refl)
+factor-else e (negsuc (suc n)) h k l = refl
 
 -- a signed number read back from its bits
 abbrev pub back : ℤ → ℤ
 back z = toZ w32 (ofZ w32 z)
 
 -- the angle of a term, from the parts that the code works out
-pub angle-is : (a : MoonArgs) (x : Term) {w0 w1 w2 w3 : Float} → SFits w32 (x .d) → SFits w32 (x .m) → SFits w32 (x .mp) → SFits w32 (x .f) → w0 ≡ whole (back (x .d)) → w1 ≡ whole (back (x .m)) → w2 ≡ whole (back (x .mp)) → w3 ≡ whole (back (x .f)) → (w0 ⊗ a .d ⊕ w1 ⊗ a .m ⊕ w2 ⊗ a .mp ⊕ w3 ⊗ a .f) ⊗ deg ≡ angle a x
-angle-is a x f0 f1 f2 f3 h0 h1 h2 h3 = simp (h0, h1, h2, h3, toZ-ofZ w32 (x .d) f0, toZ-ofZ w32 (x .m) f1, toZ-ofZ w32 (x .mp) f2, toZ-ofZ w32 (x .f) f3)
+module _ (a : MoonArgs) (x : Term) {w0 w1 w2 w3 : Float} where
+  pub angle-is : SFits w32 (x .elongation) → SFits w32 (x .sun) → SFits w32 (x .moon) → SFits w32 (x .node) → w0 ≡ whole (back (x .elongation)) → w1 ≡ whole (back (x .sun)) → w2 ≡ whole (back (x .moon)) → w3 ≡ whole (back (x .node)) → (w0 ⊗ a .elongation ⊕ w1 ⊗ a .sun ⊕ w2 ⊗ a .moon ⊕ w3 ⊗ a .node) ⊗ deg ≡ angle a x
+  angle-is f0 f1 f2 f3 h0 h1 h2 h3 =
+      simp (h0, h1, h2, h3, toZ-ofZ w32 (x .elongation) f0, toZ-ofZ w32 (x .sun) f1, toZ-ofZ w32 (x .moon) f2, toZ-ofZ w32 (x .node) f3)
 
--- a term whose coefficient is not 0, from the parts that the code works out
-pub term-is : (e : Float) (x : Term) (v s : Float) {w p : Float} → SFits w32 (x .m) → SFits w32 (x .coeff) → (x .coeff ≡ pos 0 → ⊥) → w ≡ whole (back (x .coeff)) → p ≡ eccPower e (back (x .m)) → s ⊕ w ⊗ p ⊗ v ≡ addTerm e x v s
-unfolding addTerm
-term-is e x v s f g h hw hp = simp (hw, hp, toZ-ofZ w32 (x .m) f, toZ-ofZ w32 (x .coeff) g) (zero-not (x .coeff) s _ h)
+module _ (e : Float) (x : Term) (v s : Float) where
+  -- a term whose coefficient is not 0, from the parts that the code works out
+  pub term-is : {w p : Float} → SFits w32 (x .sun) → SFits w32 (x .coefficient) → (x .coefficient ≡ pos 0 → ⊥) → w ≡ whole (back (x .coefficient)) → p ≡ factorPower e (back (x .sun)) → s ⊕ w ⊗ p ⊗ v ≡ addTerm e x v s
+  unfolding addTerm
+  term-is f g h hw hp = simp (hw, hp, toZ-ofZ w32 (x .sun) f, toZ-ofZ w32 (x .coefficient) g) (zero-not (x .coefficient) s _ h)
 
-pub term-none : (e : Float) (x : Term) (v s : Float) → x .coeff ≡ pos 0 → s ≡ addTerm e x v s
-unfolding addTerm zeroOr
-term-none e x v s h = rw h
+  pub term-none : x .coefficient ≡ pos 0 → s ≡ addTerm e x v s
+  unfolding addTerm zeroOr
+  term-none h = rw h
 
 -- one row more
 pub row-more : (rows : List ℤ) (e : Float) (f : ℕ → Float) (i : ℕ) {x : Term} {v s r : Float} → s ≡ added rows e f i → x ≡ termAt rows i → v ≡ f i → r ≡ addTerm e x v s → r ≡ added rows e f (i + 1)
 unfolding added
 row-more rows e f i hs hx hv hr = rw (add-one i) (hr ∙ simp (hs, hx, hv))
 
--- only the sines of the rows that are added matter
-pub added-same : (rows : List ℤ) (e : Float) (f g : ℕ → Float) (n : ℕ) → ((i : ℕ) → i < n → f i ≡ g i) → added rows e f n ≡ added rows e g n
-unfolding added
-added-same rows e f g zero h = refl
-added-same rows e f g (suc n) h = rw (h n (omega arith), added-same rows e f g n (λ i l. h i (omega arith)))
+-- three passes are one: the rows added with the sines of their own angles
+pub passes : (rows : List ℤ) (a : MoonArgs) (f : ℕ → Float) (n : ℕ) → ((i : ℕ) → i < n → f i ≡ sine (angle a (termAt rows i))) → added rows (a .factor) f n ≡ series rows a n
+unfolding added addTerm series
+passes rows a f zero h = refl
+passes rows a f (suc n) h = rw (h n (omega arith), passes rows a f n (λ i l. h i (omega arith)))
 
 -- the places below i hold the one, the others what the other says
 abbrev pub Filled : List Float → (ℕ → Float) → (ℕ → Float) → ℕ → Type 0

@@ -18,7 +18,7 @@ use Rattle.sky.specs.Angles.{deg}
 use Rattle.sky.specs.Sun.{anomaly}
 use Rattle.sky.specs.MoonTable.{moonTerms}
 use Rattle.sky.specs.Moon as Terms
-use Rattle.sky.specs.Moon.{meanPlace, meanElongation, sunAnomaly, moonAnomaly, latitude, venus, jupiter, moonArgs, angle, termAt}
+use Rattle.sky.specs.Moon.{meanPlace, meanElongation, sunAnomaly, moonAnomaly, argumentOfLatitude, venus, jupiter, moonArgs, angle, termAt}
 use Rattle.sky.proofs.Numbers.{cubed, fourthed, entry-small, place-number, tt-served, day-between, centuries-number}
 
 abbrev far : ℕ
@@ -41,9 +41,9 @@ module _ {t : Float} (p : Within 20 1680000 t) where
   unfolding moonAnomaly near
   moon-arg = let t = got p in within (765000 * 2 ^ 20) (lit _ ⊞ by _ t ⊞ by _ t ⊠ t ⊞ cubed t ⧄ _ ⊟ fourthed t ⧄ _) tt
 
-  latitude-arg : Within 20 (775000 * 2 ^ 20) (latitude t)
-  unfolding latitude near
-  latitude-arg = let t = got p in within (775000 * 2 ^ 20) (lit _ ⊞ by _ t ⊟ by _ t ⊠ t ⊟ cubed t ⧄ _ ⊞ fourthed t ⧄ _) tt
+  node-arg : Within 20 (775000 * 2 ^ 20) (argumentOfLatitude t)
+  unfolding argumentOfLatitude near
+  node-arg = let t = got p in within (775000 * 2 ^ 20) (lit _ ⊞ by _ t ⊟ by _ t ⊠ t ⊟ cubed t ⧄ _ ⊞ fourthed t ⧄ _) tt
 
   -- ---- the sixty rows, one by one
   multiple : (i : ℕ) → Within 20 (natAbs (getD moonTerms i (pos 0)) * 2 ^ 20) (whole (getD moonTerms i (pos 0)))
@@ -53,7 +53,7 @@ module _ {t : Float} (p : Within 20 1680000 t) where
 
   abbrev row : ℕ → Formula 20
   row n =
-      (got (multiple (5 * n)) ⊠ got elongation-arg ⊞ got (multiple (5 * n + 1)) ⊠ got sun-arg ⊞ got (multiple (5 * n + 2)) ⊠ got moon-arg ⊞ got (multiple (5 * n + 3)) ⊠ got latitude-arg) ⊠ lit deg
+      (got (multiple (5 * n)) ⊠ got elongation-arg ⊞ got (multiple (5 * n + 1)) ⊠ got sun-arg ⊞ got (multiple (5 * n + 2)) ⊠ got moon-arg ⊞ got (multiple (5 * n + 3)) ⊠ got node-arg) ⊠ lit deg
 
   abbrev fine : ℕ → Bool
   fine n = good (row n) && leb (bound (row n)) far
@@ -70,9 +70,9 @@ module _ {t : Float} (p : Within 20 1680000 t) where
   unfolding venus deg near div
   venus-served = served (within far ((lit _ ⊞ by _ (got p)) ⊠ lit _) tt)
 
-  flattening-served : T (inRange ((meanPlace t ⊖ latitude t) ⊗ deg))
+  flattening-served : T (inRange ((meanPlace t ⊖ argumentOfLatitude t) ⊗ deg))
   unfolding deg near div
-  flattening-served = served (within far ((got (place-number p) ⊟ got latitude-arg) ⊠ lit _) tt)
+  flattening-served = served (within far ((got (place-number p) ⊟ got node-arg) ⊠ lit _) tt)
 
   jupiter-served : T (inRange (jupiter t ⊗ deg))
   unfolding jupiter deg near div
@@ -98,7 +98,7 @@ module _ {t : Float} (p : Within 20 1680000 t) where
 pub record Served (t : Float) : Type 0 where
   pub rows : (n : ℕ) → n < 60 → T (inRange (angle (moonArgs t) (termAt moonTerms n)))
   pub venus : T (inRange (Terms.venus t ⊗ deg))
-  pub flattening : T (inRange ((meanPlace t ⊖ latitude t) ⊗ deg))
+  pub flattening : T (inRange ((meanPlace t ⊖ argumentOfLatitude t) ⊗ deg))
   pub jupiter : T (inRange (Terms.jupiter t ⊗ deg))
   pub sun1 : T (inRange (anomaly t ⊗ deg))
   pub sun2 : T (inRange (dec 2 0 ⊗ anomaly t ⊗ deg))

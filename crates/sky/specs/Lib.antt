@@ -6,4 +6,5 @@ pub mod MoonTable
 pub mod Moon
 pub mod Tithi
 pub mod Search
+pub mod Inner
 pub mod Answers

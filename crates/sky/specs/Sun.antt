@@ -20,10 +20,14 @@ center t m =
     ⊕ (dec 19993 6 ⊖ dec 101 6 ⊗ t) ⊗ sine (dec 2 0 ⊗ m ⊗ deg)
     ⊕ dec 289 6 ⊗ sine (dec 3 0 ⊗ m ⊗ deg)
 
--- the true longitude
+-- the true longitude, by the mean longitude and the anomaly m
+abbrev pub trueLongitude : Float → Float → Float → Float
+trueLongitude t mean m = mean ⊕ center t m
+
+-- from 0 to 360
 unfoldable pub sunLongitude : Float → Float
-sunLongitude t = norm360 (meanLongitude t ⊕ center t (anomaly t))
+sunLongitude t = norm360 (trueLongitude t (meanLongitude t) (anomaly t))
 
 -- all three
 abbrev pub sunAt : Float → SunPlace
-sunAt t = record { l0 = meanLongitude t; m = anomaly t; lambda = sunLongitude t }
+sunAt t = record { mean = meanLongitude t; anomaly = anomaly t; longitude = sunLongitude t }

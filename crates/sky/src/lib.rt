@@ -12,8 +12,9 @@ ghost use mathlib.Core.Path.{_≡_};
 ghost use mathlib.Core.List.{_++_};
 ghost use Prim.Native.Nat.{_≤_};
 ghost use lib.ListN.{length, take, drop};
-ghost use Rattle.sky.specs.Answers.{ttSays, ttAnswer, degreesSays, sunAnswer, moonAnswer, elongationAnswer, tithiSays, tithiAnswer, query, startsSays, startsAnswer, startsBuffer, endSays, endAnswer};
+ghost use Rattle.sky.specs.Answers.{ttSays, ttAnswer, degreesSays, sunAnswer, moonAnswer, elongationAnswer, smallSays, tithiAnswer, query, startsSays, startsAnswer, startsBuffer, instantSays, endAnswer};
 use gregorian::UtDay;
+use paper::Refusal;
 use search::FirstStart;
 pub use time::delta_t;
 pub use tithi::tithi_of;
@@ -21,37 +22,35 @@ pub use tithi::tithi_of;
 // A Julian day of terrestrial time.
 pub struct TtDay(pub f64);
 
-// A day of terrestrial time, or refusal 8.
+// A day of terrestrial time, or a refusal.
 pub enum TtAnswer {
     At(TtDay),
-    OutOfRange,
+    Refused(Refusal),
 }
 
-// An angle in degrees, or refusal 8.
+// An angle in degrees, or a refusal.
 pub enum DegreesAnswer {
     Is(f64),
-    OutOfRange,
+    Refused(Refusal),
 }
 
-// The number of a tithi, or refusal 8.
-pub enum TithiAnswer {
+// A small number, as that of a tithi or of the minutes of a day, or a refusal.
+pub enum SmallAnswer {
     Is(u16),
-    OutOfRange,
+    Refused(Refusal),
 }
 
-// The number of starts and the number of steps walked, or refusal 8, 11 or 9.
+// The number of starts and the number of steps walked, or a refusal.
 pub enum StartsAnswer {
     Found { count: usize, steps: usize },
-    OutOfRange,
-    NotEnded,
-    NoRoom,
+    Refused(Refusal),
 }
 
-// An instant, or none, or refusal 8.
-pub enum EndAnswer {
+// An instant, or none, or a refusal.
+pub enum InstantAnswer {
     At(UtDay),
     Nothing,
-    OutOfRange,
+    Refused(Refusal),
 }
 
 // The day of terrestrial time at an instant.
@@ -61,7 +60,7 @@ pub fn tt_from_ut(ut: UtDay) -> TtAnswer
     if gregorian::is_instant(ut.0) {
         TtAnswer::At(time::tt_of(ut))
     } else {
-        TtAnswer::OutOfRange
+        TtAnswer::Refused(Refusal::OutOfRange)
     }
 }
 
@@ -71,9 +70,9 @@ pub fn sun_longitude(tt: TtDay) -> DegreesAnswer
 {
     if time::is_tt_day(tt.0) {
         let place = sun::sun_at(time::julian_centuries(tt));
-        DegreesAnswer::Is(place.lambda)
+        DegreesAnswer::Is(place.longitude)
     } else {
-        DegreesAnswer::OutOfRange
+        DegreesAnswer::Refused(Refusal::OutOfRange)
     }
 }
 
@@ -84,7 +83,7 @@ pub fn moon_longitude(tt: TtDay) -> DegreesAnswer
     if time::is_tt_day(tt.0) {
         DegreesAnswer::Is(moon::moon_at(time::julian_centuries(tt)))
     } else {
-        DegreesAnswer::OutOfRange
+        DegreesAnswer::Refused(Refusal::OutOfRange)
     }
 }
 
@@ -95,18 +94,18 @@ pub fn elongation(ut: UtDay) -> DegreesAnswer
     if gregorian::is_instant(ut.0) {
         DegreesAnswer::Is(tithi::elongation_of(ut))
     } else {
-        DegreesAnswer::OutOfRange
+        DegreesAnswer::Refused(Refusal::OutOfRange)
     }
 }
 
 // The tithi running at an instant.
-pub fn tithi_at(ut: UtDay) -> TithiAnswer
-    ensures { λ r. ⌜ tithiSays r ≡ tithiAnswer (ut .0) ⌝ }
+pub fn tithi_at(ut: UtDay) -> SmallAnswer
+    ensures { λ r. ⌜ smallSays r ≡ tithiAnswer (ut .0) ⌝ }
 {
     if gregorian::is_instant(ut.0) {
-        TithiAnswer::Is(tithi::tithi_of(tithi::elongation_of(ut)))
+        SmallAnswer::Is(tithi::tithi_of(tithi::elongation_of(ut)))
     } else {
-        TithiAnswer::OutOfRange
+        SmallAnswer::Refused(Refusal::OutOfRange)
     }
 }
 
@@ -155,25 +154,25 @@ pub fn tithi_starts_between(tithi: u16, from: UtDay, to: UtDay, out: &mut [f64])
                     steps: walked.steps,
                 };
             }
-            return StartsAnswer::NoRoom;
+            return StartsAnswer::Refused(Refusal::NoRoom);
         }
-        return StartsAnswer::NotEnded;
+        return StartsAnswer::Refused(Refusal::NotEnded);
     }
-    StartsAnswer::OutOfRange
+    StartsAnswer::Refused(Refusal::OutOfRange)
 }
 
 // The instant at which the tithi that runs at an instant gives way to the next, in two and a half days.
-pub fn tithi_end(ut: UtDay) -> EndAnswer
-    ensures { λ r. ⌜ endSays r ≡ endAnswer (ut .0) ⌝ }
+pub fn tithi_end(ut: UtDay) -> InstantAnswer
+    ensures { λ r. ⌜ instantSays r ≡ endAnswer (ut .0) ⌝ }
 {
     if gregorian::is_instant(ut.0) {
         if gregorian::is_instant(ut.0 + 2.5) {
             let end = search::end_of(ut);
             match end {
-                FirstStart::At(x) => return EndAnswer::At(x),
-                FirstStart::Nothing => return EndAnswer::Nothing,
+                FirstStart::At(x) => return InstantAnswer::At(x),
+                FirstStart::Nothing => return InstantAnswer::Nothing,
             }
         }
     }
-    EndAnswer::OutOfRange
+    InstantAnswer::Refused(Refusal::OutOfRange)
 }

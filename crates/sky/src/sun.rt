@@ -1,14 +1,14 @@
 // The sun's place, Meeus ch. 25. Each function serves every f64.
 ghost use mathlib.Core.Path.{_≡_};
-ghost use Rattle.sky.specs.Sun.{meanLongitude, anomaly, center, sunAt};
+ghost use Rattle.sky.specs.Sun.{meanLongitude, anomaly, center, trueLongitude, sunAt};
 use super::angles::DEG;
 use super::angles::norm360;
 
 // The sun's mean longitude, mean anomaly and true longitude, in degrees.
 pub struct SunPlace {
-    pub l0: f64,
-    pub m: f64,
-    pub lambda: f64,
+    pub mean: f64,
+    pub anomaly: f64,
+    pub longitude: f64,
 }
 
 fn mean_longitude(t: f64) -> f64
@@ -32,12 +32,22 @@ fn center(t: f64, m: f64) -> f64
         + 0.000289 * trig::sine(3.0 * m * DEG)
 }
 
+// The true longitude, before it is brought from 0 to 360 degrees.
+fn true_longitude(t: f64, mean: f64, m: f64) -> f64
+    ensures { λ r. ⌜ r ≡ trueLongitude t mean m ⌝ }
+{
+    mean + center(t, m)
+}
+
 // The sun's place at t centuries after the beginning of 2000.
 pub fn sun_at(t: f64) -> SunPlace
     ensures { λ r. ⌜ r ≡ sunAt t ⌝ }
 {
-    let l0 = mean_longitude(t);
+    let mean = mean_longitude(t);
     let m = anomaly(t);
-    let lambda = norm360(l0 + center(t, m));
-    SunPlace { l0, m, lambda }
+    SunPlace {
+        mean,
+        anomaly: m,
+        longitude: norm360(true_longitude(t, mean, m)),
+    }
 }

@@ -15,7 +15,7 @@ pub fn elongation_of(ut: UtDay) -> f64
     let t = julian_centuries(tt_of(ut));
     let moon = moon_at(t);
     let sun = sun_at(t);
-    norm360(moon - sun.lambda)
+    norm360(moon - sun.longitude)
 }
 
 // The tithi of an elongation: 1 plus how many of 12, 24, .., 348 are not above it.

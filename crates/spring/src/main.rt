@@ -16,16 +16,16 @@ fn complain(line: &[u8], n: usize) {
 }
 
 // The refusal of a table and the first rule that it breaks, on standard error.
-fn report_broken(which: &[u8], table: Table, rows: &[u16], b: Broken) {
+fn report_broken(which: &[u8], table: Table, b: Broken) {
     let mut line = [0u8; 256];
-    let n = faults::put_broken(&mut line, 0, which, table, rows, b);
+    let n = tables::put_broken_line(&mut line, 0, which, table, b);
     complain(&line, n);
 }
 
 // The first row that NEW has not as OLD has it, on standard error.
 fn report_change(table: Table, i: usize) {
     let mut line = [0u8; 256];
-    let n = faults::put_change(&mut line, 0, table, i);
+    let n = tables::put_change_line(&mut line, 0, table, i);
     complain(&line, n);
 }
 
@@ -78,7 +78,7 @@ fn answer_new(
         answer_both(table, old, new, rules, names, out);
         return;
     }
-    report_broken(b"NEW", table, new, tables::first_broken(table, new));
+    report_broken(b"NEW", table, tables::first_broken(table, new));
 }
 
 // Tests OLD first.
@@ -95,7 +95,7 @@ fn answer(
         answer_new(table, old, new_table, new, rules, names, out);
         return;
     }
-    report_broken(b"OLD", table, old, tables::first_broken(table, old));
+    report_broken(b"OLD", table, tables::first_broken(table, old));
 }
 
 // The same with the parts of the lent buffers that were read.

@@ -11,8 +11,9 @@ use Rattle.text.proofs.Texts.{cut, over}
 use Rattle.conversion.specs.declared.Table.{Table}
 use Rattle.conversion.specs.Flat.{rowCount, lens, accepted}
 use Rattle.conversion.specs.Inner.{firstNumber}
-use Rattle.tables.specs.declared.Broken.the-variants as B
-use Rattle.tables.specs.Lines.{columnFrom, column, rowFrom, place, firstBroken, shared}
+use Rattle.tables.specs.declared.broken.Broken.the-variants as B
+use Rattle.tables.specs.Breaks.{columnFrom, column, rowFrom, place, firstBroken}
+use Rattle.tables.specs.Shared.{shared}
 
 -- ---- the columns of a row
 
@@ -63,7 +64,7 @@ module _ (rows : List ℕ) (n i : ℕ) where
       rw q
 
   module _ (h : i < n) (m : ℕ) (e : m ≡ column rows i) where
-    pub row-here : (m ≡ 13 → ⊥) → B.Cell i m ≡ rowFrom rows (n - i) i
+    pub row-here : (m ≡ 13 → ⊥) → B.Cell i m (lens rows i m) ≡ rowFrom rows (n - i) i
     unfolding rowFrom
     row-here k =
         let q : n - i ≡ suc (n - (i + 1)) = omega arith in

@@ -11,9 +11,10 @@ use lib.ListN.{length, drop}
 use Rattle.conversion.specs.declared.Table.{Table}
 use Rattle.conversion.specs.Flat.{rowCount, accepted}
 use Rattle.conversion.specs.Inner.{firstNumber}
-use Rattle.tables.specs.declared.Broken.{Broken}
-use Rattle.tables.specs.declared.Broken.the-variants as B
-use Rattle.tables.specs.Lines.{column, rowFrom, place, firstBroken, shared}
+use Rattle.tables.specs.declared.broken.Broken.{Broken}
+use Rattle.tables.specs.declared.broken.Broken.the-variants as B
+use Rattle.tables.specs.Breaks.{column, rowFrom, place, firstBroken}
+use Rattle.tables.specs.Shared.{shared}
 
 abbrev pub isNothing : Broken → Bool
 isNothing B.Nothing = true
@@ -22,7 +23,7 @@ isNothing B.NoRow = false
 isNothing B.ManyRows = false
 isNothing B.NoDate = false
 isNothing B.FirstDay = false
-isNothing (B.Cell i m) = false
+isNothing (B.Cell i m n) = false
 isNothing B.LastDay = false
 
 chosen : (b : Bool) (x y : Broken) → isNothing x ≡ false → isNothing y ≡ false → isNothing (cond b x y) ≡ false

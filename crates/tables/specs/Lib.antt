@@ -1,2 +1,4 @@
 -- What the contracts of `tables` are written in.
-pub mod Lines
+pub mod Breaks
+pub mod Words
+pub mod Shared

@@ -1,102 +1,17 @@
-// Where a year table breaks a rule, and how far one table is the beginning of another.
+// Two year tables before they are used: the first rule that one breaks, in words too, and how far one is the beginning of the other.
+mod broken;
+mod words;
+
+pub use broken::Broken;
+pub use broken::first_broken;
+pub use words::put_broken_line;
+pub use words::put_change_line;
 ghost use mathlib.Core.Path.{_≡_};
-ghost use Prim.Native.Nat.{_+_, _*_, _≤_};
-ghost use lib.ListN.{length};
-ghost use Rattle.tables.specs.Lines.{column, rowFrom, place, firstBroken};
-ghost use Rattle.tables.specs.Lines as Lines;
-use conversion::Table;
-
-// The first line of document 01's paragraph on the year table that a table breaks: the first year is not 1 to 3,000; no row; more than 128; no such
-// Gregorian date, or one before 1901; in a row, counted from 0, the column of a month that has not 29 to 32 days, or 12 for a sum that is another;
-// or the last day is after 2099.
-pub enum Broken {
-    Nothing,
-    FirstYear,
-    NoRow,
-    ManyRows,
-    NoDate,
-    FirstDay,
-    Cell(usize, usize),
-    LastDay,
-}
-
-// The first column of row i that breaks a rule, and 13 where none does.
-fn column_of(rows: &[u16], i: usize) -> usize
-    requires { ⌜ 13 * i + 13 ≤ length (now rows) ⌝ }
-    ensures { λ r. ⌜ r ≡ column (now (rows .entry)) i ⌝ }
-{
-    let mut days: u16 = 0;
-    let mut m = 0;
-    while m < 12 {
-        let len = rows[13 * i + m];
-        if len < 29 {
-            return m;
-        }
-        if 32 < len {
-            return m;
-        }
-        days += len;
-        m += 1;
-    }
-    if rows[13 * i + 12] == days { 13 } else { 12 }
-}
-
-// The first row that breaks a rule, of n rows; the last day where none does.
-fn row_of(rows: &[u16], n: usize) -> Broken
-    requires { ⌜ 13 * n ≤ length (now rows) ⌝ }
-    ensures { λ r. ⌜ r ≡ rowFrom (now (rows .entry)) n 0 ⌝ }
-{
-    let mut i = 0;
-    while i < n {
-        let m = column_of(rows, i);
-        if m != 13 {
-            return Broken::Cell(i, m);
-        }
-        i += 1;
-    }
-    Broken::LastDay
-}
-
-// The first line that a table breaks which breaks one.
-fn place_of(table: Table, rows: &[u16]) -> Broken
-    ensures { λ r. ⌜ r ≡ place table (now (rows .entry)) ⌝ }
-{
-    if table.first_year < 1 {
-        return Broken::FirstYear;
-    }
-    if 3000 < table.first_year {
-        return Broken::FirstYear;
-    }
-    let n = rows.len() / 13;
-    if n < 1 {
-        return Broken::NoRow;
-    }
-    if 128 < n {
-        return Broken::ManyRows;
-    }
-    let start = conversion::first_day(table);
-    if start == 0 {
-        return Broken::NoDate;
-    }
-    if start < 2415386 {
-        return Broken::FirstDay;
-    }
-    row_of(rows, n)
-}
-
-// The first line that a table of whole rows breaks: nothing exactly where it is accepted.
-pub fn first_broken(table: Table, rows: &[u16]) -> Broken
-    ensures { λ r. ⌜ r ≡ firstBroken table (now (rows .entry)) ⌝ }
-{
-    if conversion::accepts(table, rows) {
-        return Broken::Nothing;
-    }
-    place_of(table, rows)
-}
+ghost use Rattle.tables.specs.Shared as Shared;
 
 // How many numbers two tables have in common from the front.
 pub fn shared(old: &[u16], new: &[u16]) -> usize
-    ensures { λ r. ⌜ r ≡ Lines.shared (now (old .entry)) (now (new .entry)) ⌝ }
+    ensures { λ r. ⌜ r ≡ Shared.shared (now (old .entry)) (now (new .entry)) ⌝ }
 {
     let mut i = 0;
     while i < old.len() {

@@ -2,15 +2,16 @@
 use Prim.Native.Nat.{ℕ, zero, suc, _+_, _-_, _*_, _/_, _%_, _≤_, _<_}
 use mathlib.Core.Path.{_≡_, refl, ap}
 use mathlib.Core.Bool.{Bool, true, false, cond}
-use mathlib.Core.List.{List, [], _∷_, _++_}
+use mathlib.Core.List.{List, _++_}
 use mathlib.Core.Logic.{_⊎_, inl, inr}
 use native.Mathlib.Omega.{arith}
 use borrow.Author.Tests.{eq-eqb}
 use lib.Dec.{ltb, eqb, eqb→eq}
-use lib.ListN.{length, replicate, length-append}
+use lib.ListN.{length, length-append}
 use Rattle.paper.proofs.Tests.{at}
 use Rattle.text.specs.Digits.{run}
 use Rattle.text.proofs.Runs.{length-run}
+use Rattle.text.specs.Quoted.{bytes}
 use Rattle.wall.specs.Words.{word, gregorianMonths}
 use Rattle.wall.specs.Columns.{space, repeated, two, clock, shortDate}
 use Rattle.wall.specs.Cells.{num, marked, dayLine, tithiLine, sunLine, piece, barred, row}
@@ -27,7 +28,7 @@ pub clock-length : (m : ℕ) → length (clock m) ≡ 5
 unfolding clock
 clock-length m = go (ltb m 1440)
   where
-    go : (b : Bool) → length (cond b (run 10 2 (m / 60) ++ ((58 ∷ []) ++ run 10 2 (m % 60))) (45 ∷ 45 ∷ 58 ∷ 45 ∷ 45 ∷ [])) ≡ 5
+    go : (b : Bool) → length (cond b (run 10 2 (m / 60) ++ (bytes ":" ++ run 10 2 (m % 60))) (bytes "--:--")) ≡ 5
     go true = simp (length-append, length-run)
     go false = refl
 
@@ -57,7 +58,7 @@ Filled cells i = (num cells i 0 ≡ 0) ⊎ ((0 < num cells i 2) × (num cells i 
 module _ (cells : List ℕ) (i : ℕ) where
   tithi-length : length (tithiLine cells i) ≡ 10
   unfolding tithiLine
-  tithi-length = simp (length-append, two-length, marked-length (num cells i 5) 2 (60 ∷ 60 ∷ []) (32 ∷ 32 ∷ []) refl refl)
+  tithi-length = simp (length-append, two-length, marked-length (num cells i 5) 2 (bytes "<<") (bytes "  ") refl refl)
 
   sun-length : (label : List ℕ) (m : ℕ) → length label ≡ 5 → length (sunLine label m) ≡ 10
   unfolding sunLine
@@ -66,7 +67,7 @@ module _ (cells : List ℕ) (i : ℕ) where
   day-length : 0 < num cells i 2 → num cells i 2 ≤ 12 → length (dayLine cells i) ≡ 10
   unfolding dayLine shortDate
   day-length h l =
-      simp (length-append, two-length, marked-length (num cells i 6) 2 (42 ∷ 32 ∷ []) (32 ∷ 32 ∷ []) refl refl, month-length (num cells i 2) h l)
+      simp (length-append, two-length, marked-length (num cells i 6) 2 (bytes "* ") (bytes "  ") refl refl, month-length (num cells i 2) h l)
 
   -- each line of a cell has ten columns
   pub piece-length : (k : ℕ) → Filled cells i → length (piece k cells i) ≡ 10
@@ -74,13 +75,13 @@ module _ (cells : List ℕ) (i : ℕ) where
   piece-length k (inl e) = rw (eq-eqb (num cells i 0) 0 e)
   piece-length k (inr h) = go (eqb (num cells i 0) 0) (eqb k 0) (eqb k 1) (eqb k 2)
     where
-      go : (a b c d : Bool) → length (cond a (replicate 10 32) (cond b (dayLine cells i) (cond c (tithiLine cells i)
-          (cond d (sunLine (114 ∷ 105 ∷ 115 ∷ 101 ∷ 32 ∷ []) (num cells i 9)) (sunLine (115 ∷ 101 ∷ 116 ∷ 32 ∷ 32 ∷ []) (num cells i 10)))))) ≡ 10
+      go : (a b c d : Bool) → length (cond a (bytes "          ") (cond b (dayLine cells i) (cond c (tithiLine cells i)
+          (cond d (sunLine (bytes "rise ") (num cells i 9)) (sunLine (bytes "set  ") (num cells i 10)))))) ≡ 10
       go true b c d = refl
       go false true c d = day-length (h .0) (h .1)
       go false false true d = tithi-length
-      go false false false true = sun-length (114 ∷ 105 ∷ 115 ∷ 101 ∷ 32 ∷ []) (num cells i 9) refl
-      go false false false false = sun-length (115 ∷ 101 ∷ 116 ∷ 32 ∷ 32 ∷ []) (num cells i 10) refl
+      go false false false true = sun-length (bytes "rise ") (num cells i 9) refl
+      go false false false false = sun-length (bytes "set  ") (num cells i 10) refl
 
 -- n cells with a bar before each
 cells-length : (k : ℕ) (cells : List ℕ) (i n : ℕ) → ((j : ℕ) → Filled cells j) → length (repeated (barred k cells) 1 i n) ≡ 11 * n
@@ -89,9 +90,9 @@ cells-length k cells i zero h = refl
 cells-length k cells i (suc n) h =
     let r = cells-length k cells (i + 1) n h in
     let p = piece-length cells i k (h i) in
-    omega (arith, length-append (barred k cells i) (repeated (barred k cells) 1 (i + 1) n), length-append (124 ∷ []) (piece k cells i))
+    omega (arith, length-append (barred k cells i) (repeated (barred k cells) 1 (i + 1) n), length-append (bytes "|") (piece k cells i))
 
 -- a line of a week: 78 columns and the line feed
 pub row-length : (k : ℕ) (cells : List ℕ) (i : ℕ) → ((j : ℕ) → Filled cells j) → length (row k cells i) ≡ 79
 unfolding row
-row-length k cells i h = omega (arith, length-append (repeated (barred k cells) 1 i 7) (124 ∷ 10 ∷ []), cells-length k cells i 7 h)
+row-length k cells i h = omega (arith, length-append (repeated (barred k cells) 1 i 7) (bytes "|\n"), cells-length k cells i 7 h)

@@ -1,9 +1,10 @@
 -- A month's cells of twelve numbers in weeks from Sunday, each ten columns wide and four lines high. Assumes nothing.
 use Prim.Native.Nat.{ℕ, _+_, _*_}
 use mathlib.Core.Bool.{cond}
-use mathlib.Core.List.{List, [], _∷_, _++_}
+use mathlib.Core.List.{List, _++_}
 use lib.Dec.{eqb}
-use lib.ListN.{getD, replicate}
+use lib.ListN.{getD}
+use Rattle.text.specs.Quoted.{bytes}
 use Rattle.wall.specs.Columns.{repeated, two, clock, shortDate}
 
 -- number k of cell i: BS day; Gregorian year, month, day; weekday; today; holiday; tithi; tithi end; sunrise; sunset; festival count
@@ -18,13 +19,12 @@ marked n mark blank = cond (eqb n 0) blank mark
 
 -- 29* Nov 15: the BS day, the mark of a holiday, the Gregorian day
 unfoldable pub dayLine : List ℕ → ℕ → List ℕ
-dayLine cells i = two (num cells i 0) ++ (marked (num cells i 6) (42 ∷ 32 ∷ []) (32 ∷ 32 ∷ []) ++ shortDate (num cells i 2) (num cells i 3))
+dayLine cells i = two (num cells i 0) ++ (marked (num cells i 6) (bytes "* ") (bytes "  ") ++ shortDate (num cells i 2) (num cells i 3))
 
 -- tithi  6<<: the tithi, the mark of today
 unfoldable pub tithiLine : List ℕ → ℕ → List ℕ
-tithiLine cells i =
-    (116 ∷ 105 ∷ 116 ∷ 104 ∷ 105 ∷ 32 ∷ [])
-    ++ (two (num cells i 7) ++ marked (num cells i 5) (60 ∷ 60 ∷ []) (32 ∷ 32 ∷ []))
+tithiLine cells i = bytes "tithi "
+    ++ (two (num cells i 7) ++ marked (num cells i 5) (bytes "<<") (bytes "  "))
 
 -- rise 06:26 and set  17:12: a minute of the day behind a word
 unfoldable pub sunLine : List ℕ → ℕ → List ℕ
@@ -33,25 +33,25 @@ sunLine label minute = label ++ clock minute
 -- line k of a cell, counted from 0; padding, whose BS day is 0, is blank
 unfoldable pub piece : ℕ → List ℕ → ℕ → List ℕ
 piece k cells i =
-    cond (eqb (num cells i 0) 0) (replicate 10 32)
+    cond (eqb (num cells i 0) 0) (bytes "          ")
     (cond (eqb k 0) (dayLine cells i)
     (cond (eqb k 1) (tithiLine cells i)
-    (cond (eqb k 2) (sunLine (114 ∷ 105 ∷ 115 ∷ 101 ∷ 32 ∷ []) (num cells i 9))
-    (sunLine (115 ∷ 101 ∷ 116 ∷ 32 ∷ 32 ∷ []) (num cells i 10)))))
+    (cond (eqb k 2) (sunLine (bytes "rise ") (num cells i 9))
+    (sunLine (bytes "set  ") (num cells i 10)))))
 
 -- ---- weeks
 
--- line k of a cell behind a bar (124)
+-- line k of a cell behind a bar
 abbrev pub barred : ℕ → List ℕ → ℕ → List ℕ
-barred k cells i = (124 ∷ []) ++ piece k cells i
+barred k cells i = bytes "|" ++ piece k cells i
 
 -- line k of the seven cells from i on, with a bar at the end
 unfoldable pub row : ℕ → List ℕ → ℕ → List ℕ
-row k cells i = repeated (barred k cells) 1 i 7 ++ (124 ∷ 10 ∷ [])
+row k cells i = repeated (barred k cells) 1 i 7 ++ bytes "|\n"
 
 -- +---------- seven times and + at the end
 unfoldable pub border : List ℕ
-border = repeated (λ i. 43 ∷ replicate 10 45) 1 0 7 ++ (43 ∷ 10 ∷ [])
+border = repeated (λ i. bytes "+----------") 1 0 7 ++ bytes "+\n"
 
 -- the four lines of the seven cells from i on, and the line below them
 unfoldable pub week : List ℕ → ℕ → List ℕ

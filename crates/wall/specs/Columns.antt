@@ -1,13 +1,14 @@
 -- Numbers in columns. Assumes nothing.
 use Prim.Native.Nat.{ℕ, zero, suc, _+_, _/_, _%_}
 use mathlib.Core.Bool.{cond}
-use mathlib.Core.List.{List, [], _∷_, _++_}
+use mathlib.Core.List.{List, [], _++_}
 use lib.Dec.{ltb}
 use Rattle.text.specs.Digits.{run, digits}
+use Rattle.text.specs.Quoted.{bytes}
 use Rattle.wall.specs.Words.{word, gregorianMonths}
 
 abbrev pub space : List ℕ
-space = 32 ∷ []
+space = bytes " "
 
 -- f i, f (i + step), .., n of them one after the other
 unfoldable pub repeated : (ℕ → List ℕ) → ℕ → ℕ → ℕ → List ℕ
@@ -20,7 +21,7 @@ two n = cond (ltb n 10) (space ++ run 10 1 n) (run 10 2 n)
 
 -- a minute of the day as 06:26; --:-- for 1440, which is none
 unfoldable pub clock : ℕ → List ℕ
-clock m = cond (ltb m 1440) (run 10 2 (m / 60) ++ ((58 ∷ []) ++ run 10 2 (m % 60))) (45 ∷ 45 ∷ 58 ∷ 45 ∷ 45 ∷ [])
+clock m = cond (ltb m 1440) (run 10 2 (m / 60) ++ (bytes ":" ++ run 10 2 (m % 60))) (bytes "--:--")
 
 -- a Gregorian day in six columns: Nov 15
 unfoldable pub shortDate : ℕ → ℕ → List ℕ

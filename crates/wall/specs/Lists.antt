@@ -1,8 +1,9 @@
 -- A line for each festival of a day, and of a month. Assumes nothing.
 use Prim.Native.Nat.{ℕ, _+_, _*_}
-use mathlib.Core.List.{List, [], _∷_, _++_}
+use mathlib.Core.List.{List, _++_}
 use lib.ListN.{getD}
 use Rattle.paper.specs.Sums.{sum}
+use Rattle.text.specs.Quoted.{bytes}
 use Rattle.wall.specs.Words.{word, weekdays}
 use Rattle.wall.specs.Names.{nameText}
 use Rattle.wall.specs.Columns.{space, repeated, two, shortDate}
@@ -11,8 +12,8 @@ use Rattle.wall.specs.Cells.{num, marked}
 -- 29  Sun Nov 15 and two spaces: the day of a cell
 unfoldable pub dayOf : List ℕ → ℕ → List ℕ
 dayOf cells i =
-    two (num cells i 0) ++ ((32 ∷ 32 ∷ []) ++ (word 3 (num cells i 4) weekdays
-    ++ (space ++ (shortDate (num cells i 2) (num cells i 3) ++ (32 ∷ 32 ∷ [])))))
+    two (num cells i 0) ++ (bytes "  " ++ (word 3 (num cells i 4) weekdays
+    ++ (space ++ (shortDate (num cells i 2) (num cells i 3) ++ bytes "  "))))
 
 -- how many festivals the cells before cell i have: there the festivals of its day begin
 unfoldable pub before : List ℕ → ℕ → ℕ
@@ -22,7 +23,7 @@ before cells i = sum (λ k. num cells k 11) i
 unfoldable pub festivalText : List ℕ → List ℕ → List ℕ → ℕ → List ℕ
 festivalText rules names festivals f =
     nameText 50 (getD festivals (f * 2) 0) rules names
-    ++ marked (getD festivals (f * 2 + 1) 0) (32 ∷ 40 ∷ 104 ∷ 111 ∷ 108 ∷ 105 ∷ 100 ∷ 97 ∷ 121 ∷ 41 ∷ 10 ∷ []) (10 ∷ [])
+    ++ marked (getD festivals (f * 2 + 1) 0) (bytes " (holiday)\n") (bytes "\n")
 
 module _ (rules names cells festivals : List ℕ) where
   -- the line of festival f, a festival of cell i

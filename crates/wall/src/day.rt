@@ -7,7 +7,7 @@ use crate::columns::number;
 use crate::columns::put_clock;
 use crate::columns::put_full_date;
 use crate::lists::put_festivals_on;
-use crate::month::put_bs;
+use crate::month::put_month_and_year;
 use crate::words::put_weekday;
 
 // Writes the weekday and the BS date of a cell.
@@ -19,7 +19,7 @@ fn put_day_title(out: &mut [u8], at: usize, year: u16, month: u16, cells: &[u16]
     let b = text::put(out, a, b", ");
     let c = text::put_decimal(out, b, number(cells, i, 0) as u64);
     let d = text::put(out, c, b" ");
-    let e = put_bs(out, d, year, month);
+    let e = put_month_and_year(out, d, year, month);
     text::put(out, e, b" BS\n")
 }
 
@@ -96,7 +96,7 @@ fn put_holiday(out: &mut [u8], at: usize, cells: &[u16], i: usize) -> usize
 }
 
 // Writes the day of a cell of a month from a place on, as far as the buffer goes, and answers the place after it.
-pub fn put_day(
+pub fn put_day_page(
     out: &mut [u8],
     at: usize,
     year: u16,
@@ -107,7 +107,8 @@ pub fn put_day(
     cells: &[u16],
     festivals: &[u16],
 ) -> usize
-    ensures { λ r. ⌜ Wrote (now (out .entry)) at (dayPage year month cell (now (rules .entry)) (now (names .entry)) (now (cells .entry)) (now (festivals .entry))) (now (out .exit)) r ⌝ }
+    ensures { λ r. ⌜ Wrote (now (out .entry)) at
+        (dayPage year month cell (now (rules .entry)) (now (names .entry)) (now (cells .entry)) (now (festivals .entry))) (now (out .exit)) r ⌝ }
 {
     let i = cell as usize;
     let a = put_day_title(out, at, year, month, cells, i);

@@ -7,9 +7,9 @@ mod month;
 mod names;
 mod words;
 
-pub use day::put_day;
+pub use day::put_day_page;
 use gregorian::Date;
-pub use month::put_month;
+pub use month::put_month_page;
 
 // What the page of a month says beside its cells: BS year and month, its first and last Gregorian date, how many weeks its cells take.
 pub struct Page {

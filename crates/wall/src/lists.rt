@@ -10,11 +10,11 @@ use crate::columns::get;
 use crate::columns::number;
 use crate::columns::put_short_date;
 use crate::columns::put_two;
-use crate::names::put_name;
+use crate::names::put_festival_name;
 use crate::words::put_weekday;
 
 // Writes the day of a cell, before the name of a festival.
-fn put_day_of(out: &mut [u8], at: usize, cells: &[u16], i: usize) -> usize
+fn put_festival_day(out: &mut [u8], at: usize, cells: &[u16], i: usize) -> usize
     requires { ⌜ i ≤ 4096 ⌝ }
     ensures { λ r. ⌜ Wrote (now (out .entry)) at (dayOf (now (cells .entry)) i) (now (out .exit)) r ⌝ }
 {
@@ -38,12 +38,12 @@ fn put_festival(
     requires { ⌜ f ≤ 300000000 ⌝ }
     ensures { λ r. ⌜ Wrote (now (out .entry)) at (festivalText (now (rules .entry)) (now (names .entry)) (now (festivals .entry)) f) (now (out .exit)) r ⌝ }
 {
-    let a = put_name(out, at, get(festivals, f * 2), 50, rules, names);
+    let a = put_festival_name(out, at, get(festivals, f * 2), 50, rules, names);
     put_mark(out, a, get(festivals, f * 2 + 1), b" (holiday)\n", b"\n")
 }
 
 // Writes a line for each of n festivals of cell i, from festival f on.
-fn put_lines(
+fn put_festival_lines(
     out: &mut [u8],
     at: usize,
     rules: &[u16],
@@ -55,13 +55,14 @@ fn put_lines(
     n: u16,
 ) -> usize
     requires { ⌜ (i ≤ 4096) × (from ≤ 299000000) ⌝ }
-    ensures { λ r. ⌜ Wrote (now (out .entry)) at (repeated (lineOf (now (rules .entry)) (now (names .entry)) (now (cells .entry)) (now (festivals .entry)) i) 1 from n) (now (out .exit)) r ⌝ }
+    ensures { λ r. ⌜ Wrote (now (out .entry)) at
+        (repeated (lineOf (now (rules .entry)) (now (names .entry)) (now (cells .entry)) (now (festivals .entry)) i) 1 from n) (now (out .exit)) r ⌝ }
 {
     let mut next = at;
     let mut f = from;
     let mut left = n;
     while 0 < left {
-        let a = put_day_of(out, next, cells, i);
+        let a = put_festival_day(out, next, cells, i);
         next = put_festival(out, a, rules, names, festivals, f);
         f += 1;
         left -= 1;
@@ -94,10 +95,11 @@ pub fn put_festivals_on(
     i: usize,
 ) -> usize
     requires { ⌜ i ≤ 4096 ⌝ }
-    ensures { λ r. ⌜ Wrote (now (out .entry)) at (festivalsOn (now (rules .entry)) (now (names .entry)) (now (cells .entry)) (now (festivals .entry)) i) (now (out .exit)) r ⌝ }
+    ensures { λ r. ⌜ Wrote (now (out .entry)) at
+        (festivalsOn (now (rules .entry)) (now (names .entry)) (now (cells .entry)) (now (festivals .entry)) i) (now (out .exit)) r ⌝ }
 {
     let f = before(cells, i);
-    put_lines(
+    put_festival_lines(
         out,
         at,
         rules,
@@ -121,7 +123,8 @@ pub fn put_festivals(
     n: u16,
 ) -> usize
     requires { ⌜ n ≤ 4096 ⌝ }
-    ensures { λ r. ⌜ Wrote (now (out .entry)) at (festivalsOf (now (rules .entry)) (now (names .entry)) (now (cells .entry)) (now (festivals .entry)) n) (now (out .exit)) r ⌝ }
+    ensures { λ r. ⌜ Wrote (now (out .entry)) at
+        (festivalsOf (now (rules .entry)) (now (names .entry)) (now (cells .entry)) (now (festivals .entry)) n) (now (out .exit)) r ⌝ }
 {
     let mut next = at;
     let mut i = 0;

@@ -9,7 +9,7 @@ use crate::lists::put_festivals;
 use crate::words::put_bs_month;
 
 // Writes a BS month and its year.
-pub fn put_bs(out: &mut [u8], at: usize, year: u16, month: u16) -> usize
+pub fn put_month_and_year(out: &mut [u8], at: usize, year: u16, month: u16) -> usize
     ensures { λ r. ⌜ Wrote (now (out .entry)) at (bsMonth year month) (now (out .exit)) r ⌝ }
 {
     let a = put_bs_month(out, at, month, 8);
@@ -23,7 +23,7 @@ fn put_title(out: &mut [u8], at: usize, page: Page) -> usize
 {
     let first = page.first;
     let last = page.last;
-    let a = put_bs(out, at, page.year, page.month);
+    let a = put_month_and_year(out, at, page.year, page.month);
     let b = text::put(out, a, b" BS, ");
     let c = put_full_date(out, b, first.year, first.month, first.day);
     let d = text::put(out, c, b" to ");
@@ -57,7 +57,7 @@ fn put_legend(out: &mut [u8], at: usize) -> usize
 
 // Writes the page of a month from a place on, as far as the buffer goes, and answers the place after it. The cells and festivals are those of a month
 // grid, the names are 64 bytes for each rule.
-pub fn put_month(
+pub fn put_month_page(
     out: &mut [u8],
     at: usize,
     page: Page,
@@ -66,7 +66,8 @@ pub fn put_month(
     cells: &[u16],
     festivals: &[u16],
 ) -> usize
-    ensures { λ r. ⌜ Wrote (now (out .entry)) at (monthPage page (now (rules .entry)) (now (names .entry)) (now (cells .entry)) (now (festivals .entry))) (now (out .exit)) r ⌝ }
+    ensures { λ r. ⌜ Wrote (now (out .entry)) at
+        (monthPage page (now (rules .entry)) (now (names .entry)) (now (cells .entry)) (now (festivals .entry))) (now (out .exit)) r ⌝ }
 {
     let a = put_title(out, at, page);
     let b = put_heads(out, a);

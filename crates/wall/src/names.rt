@@ -28,7 +28,14 @@ fn rule_of(rules: &[u16], n: u16) -> usize
 }
 
 // Writes the name of a festival, at most so many bytes of it, or its number where no rule has it.
-pub fn put_name(out: &mut [u8], at: usize, n: u16, most: u16, rules: &[u16], names: &[u8]) -> usize
+pub fn put_festival_name(
+    out: &mut [u8],
+    at: usize,
+    n: u16,
+    most: u16,
+    rules: &[u16],
+    names: &[u8],
+) -> usize
     ensures { λ r. ⌜ Wrote (now (out .entry)) at (nameText most n (now (rules .entry)) (now (names .entry))) (now (out .exit)) r ⌝ }
 {
     let i = rule_of(rules, n);

@@ -4,6 +4,7 @@ use native.Mathlib.Omega.{arith}
 use borrow.Author.Needs.{needs}
 use denote.Ref.{now}
 use mathlib.Core.Bool.{true}
+use Rattle.paper.specs.declared.Refusal.the-variants.{BadTable, NoSuchDate}
 use Rattle.paper.specs.Sums.{sum}
 use Rattle.paper.proofs.Answers.{given-on, given-off}
 use Rattle.gregorian.specs.Calendar.{dayNumber}
@@ -29,7 +30,7 @@ pass-table-requires c κs = search needs
 
 returns : tie.Need-returns
 unfolding fromAd
-returns c = sym (given-off _ 1 _ (c .before .before .pass-table .ensures .bad (c .if1 .taken)))
+returns c = sym (given-off _ BadTable _ (c .before .before .pass-table .ensures .bad (c .if1 .taken)))
 
 -- where the table was accepted, and how far the pass reached
 good : (c : tie.Else1) → let a = c .before .before .before .before .before .before .before .args in accepted (a .table) (now (a .rows)) ≡ true
@@ -43,7 +44,7 @@ unfolding fromAd
 returns-2 c =
     let a = c .before .before .before .before .before .before .before .before .args in
     let e = number-no (a .year) (a .month) (a .day) (sym (c .before .before .before .before .before .number-or-zero .ensures) ∙ c .if2 .taken) in
-    sym (given-on _ 1 _ (good (c .before)) ∙ given-off _ 3 _ e)
+    sym (given-on _ BadTable _ (good (c .before)) ∙ given-off _ NoSuchDate _ e)
 
 sub-place-in : tie.Need-sub-place-in
 sub-place-in c = c .before .before .before .before .pass-table .ensures .reached (c .before .before .if1 .left) .day-to
@@ -77,7 +78,7 @@ answer c =
     let r = number-real (a .year) (a .month) (a .day) (n .result) (n .ensures) (omega (arith, c .before .before .if2 .left)) in
     let t = flat (a .table) (now (a .rows)) in
     let e : placed t (dayNumber (date (a .year) (a .month) (a .day))) ≡ c .place-in .result = rw (← r .1) (sym (c .place-in .ensures)) in
-    given-on _ 1 _ g ∙ given-on _ 3 _ (r .0) ∙ from-placed t _ g ∙ ap insideOnly e
+    given-on _ BadTable _ g ∙ given-on _ NoSuchDate _ (r .0) ∙ from-placed t _ g ∙ ap insideOnly e
 
 returns-3 : tie.Need-returns-3
 returns-3 c = sym (answer (c .before .before .before) ∙ ap insideOnly (c .before .place .given .1))

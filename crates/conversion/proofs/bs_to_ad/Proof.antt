@@ -8,7 +8,7 @@ use Rattle.gregorian.specs.Calendar.{dayNumber, dateOf}
 use Rattle.paper.proofs.Answers.{said}
 use Rattle.conversion.specs.Calendar.{toAd, dayAt}
 use Rattle.conversion.specs.Flat.{flat, rowDays, firstDay}
-use Rattle.conversion.specs.Answers.{checkSays}
+use Rattle.conversion.specs.Answers.{validSays}
 use Rattle.conversion.proofs.Accepted.{Facts, facts, rows-before, row-reached}
 use Rattle.conversion.proofs.Ad.{served, on-numbered}
 use Rattle.conversion.proofs.Days.{Valid, no-table, valid-told, valid-refused, valid-on, of-date}
@@ -33,36 +33,30 @@ returns c =
 date-check-requires : tie.Need-date-check-requires
 date-check-requires c κs = c .before .before .pass-table .ensures .good (c .if1 .left)
 
+enum-known-check : tie.Need-enum-known-check
+enum-known-check c = search needs
+
 enum-told : tie.Need-enum-told
 enum-told c = search needs
 
-enum-told-2 : tie.Need-enum-told-2
-enum-told-2 c = search needs
-
-enum-told-3 : tie.Need-enum-told-3
-enum-told-3 c = search needs
-
-enum-told-4 : tie.Need-enum-told-4
-enum-told-4 c = search needs
-
 -- where the date is one of the table: its facts, its row and the days before it, and the number of the first day
-known : (c : tie.After-enum-told4) → let a = c .before .before .before .before .before .before .before .before .before .args in Valid (flat (a .table) (now (a .rows))) (a .date .year) (a .date .month) (a .date .day)
-known c = valid-told _ _ _ _ (said checkSays (c .enum-told4 .given .1) (c .before .before .date-check .ensures))
+known : (c : tie.After-enum-told) → let a = c .before .before .before .before .before .before .before .before .before .args in Valid (flat (a .table) (now (a .rows))) (a .date .year) (a .date .month) (a .date .day)
+known c = valid-told _ _ _ _ (said validSays (c .enum-told .given .1) (c .before .before .date-check .ensures))
 
-table : (c : tie.After-enum-told4) → let a = c .before .before .before .before .before .before .before .before .before .args in Facts (a .table) (now (a .rows))
+table : (c : tie.After-enum-told) → let a = c .before .before .before .before .before .before .before .before .before .args in Facts (a .table) (now (a .rows))
 table c = facts _ _ (known c .month .good)
 
-row : (c : tie.After-enum-told4) → let a = c .before .before .before .before .before .before .before .before .before .args in let i = a .date .year - a .table .«first_year» in let p = c .before .before .before .before .before .pass-table .result in (p .row ≡ i) × (p .before ≡ rowDays (now (a .rows)) i)
+row : (c : tie.After-enum-told) → let a = c .before .before .before .before .before .before .before .before .before .args in let i = a .date .year - a .table .«first_year» in let p = c .before .before .before .before .before .pass-table .result in (p .row ≡ i) × (p .before ≡ rowDays (now (a .rows)) i)
 row c =
     let k = known c .month in
     rw (← c .before .before .before .before .before .before .row-of .ensures) (row-reached _ _ (table c) _ _ _ (rw (c .before .before .before .before .before .before .row-of .ensures) (omega arith)) (c .before .before .before .before .before .pass-table .ensures .reached (c .before .before .before .if1 .left)))
 
-first : (c : tie.After-enum-told4) → c .before .before .before .before .before .before .before .frame .result ≡ dayNumber (firstDay (c .before .before .before .before .before .before .before .before .before .args .table))
+first : (c : tie.After-enum-told) → c .before .before .before .before .before .before .before .frame .result ≡ dayNumber (firstDay (c .before .before .before .before .before .before .before .before .before .args .table))
 first c =
     let s = c .before .before .before .before .before .before .before .frame .ensures in
     s .start (λ z. s .bad z (table c .frame))
 
-early : (c : tie.After-enum-told4) → let a = c .before .before .before .before .before .before .before .before .before .args in dayNumber (firstDay (a .table)) + rowDays (now (a .rows)) (a .date .year - a .table .«first_year») ≤ 2488070
+early : (c : tie.After-enum-told) → let a = c .before .before .before .before .before .before .before .before .before .args in dayNumber (firstDay (a .table)) + rowDays (now (a .rows)) (a .date .year - a .table .«first_year») ≤ 2488070
 early c = let k = known c .month in rows-before _ _ (table c) _ (omega arith)
 
 add-day-in-row : tie.Need-add-day-in-row
@@ -96,19 +90,11 @@ date-of-requires c κs =
 
 returns-2 : tie.Need-returns-2
 unfolding toAd
-returns-2 c = valid-refused _ _ _ _ _ 4 (said checkSays (c .enum-told .given .1) (c .before .before .date-check .ensures))
+returns-2 c = valid-refused _ _ _ _ _ _ (said validSays (c .before .check .given .1) (c .before .before .before .date-check .ensures))
 
 returns-3 : tie.Need-returns-3
 unfolding toAd
-returns-3 c = valid-refused _ _ _ _ _ 5 (said checkSays (c .enum-told2 .given .1) (c .before .before .date-check .ensures))
-
-returns-4 : tie.Need-returns-4
-unfolding toAd
-returns-4 c = valid-refused _ _ _ _ _ 6 (said checkSays (c .enum-told3 .given .1) (c .before .before .date-check .ensures))
-
-returns-5 : tie.Need-returns-5
-unfolding toAd
-returns-5 c = ap answered (c .date-of .ensures ∙ ap dateOf (number-is (c .before))) ∙ sym (of-date _ _ _ _ _ (known (c .before .before .before)))
+returns-3 c = ap answered (c .date-of .ensures ∙ ap dateOf (number-is (c .before))) ∙ sym (of-date _ _ _ _ _ (known (c .before .before .before)))
 
 pub bs-to-ad-spec : {M : Type 1} → statement M
 bs-to-ad-spec =
@@ -119,14 +105,10 @@ bs-to-ad-spec =
     pass-table-requires
     returns
     date-check-requires
+    enum-known-check
     enum-told
-    enum-told-2
-    enum-told-3
-    enum-told-4
     add-day-in-row
     day-in-row-requires
     date-of-requires
     returns-2
-    returns-3
-    returns-4
-    returns-5)
+    returns-3)

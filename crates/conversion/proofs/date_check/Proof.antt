@@ -14,21 +14,18 @@ use Rattle.conversion.proofs.date_check.Tie as tie
 month-days-requires : tie.Need-month-days-requires
 month-days-requires c κs = search needs
 
-enum-told : tie.Need-enum-told
-enum-told c = search needs
-
-enum-told-2 : tie.Need-enum-told-2
-enum-told-2 c = search needs
-
 enum-known-days : tie.Need-enum-known-days
 enum-known-days c = search needs
+
+enum-known-days-2 : tie.Need-enum-known-days-2
+enum-known-days-2 c = search needs
 
 abbrev cal : tie.Start → Calendar
 cal c = flat (c .args .table) (now (c .args .rows))
 
 -- where the month's length was found
-known : (c : tie.After-known-told) → let s = c .before .before .before .before .before in InTable (cal s) (s .args .date .year) (s .args .date .month) × (cal s .len (s .args .date .year - s .args .table .«first_year») (s .args .date .month - 1) ≡ c .before .days .given .0 .0)
-known c = len-told _ _ _ _ (said daysSays (c .before .days .given .1) (c .before .before .before .month-days .ensures))
+known : (c : tie.After-known-told2) → let s = c .before .before .before .before .before in InTable (cal s) (s .args .date .year) (s .args .date .month) × (cal s .len (s .args .date .year - s .args .table .«first_year») (s .args .date .month - 1) ≡ c .before .days2 .given .0 .0)
+known c = len-told _ _ _ _ (said daysSays (c .before .days2 .given .1) (c .before .before .before .month-days .ensures))
 
 returns : tie.Need-returns
 unfolding validBs
@@ -47,15 +44,11 @@ returns-2 c =
 
 returns-3 : tie.Need-returns-3
 unfolding validBs
-returns-3 c = len-refused _ _ _ (c .before .before .before .before .args .date .day) tt 4 (said daysSays (c .enum-told .given .1) (c .before .before .month-days .ensures))
+returns-3 c = len-refused _ _ _ (c .before .before .before .before .before .args .date .day) tt _ (said daysSays (c .before .days .given .1) (c .before .before .before .month-days .ensures))
 
 returns-4 : tie.Need-returns-4
 unfolding validBs
-returns-4 c = len-refused _ _ _ (c .before .before .before .before .args .date .day) tt 5 (said daysSays (c .enum-told2 .given .1) (c .before .before .month-days .ensures))
-
-returns-5 : tie.Need-returns-5
-unfolding validBs
-returns-5 c =
+returns-4 c =
     let s = c .before .before .before .before .before .before .before .before .before in
     let d = s .args .date in
     let k = known (c .before .before .before .before) in
@@ -66,11 +59,9 @@ date-check-spec =
     tie.close
     (tie.spec
     month-days-requires
-    enum-told
-    enum-told-2
     enum-known-days
+    enum-known-days-2
     returns
     returns-2
     returns-3
-    returns-4
-    returns-5)
+    returns-4)

@@ -6,7 +6,7 @@ use denote.Ref.{now}
 use Rattle.paper.proofs.Answers.{said}
 use Rattle.conversion.specs.Calendar.{toDay}
 use Rattle.conversion.specs.Flat.{flat}
-use Rattle.conversion.specs.Answers.{checkSays}
+use Rattle.conversion.specs.Answers.{validSays}
 use Rattle.conversion.proofs.Accepted.{Facts, facts, starts, years-in, years-sum}
 use Rattle.conversion.proofs.Days.{Valid, valid-told, valid-refused, converts}
 use Rattle.conversion.proofs.day_of.Statement.{statement}
@@ -15,23 +15,17 @@ use Rattle.conversion.proofs.day_of.Tie as tie
 date-check-requires : tie.Need-date-check-requires
 date-check-requires c κs = search needs
 
+enum-known-check : tie.Need-enum-known-check
+enum-known-check c = search needs
+
 enum-told : tie.Need-enum-told
 enum-told c = search needs
 
-enum-told-2 : tie.Need-enum-told-2
-enum-told-2 c = search needs
-
-enum-told-3 : tie.Need-enum-told-3
-enum-told-3 c = search needs
-
-enum-told-4 : tie.Need-enum-told-4
-enum-told-4 c = search needs
-
 -- where the date is one of the table
-known : (c : tie.After-enum-told4) → let a = c .before .before .before .before .args in Valid (flat (a .table) (now (a .rows))) (a .date .year) (a .date .month) (a .date .day)
-known c = valid-told _ _ _ _ (said checkSays (c .enum-told4 .given .1) (c .before .before .date-check .ensures))
+known : (c : tie.After-enum-told) → let a = c .before .before .before .before .args in Valid (flat (a .table) (now (a .rows))) (a .date .year) (a .date .month) (a .date .day)
+known c = valid-told _ _ _ _ (said validSays (c .enum-told .given .1) (c .before .before .date-check .ensures))
 
-table : (c : tie.After-enum-told4) → let a = c .before .before .before .before .args in Facts (a .table) (now (a .rows))
+table : (c : tie.After-enum-told) → let a = c .before .before .before .before .args in Facts (a .table) (now (a .rows))
 table c = facts _ _ (c .before .before .before .before .pre)
 
 sub-i : tie.Need-sub-i
@@ -69,18 +63,10 @@ day-in-row-requires c κs =
 
 returns : tie.Need-returns
 unfolding toDay
-returns c = valid-refused _ _ _ _ _ 4 (said checkSays (c .enum-told .given .1) (c .before .before .date-check .ensures))
+returns c = valid-refused _ _ _ _ _ _ (said validSays (c .before .check .given .1) (c .before .before .before .date-check .ensures))
 
 returns-2 : tie.Need-returns-2
-unfolding toDay
-returns-2 c = valid-refused _ _ _ _ _ 5 (said checkSays (c .enum-told2 .given .1) (c .before .before .date-check .ensures))
-
-returns-3 : tie.Need-returns-3
-unfolding toDay
-returns-3 c = valid-refused _ _ _ _ _ 6 (said checkSays (c .enum-told3 .given .1) (c .before .before .date-check .ensures))
-
-returns-4 : tie.Need-returns-4
-returns-4 c =
+returns-2 c =
     let a = c .before .before .before .before .before .before .before .before .before .args in
     let f = table (c .before .before .before .before .before) in
     let k = known (c .before .before .before .before .before) in
@@ -94,10 +80,8 @@ day-of-spec =
     tie.close
     (tie.spec
     date-check-requires
+    enum-known-check
     enum-told
-    enum-told-2
-    enum-told-3
-    enum-told-4
     sub-i
     cast-i
     first-day-requires
@@ -105,6 +89,4 @@ day-of-spec =
     add-first
     day-in-row-requires
     returns
-    returns-2
-    returns-3
-    returns-4)
+    returns-2)

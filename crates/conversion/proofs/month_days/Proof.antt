@@ -1,84 +1,76 @@
-use mathlib.Core.Path.{sym}
+use mathlib.Core.Path.{_≡_, sym, _∙_}
+use mathlib.Core.Bool.{true}
 use native.Mathlib.Omega.{arith}
 use borrow.Author.Needs.{needs}
+use borrow.Author.Tests.{not-true, not-false}
 use denote.Ref.{now}
-use Rattle.conversion.specs.Calendar.{monthLen}
+use Rattle.paper.proofs.Answers.{given-on, given-off}
+use Rattle.conversion.specs.Calendar.{Calendar, yearOk, monthLen}
 use Rattle.conversion.specs.Flat.{flat}
-use Rattle.conversion.proofs.Days.{no-year, no-month, of-month}
+use Rattle.conversion.proofs.Days.{year-told, no-month, of-month}
 use Rattle.conversion.proofs.month_days.Statement.{statement}
 use Rattle.conversion.proofs.month_days.Tie as tie
+
+abbrev cal : tie.Start → Calendar
+cal c = flat (c .args .table) (now (c .args .rows))
+
+is-year-requires : tie.Need-is-year-requires
+is-year-requires c κs = search needs
 
 returns : tie.Need-returns
 unfolding monthLen
 returns c =
-    let s = c .before .before in
-    let a = s .args in
-    sym (no-year (flat (a .table) (now (a .rows))) (a .year) (a .month) _ (s .pre) (λ f t. omega arith))
+    sym (given-on _ _ _ (c .before .before .before .pre) ∙ given-off _ _ _ (sym (c .before .is-year .ensures) ∙ not-true _ (c .if1 .taken)))
 
-cast-i : tie.Need-cast-i
-cast-i c = search needs
+-- where the year is one of the table
+known : (c : tie.Else1) → let s = c .before .before .before in yearOk (cal s) (s .args .year) ≡ true
+known c = sym (c .before .is-year .ensures) ∙ not-false _ (c .if1 .left)
 
 returns-2 : tie.Need-returns-2
 unfolding monthLen
 returns-2 c =
     let s = c .before .before .before .before in
-    let a = s .args in
-    sym (no-year (flat (a .table) (now (a .rows))) (a .year) (a .month) _ (s .pre) (λ f t. omega arith))
+    let y = year-told (cal s) (s .args .year) (known (c .before)) in
+    sym (no-month (cal s) (s .args .year) (s .args .month) _ (s .pre) (y .0) (y .1) (λ f t. omega arith))
 
 returns-3 : tie.Need-returns-3
 unfolding monthLen
 returns-3 c =
     let s = c .before .before .before .before .before in
-    let a = s .args in
-    sym (no-month (flat (a .table) (now (a .rows))) (a .year) (a .month) _ (s .pre) (omega arith) (omega arith) (λ f t. omega arith))
+    let y = year-told (cal s) (s .args .year) (known (c .before .before)) in
+    sym (no-month (cal s) (s .args .year) (s .args .month) _ (s .pre) (y .0) (y .1) (λ f t. omega arith))
+
+row-of-requires : tie.Need-row-of-requires
+row-of-requires c κs = search needs
+
+cast-number-at : tie.Need-cast-number-at
+cast-number-at c = search needs
+
+number-at-requires : tie.Need-number-at-requires
+number-at-requires c κs = search needs
 
 returns-4 : tie.Need-returns-4
 unfolding monthLen
 returns-4 c =
-    let s = c .before .before .before .before .before .before in
-    let a = s .args in
-    sym (no-month (flat (a .table) (now (a .rows))) (a .year) (a .month) _ (s .pre) (omega arith) (omega arith) (λ f t. omega arith))
-
-cast-j : tie.Need-cast-j
-cast-j c = search needs
-
-mul-t9 : tie.Need-mul-t9
-mul-t9 c = search needs
-
-add-t10 : tie.Need-add-t10
-add-t10 c = search needs
-
-mul-t11 : tie.Need-mul-t11
-mul-t11 c = search needs
-
-shared-slice-read-t8 : tie.Need-shared-slice-read-t8
-shared-slice-read-t8 c = search needs
-
-returns-5 : tie.Need-returns-5
-unfolding monthLen
-returns-5 c =
     let s = c .before .before .before .before .before .before .before in
-    let a = s .args in
-    sym (of-month (flat (a .table) (now (a .rows))) (a .year) (a .month) _ (record {
+    let y = year-told (cal s) (s .args .year) (known (c .before .before .before .before)) in
+    rw (c .number-at .ensures, c .before .row-of .ensures) (sym (of-month (cal s) (s .args .year) (s .args .month) _ (record {
       good = s .pre;
-      year-from = omega arith;
-      year-to = omega arith;
+      year-from = y .0;
+      year-to = y .1;
       month-from = omega arith;
       month-to = omega arith;
-    }))
+    })))
 
 pub month-days-spec : {M : Type 1} → statement M
 month-days-spec =
     tie.close
     (tie.spec
+    is-year-requires
     returns
-    cast-i
     returns-2
     returns-3
-    returns-4
-    cast-j
-    mul-t9
-    add-t10
-    mul-t11
-    shared-slice-read-t8
-    returns-5)
+    row-of-requires
+    cast-number-at
+    number-at-requires
+    returns-4)

@@ -18,7 +18,7 @@ returns : tie.Need-returns
 returns c = number-told _ _ _ (said numberSays (c .before .n .given .1) (c .before .before .before .day-number .ensures))
 
 returns-2 : tie.Need-returns-2
-returns-2 c = number-none _ _ (said numberSays (c .enum-told .given .1) (c .before .before .day-number .ensures))
+returns-2 c = number-none _ _ _ (said numberSays (c .enum-told .given .1) (c .before .before .day-number .ensures))
 
 pub number-or-zero-spec : {M : Type 1} → statement M
 number-or-zero-spec = tie.close (tie.spec day-number-requires enum-known-n enum-told returns returns-2)

@@ -11,8 +11,8 @@ Inv-loop piece₀ line₀ out₀ t₀ piece line out t = (length piece ≡ lengt
 abbrev μ-loop : tie.MeasureT-loop
 μ-loop piece₀ line₀ out₀ t₀ piece line out t = t .left
 
-begin-requires : tie.Need-begin-requires Inv-loop μ-loop
-begin-requires c κs = search needs
+first-turn-requires : tie.Need-first-turn-requires Inv-loop μ-loop
+first-turn-requires c κs = search needs
 
 loop-holds : tie.Need-loop-holds Inv-loop μ-loop
 loop-holds c = search needs
@@ -44,7 +44,7 @@ run-spec =
     (tie.spec
     Inv-loop
     μ-loop
-    begin-requires
+    first-turn-requires
     loop-holds
     turn-requires
     loop-less

@@ -1,5 +1,5 @@
 -- `doubt::put_range` meets its contract. Assumes nothing.
-use Rattle.pieces.proofs.Pieces.{then}
+use Rattle.output.proofs.Pieces.{then}
 use Rattle.doubt.specs.Range.{rangePieces}
 use borrow.Author.Needs.{needs}
 use Rattle.doubt.proofs.put_range.Statement.{statement}

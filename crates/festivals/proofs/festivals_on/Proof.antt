@@ -10,7 +10,6 @@ use Rattle.conversion.specs.Answers.{daySays}
 use Rattle.rules.specs.Rules.{rulesOf, acceptedRules}
 use Rattle.rules.proofs.Listed.{says-refused, says-by}
 use Rattle.rules.proofs.Questions.{bs-bad-table, bs-bad-rules, bs-refused, bs-list}
-use Rattle.festivals.specs.Kathmandu.{kathmandu}
 use Rattle.festivals.specs.Answers.{onBs}
 use Rattle.festivals.proofs.Numbered.{to-numbered}
 use Rattle.festivals.proofs.festivals_on.Statement.{statement}
@@ -26,7 +25,7 @@ returns c =
     let k = flat (a .table) (a .rows .now) in
     let xs = a .rules .now in
     let bad = sym (t .accepts .ensures) ∙ not-true (t .accepts .result) (c .if1 .taken) in
-    let s = says-by (bs-bad-table kathmandu k (rulesOf xs) (acceptedRules xs) (a .year) (a .month) (a .day) bad) (says-refused 1 (a .out .now)) in
+    let s = says-by (bs-bad-table _ k (rulesOf xs) (acceptedRules xs) (a .year) (a .month) (a .day) bad) (says-refused 1 (a .out .now)) in
     (s .answer, s .buffer)
 
 accepts-rules-requires : tie.Need-accepts-rules-requires
@@ -42,7 +41,7 @@ returns-2 c =
     let xs = a .rules .now in
     let good = sym (t .accepts .ensures) ∙ not-false (t .accepts .result) (i .if1 .left) in
     let bad = sym (w .accepts-rules .ensures) ∙ not-true (w .accepts-rules .result) (c .if2 .taken) in
-    let s = says-by (bs-bad-rules kathmandu k (rulesOf xs) (acceptedRules xs) (a .year) (a .month) (a .day) good bad) (says-refused 2 (a .out .now)) in
+    let s = says-by (bs-bad-rules _ k (rulesOf xs) (acceptedRules xs) (a .year) (a .month) (a .day) good bad) (says-refused 2 (a .out .now)) in
     (s .answer, s .buffer)
 
 day-of-requires : tie.Need-day-of-requires
@@ -85,7 +84,7 @@ refusal : (d : tie.After-day-of) (k : ℕ) → daySays (d .day-of .result) ≡ r
 refusal d k e =
     let a = d .before .before .before .before .before .before .before .before .args in
     let xs = a .rules .now in
-    let s = says-by (bs-refused kathmandu (flat (a .table) (a .rows .now)) (rulesOf xs) (acceptedRules xs) (a .year) (a .month) (a .day) (good d) (good-rules d) k (sym (d .day-of .ensures) ∙ e)) (says-refused k (a .out .now)) in
+    let s = says-by (bs-refused _ (flat (a .table) (a .rows .now)) (rulesOf xs) (acceptedRules xs) (a .year) (a .month) (a .day) (good d) (good-rules d) k (sym (d .day-of .ensures) ∙ e)) (says-refused k (a .out .now)) in
     (s .answer, s .buffer)
 
 returns-3 : tie.Need-returns-3
@@ -107,7 +106,7 @@ returns-6 c =
     let d = n .before .before in
     let a = d .before .before .before .before .before .before .before .before .args in
     let xs = a .rules .now in
-    let e = bs-list kathmandu (flat (a .table) (a .rows .now)) (rulesOf xs) (acceptedRules xs) (a .year) (a .month) (a .day) (good d) (good-rules d) _ (sym (d .day-of .ensures) ∙ ap daySays (n .number .given .1)) in
+    let e = bs-list _ (flat (a .table) (a .rows .now)) (rulesOf xs) (acceptedRules xs) (a .year) (a .month) (a .day) (good d) (good-rules d) _ (sym (d .day-of .ensures) ∙ ap daySays (n .number .given .1)) in
     let s = says-by e (record { answer = l .list-day .ensures .0; buffer = l .list-day .ensures .1 }) in
     (s .answer, s .buffer)
 

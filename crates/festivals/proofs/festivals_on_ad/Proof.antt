@@ -11,7 +11,6 @@ use Rattle.conversion.specs.Flat.{accepted, flat, date}
 use Rattle.rules.specs.Rules.{rulesOf, acceptedRules}
 use Rattle.rules.proofs.Listed.{says-refused, says-by}
 use Rattle.rules.proofs.Questions.{ad-bad-table, ad-bad-rules, ad-no-date, ad-refused, ad-list}
-use Rattle.festivals.specs.Kathmandu.{kathmandu}
 use Rattle.festivals.specs.Answers.{onAd}
 use Rattle.festivals.proofs.Placed.{inside, before-first, after-last}
 use Rattle.festivals.proofs.Numbered.{no-number, its-number, real-numbered}
@@ -28,7 +27,7 @@ returns c =
     let k = flat (a .table) (a .rows .now) in
     let xs = a .rules .now in
     let bad = sym (t .accepts .ensures) ∙ not-true (t .accepts .result) (c .if1 .taken) in
-    let s = says-by (ad-bad-table kathmandu k (rulesOf xs) (acceptedRules xs) (a .year) (a .month) (a .day) bad) (says-refused 1 (a .out .now)) in
+    let s = says-by (ad-bad-table _ k (rulesOf xs) (acceptedRules xs) (a .year) (a .month) (a .day) bad) (says-refused 1 (a .out .now)) in
     (s .answer, s .buffer)
 
 accepts-rules-requires : tie.Need-accepts-rules-requires
@@ -44,7 +43,7 @@ returns-2 c =
     let xs = a .rules .now in
     let good = sym (t .accepts .ensures) ∙ not-false (t .accepts .result) (i .if1 .left) in
     let bad = sym (w .accepts-rules .ensures) ∙ not-true (w .accepts-rules .result) (c .if2 .taken) in
-    let s = says-by (ad-bad-rules kathmandu k (rulesOf xs) (acceptedRules xs) (a .year) (a .month) (a .day) good bad) (says-refused 2 (a .out .now)) in
+    let s = says-by (ad-bad-rules _ k (rulesOf xs) (acceptedRules xs) (a .year) (a .month) (a .day) good bad) (says-refused 2 (a .out .now)) in
     (s .answer, s .buffer)
 
 day-number-requires : tie.Need-day-number-requires
@@ -69,7 +68,7 @@ returns-3 c =
     let a = d .before .before .before .before .before .before .before .before .args in
     let xs = a .rules .now in
     let none = no-number (date (a .year) (a .month) (a .day)) (sym (ap numberSays (c .enum-told .given .1)) ∙ d .day-number .ensures) in
-    let s = says-by (ad-no-date kathmandu (flat (a .table) (a .rows .now)) (rulesOf xs) (acceptedRules xs) (a .year) (a .month) (a .day) (good d) (good-rules d) none) (says-refused 3 (a .out .now)) in
+    let s = says-by (ad-no-date _ (flat (a .table) (a .rows .now)) (rulesOf xs) (acceptedRules xs) (a .year) (a .month) (a .day) (good d) (good-rules d) none) (says-refused 3 (a .out .now)) in
     (s .answer, s .buffer)
 
 -- where the day is placed, it is a date's
@@ -113,7 +112,7 @@ outside p e =
     let d = p .before .before .before .before in
     let a = d .before .before .before .before .before .before .before .before .args in
     let xs = a .rules .now in
-    let s = says-by (ad-refused kathmandu (flat (a .table) (a .rows .now)) (rulesOf xs) (acceptedRules xs) (a .year) (a .month) (a .day) (good d) (good-rules d) (number p .0) _ (number p .1) 7 e) (says-refused 7 (a .out .now)) in
+    let s = says-by (ad-refused _ (flat (a .table) (a .rows .now)) (rulesOf xs) (acceptedRules xs) (a .year) (a .month) (a .day) (good d) (good-rules d) (number p .0) _ (number p .1) 7 e) (says-refused 7 (a .out .now)) in
     (s .answer, s .buffer)
 
 returns-4 : tie.Need-returns-4
@@ -139,7 +138,7 @@ returns-6 c =
     let xs = a .rules .now in
     let k = flat (a .table) (a .rows .now) in
     let here = inside k (good d) _ (p .place .result) (p .place .ensures) _ (b .place2 .given .1) in
-    let e = ad-list kathmandu k (rulesOf xs) (acceptedRules xs) (a .year) (a .month) (a .day) (good d) (good-rules d) (number p .0) _ (number p .1) _ here in
+    let e = ad-list _ k (rulesOf xs) (acceptedRules xs) (a .year) (a .month) (a .day) (good d) (good-rules d) (number p .0) _ (number p .1) _ here in
     let s = says-by e (record { answer = l .list-day .ensures .0; buffer = l .list-day .ensures .1 }) in
     (s .answer, s .buffer)
 

@@ -5,15 +5,6 @@ use borrow.Author.Needs.{needs}
 use Rattle.files.proofs.rules_of.Statement.{statement}
 use Rattle.files.proofs.rules_of.Tie as tie
 
-wrong-with-requires : tie.Need-wrong-with-requires
-wrong-with-requires c κs = search needs
-
-enum-known-p : tie.Need-enum-known-p
-enum-known-p c = search needs
-
-enum-told : tie.Need-enum-told
-enum-told c = search needs
-
 returns : tie.Need-returns
 returns c = ap (rulesAs (c .before .before .before .before .args .r)) (sym (c .before .p .given .1) ∙ c .before .before .before .wrong-with .ensures)
 
@@ -21,4 +12,4 @@ returns-2 : tie.Need-returns-2
 returns-2 c = ap (rulesAs (c .before .before .before .args .r)) (sym (c .enum-told .given .1) ∙ c .before .before .wrong-with .ensures)
 
 pub rules-of-spec : {M : Type 1} → statement M
-rules-of-spec = tie.close (tie.spec wrong-with-requires enum-known-p enum-told returns returns-2)
+rules-of-spec = tie.close (tie.spec (λ c κs. search needs) (λ c. search needs) (λ c. search needs) returns returns-2)

@@ -5,15 +5,6 @@ use borrow.Author.Needs.{needs}
 use Rattle.files.proofs.table_of.Statement.{statement}
 use Rattle.files.proofs.table_of.Tie as tie
 
-wrong-with-requires : tie.Need-wrong-with-requires
-wrong-with-requires c κs = search needs
-
-enum-known-p : tie.Need-enum-known-p
-enum-known-p c = search needs
-
-enum-told : tie.Need-enum-told
-enum-told c = search needs
-
 returns : tie.Need-returns
 returns c = ap (tableAs (c .before .before .before .before .args .r)) (sym (c .before .p .given .1) ∙ c .before .before .before .wrong-with .ensures)
 
@@ -21,4 +12,4 @@ returns-2 : tie.Need-returns-2
 returns-2 c = ap (tableAs (c .before .before .before .before .args .r)) (sym (c .before .enum-told .given .1) ∙ c .before .before .before .wrong-with .ensures)
 
 pub table-of-spec : {M : Type 1} → statement M
-table-of-spec = tie.close (tie.spec wrong-with-requires enum-known-p enum-told returns returns-2)
+table-of-spec = tie.close (tie.spec (λ c κs. search needs) (λ c. search needs) (λ c. search needs) returns returns-2)

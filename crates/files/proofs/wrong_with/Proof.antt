@@ -5,15 +5,6 @@ use borrow.Author.Needs.{needs}
 use Rattle.files.proofs.wrong_with.Statement.{statement}
 use Rattle.files.proofs.wrong_with.Tie as tie
 
-enum-told : tie.Need-enum-told
-enum-told c = search needs
-
-enum-told-2 : tie.Need-enum-told-2
-enum-told-2 c = search needs
-
-enum-told-3 : tie.Need-enum-told-3
-enum-told-3 c = search needs
-
 returns : tie.Need-returns
 unfolding expectedCount
 returns c = rw (c .before .enum-told3 .given .1, c .if1 .taken)
@@ -21,18 +12,6 @@ returns c = rw (c .before .enum-told3 .given .1, c .if1 .taken)
 returns-2 : tie.Need-returns-2
 unfolding expectedCount
 returns-2 c = rw (c .before .before .enum-told3 .given .1, c .before .if1 .left, eq-eqb (c .before .before .before .before .args .width) 13 (c .if2 .taken))
-
-enum-told-4 : tie.Need-enum-told-4
-enum-told-4 c = search needs
-
-enum-told-5 : tie.Need-enum-told-5
-enum-told-5 c = search needs
-
-enum-told-6 : tie.Need-enum-told-6
-enum-told-6 c = search needs
-
-enum-told-7 : tie.Need-enum-told-7
-enum-told-7 c = search needs
 
 returns-3 : tie.Need-returns-3
 returns-3 c = rw (c .before .enum-told7 .given .1, c .if3 .taken)
@@ -56,27 +35,10 @@ returns-8 c = rw (c .enum-told5 .given .1)
 returns-9 : tie.Need-returns-9
 returns-9 c = rw (c .enum-told6 .given .1)
 
-returns-10 : tie.Need-returns-10
-returns-10 c = search needs
-
 pub wrong-with-spec : {M : Type 1} → statement M
 wrong-with-spec =
     tie.close
     (tie.spec
-    enum-told
-    enum-told-2
-    enum-told-3
-    returns
-    returns-2
-    enum-told-4
-    enum-told-5
-    enum-told-6
-    enum-told-7
-    returns-3
-    returns-4
-    returns-5
-    returns-6
-    returns-7
-    returns-8
-    returns-9
-    returns-10)
+    (λ c. search needs) (λ c. search needs) (λ c. search needs) returns returns-2 (λ c. search needs) (λ c. search needs)
+    (λ c. search needs) (λ c. search needs) returns-3 returns-4 returns-5 returns-6 returns-7 returns-8 returns-9
+    (λ c. search needs))

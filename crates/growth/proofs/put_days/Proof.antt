@@ -1,6 +1,6 @@
 -- `growth::put_days` meets its contract. Assumes nothing.
 use Rattle.growth.specs.Growth.{daysPieces}
-use Rattle.pieces.proofs.Pieces.{then}
+use Rattle.output.proofs.Pieces.{then}
 use borrow.Author.Needs.{needs}
 use Rattle.growth.proofs.put_days.Statement.{statement}
 use Rattle.growth.proofs.put_days.Tie as tie

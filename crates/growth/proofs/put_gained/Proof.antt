@@ -1,6 +1,6 @@
 -- `growth::put_gained` meets its contract. Assumes nothing.
 use Rattle.growth.specs.Growth.{gainedPieces}
-use Rattle.pieces.proofs.Pieces.{then}
+use Rattle.output.proofs.Pieces.{then}
 use borrow.Author.Needs.{needs}
 use Rattle.growth.proofs.put_gained.Statement.{statement}
 use Rattle.growth.proofs.put_gained.Tie as tie

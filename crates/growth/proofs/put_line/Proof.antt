@@ -1,6 +1,6 @@
 -- `growth::put_line` meets its contract. Assumes nothing.
 use Rattle.growth.specs.Growth.{linePieces}
-use Rattle.pieces.proofs.Pieces.{then}
+use Rattle.output.proofs.Pieces.{then}
 use borrow.Author.Needs.{needs}
 use Rattle.growth.proofs.put_line.Statement.{statement}
 use Rattle.growth.proofs.put_line.Tie as tie

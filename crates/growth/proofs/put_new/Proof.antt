@@ -1,6 +1,6 @@
 -- `growth::put_new` meets its contract. Assumes nothing.
 use Rattle.growth.specs.Growth.{newPieces}
-use Rattle.pieces.proofs.Pieces.{then}
+use Rattle.output.proofs.Pieces.{then}
 use borrow.Author.Needs.{needs}
 use Rattle.growth.proofs.put_new.Statement.{statement}
 use Rattle.growth.proofs.put_new.Tie as tie

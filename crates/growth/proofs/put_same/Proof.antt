@@ -1,6 +1,6 @@
 -- `growth::put_same` meets its contract. Assumes nothing.
 use Rattle.growth.specs.Growth.{samePieces}
-use Rattle.pieces.proofs.Pieces.{then}
+use Rattle.output.proofs.Pieces.{then}
 use borrow.Author.Needs.{needs}
 use Rattle.growth.proofs.put_same.Statement.{statement}
 use Rattle.growth.proofs.put_same.Tie as tie

@@ -1,5 +1,5 @@
 -- `growth::put_span` meets its contract. Assumes nothing.
-use Rattle.pieces.proofs.Pieces.{puts-as, puts-none}
+use Rattle.output.proofs.Pieces.{puts-as, puts-none}
 use Rattle.growth.proofs.Pages.{no-first, no-last, span-is}
 use borrow.Author.Needs.{needs}
 use Rattle.growth.proofs.put_span.Statement.{statement}

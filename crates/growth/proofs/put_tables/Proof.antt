@@ -1,6 +1,6 @@
 -- `growth::put_tables` meets its contract. Assumes nothing.
 use Rattle.growth.specs.Growth.{tablesPieces}
-use Rattle.pieces.proofs.Pieces.{then}
+use Rattle.output.proofs.Pieces.{then}
 use borrow.Author.Needs.{needs}
 use Rattle.growth.proofs.put_tables.Statement.{statement}
 use Rattle.growth.proofs.put_tables.Tie as tie

@@ -12,8 +12,8 @@ kala-at-requires c κs = search needs
 enum-told : tie.Need-enum-told
 enum-told c = search needs
 
-enum-told-2 : tie.Need-enum-told-2
-enum-told-2 c = search needs
+enum-known-events-2 : tie.Need-enum-known-events-2
+enum-known-events-2 c = search needs
 
 returns : tie.Need-returns
 unfolding then
@@ -25,9 +25,16 @@ returns-2 c = rw (c .enum-told .given .1)
 
 returns-3 : tie.Need-returns-3
 unfolding then
-returns-3 c = rw (c .enum-told2 .given .1)
+returns-3 c = rw (c .before .events2 .given .1)
 
 pub kala-of-spec : {M : Type 1} → statement M
 kala-of-spec =
     tie.close
-    (tie.spec enum-known-events kala-at-requires enum-told enum-told-2 returns returns-2 returns-3)
+    (tie.spec
+    enum-known-events
+    kala-at-requires
+    enum-told
+    enum-known-events-2
+    returns
+    returns-2
+    returns-3)

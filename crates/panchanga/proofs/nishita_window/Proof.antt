@@ -1,11 +1,8 @@
-use mathlib.Core.Path.{sym, ap, _∙_, subst}
 use native.Mathlib.Omega.{arith}
-use lib.Dec.{T}
-use Rattle.paper.specs.Answers.{given}
-use Rattle.gregorian.specs.Calendar.{nextDay}
-use Rattle.gregorian.specs.Answers.{real, dateSays}
-use Rattle.gregorian.proofs.Laws.{real-of, number-below, all-number}
-use Rattle.panchanga.proofs.Days.{number-of, no-number, refused-too, next-of}
+use lib.Ieee.{ofBits}
+use Rattle.paper.specs.Answers.{then}
+use Rattle.paper.specs.Floats.{near}
+use Rattle.panchanga.proofs.Days.{number-room}
 use borrow.Author.Needs.{needs}
 use Rattle.panchanga.proofs.nishita_window.Statement.{statement}
 use Rattle.panchanga.proofs.nishita_window.Tie as tie
@@ -28,9 +25,7 @@ events-on-requires c κs = search needs
 add-events-on : tie.Need-add-events-on
 add-events-on c =
     let s = c .before .before .before .before in
-    let x = s .before .before .before .before .args .date in
-    let d = number-of x (s .day-number .result) _ (s .day-number .ensures) (c .before .before .a .given .1) in
-    omega (arith, number-below x (real-of x (subst T (sym (d .0)) tt)), all-number, d .1)
+    omega (arith, number-room (s .before .before .before .before .args .date) (s .day-number .result) _ (s .day-number .ensures) (c .before .before .a .given .1))
 
 events-on-requires-2 : tie.Need-events-on-requires-2
 events-on-requires-2 c κs = search needs
@@ -41,31 +36,29 @@ nishita-between-requires c κs = search needs
 span-answer-requires : tie.Need-span-answer-requires
 span-answer-requires c κs = search needs
 
-enum-told-2 : tie.Need-enum-told-2
-enum-told-2 c = search needs
+enum-known-a-2 : tie.Need-enum-known-a-2
+enum-known-a-2 c = search needs
 
-enum-told-3 : tie.Need-enum-told-3
-enum-told-3 c = search needs
+enum-known-after : tie.Need-enum-known-after
+enum-known-after c = search needs
 
 returns : tie.Need-returns
-unfolding given
+unfolding then near ofBits
 returns c =
-    let s = c .before .before .before .before .before .before .before in
-    let x = s .before .before .before .before .args .date in
-    let d = number-of x (s .day-number .result) _ (s .day-number .ensures) (c .before .before .before .before .before .a .given .1) in
-    let t = next-of x _ (s .before .before .before .next .result) (s .before .before .before .next .ensures) (s .before .enum-told .given .1) in
-    rw (t .0, t .1, d .1, c .span-answer .ensures, c .before .nishita-between .ensures, c .before .before .events-on2 .ensures, c .before .before .before .events-on .ensures)
+    let e = c .before .before .before in
+    let a = e .before .before in
+    let s = a .before .before in
+    rw (← s .before .before .before .next .ensures, s .before .enum-told .given .1, ← s .day-number .ensures, a .a .given .1, c .span-answer .ensures, c .before .nishita-between .ensures, c .before .before .events-on2 .ensures, e .events-on .ensures)
 
 returns-2 : tie.Need-returns-2
-unfolding given
+unfolding then
 returns-2 c =
-    let s = c .before .before in
-    rw (no-number (s .before .before .before .before .args .date) (s .day-number .result) (s .day-number .ensures) (c .enum-told2 .given .1))
+    let s = c .before .before .before in
+    rw (← s .before .before .before .next .ensures, s .before .enum-told .given .1, ← s .day-number .ensures, c .before .a2 .given .1)
 
 returns-3 : tie.Need-returns-3
-returns-3 c =
-    let x = c .before .before .before .args .date in
-    refused-too (real x) (real (nextDay x)) 3 (nextDay x) _ (sym (ap dateSays (c .enum-told3 .given .1)) ∙ c .before .before .next .ensures)
+unfolding then
+returns-3 c = rw (← c .before .before .before .next .ensures, c .before .after .given .1)
 
 pub nishita-window-spec : {M : Type 1} → statement M
 nishita-window-spec =
@@ -80,8 +73,8 @@ nishita-window-spec =
     events-on-requires-2
     nishita-between-requires
     span-answer-requires
-    enum-told-2
-    enum-told-3
+    enum-known-a-2
+    enum-known-after
     returns
     returns-2
     returns-3)

@@ -1,5 +1,6 @@
-use Rattle.paper.specs.Answers.{given}
-use Rattle.panchanga.proofs.Days.{number-of, no-number}
+use lib.Ieee.{ofBits}
+use Rattle.paper.specs.Answers.{then}
+use Rattle.paper.specs.Floats.{near}
 use borrow.Author.Needs.{needs}
 use Rattle.panchanga.proofs.reading.Statement.{statement}
 use Rattle.panchanga.proofs.reading.Tie as tie
@@ -13,18 +14,24 @@ enum-known-a c = search needs
 reading-of-requires : tie.Need-reading-of-requires
 reading-of-requires c κs = search needs
 
-enum-told : tie.Need-enum-told
-enum-told c = search needs
+enum-known-a-2 : tie.Need-enum-known-a-2
+enum-known-a-2 c = search needs
 
 returns : tie.Need-returns
-unfolding given
-returns c = let s = c .before .before .before .before in let d = number-of (s .before .args .date) (s .day-number .result) _ (s .day-number .ensures) (c .before .before .a .given .1) in rw (d .0, d .1, c .reading-of .ensures)
+unfolding then near ofBits
+returns c = let s = c .before .before in rw (← s .before .before .day-number .ensures, s .a .given .1, c .reading-of .ensures)
 
 returns-2 : tie.Need-returns-2
-unfolding given
-returns-2 c = rw (no-number (c .before .before .before .args .date) (c .before .before .day-number .result) (c .before .before .day-number .ensures) (c .enum-told .given .1))
+unfolding then
+returns-2 c = let s = c .before in rw (← s .before .before .day-number .ensures, s .a2 .given .1)
 
 pub reading-spec : {M : Type 1} → statement M
 reading-spec =
     tie.close
-    (tie.spec day-number-requires enum-known-a reading-of-requires enum-told returns returns-2)
+    (tie.spec
+    day-number-requires
+    enum-known-a
+    reading-of-requires
+    enum-known-a-2
+    returns
+    returns-2)

@@ -1,5 +1,6 @@
-use Rattle.paper.specs.Answers.{given}
-use Rattle.panchanga.proofs.Days.{number-of, no-number}
+use lib.Ieee.{ofBits}
+use Rattle.paper.specs.Answers.{then}
+use Rattle.paper.specs.Floats.{near}
 use borrow.Author.Needs.{needs}
 use Rattle.panchanga.proofs.sun_events.Statement.{statement}
 use Rattle.panchanga.proofs.sun_events.Tie as tie
@@ -16,16 +17,18 @@ events-on-requires c κs = search needs
 span-answer-requires : tie.Need-span-answer-requires
 span-answer-requires c κs = search needs
 
-enum-told : tie.Need-enum-told
-enum-told c = search needs
+enum-known-a-2 : tie.Need-enum-known-a-2
+enum-known-a-2 c = search needs
 
 returns : tie.Need-returns
-unfolding given
-returns c = let s = c .before .before .before .before .before in let d = number-of (s .before .args .date) (s .day-number .result) _ (s .day-number .ensures) (c .before .before .before .a .given .1) in rw (d .0, d .1, c .span-answer .ensures, c .before .events-on .ensures)
+unfolding then near ofBits
+returns c =
+    let s = c .before .before .before in
+    rw (← s .before .before .day-number .ensures, s .a .given .1, c .span-answer .ensures, c .before .events-on .ensures)
 
 returns-2 : tie.Need-returns-2
-unfolding given
-returns-2 c = rw (no-number (c .before .before .before .args .date) (c .before .before .day-number .result) (c .before .before .day-number .ensures) (c .enum-told .given .1))
+unfolding then
+returns-2 c = let s = c .before in rw (← s .before .before .day-number .ensures, s .a2 .given .1)
 
 pub sun-events-spec : {M : Type 1} → statement M
 sun-events-spec =
@@ -35,6 +38,6 @@ sun-events-spec =
     enum-known-a
     events-on-requires
     span-answer-requires
-    enum-told
+    enum-known-a-2
     returns
     returns-2)

@@ -5,7 +5,7 @@ use lib.Dec.{leb}
 use lib.ListN.{length}
 use lib.Seq.{length-take-le}
 use Rattle.paper.proofs.Tests.{and-left, and-right}
-use Rattle.replay.proofs.Gathering.{gathers-none}
+use Rattle.output.proofs.Gathering.{gathers-none}
 use Rattle.questions.specs.Questions.{answerWords}
 use borrow.Author.Needs.{needs}
 use Rattle.questions.proofs.answer.Statement.{statement}

@@ -1,7 +1,7 @@
 -- Each tag is its arm's, or that of a reply. Assumes nothing.
 use mathlib.Core.Path.{refl}
 use mathlib.Core.List.{[], _∷_}
-use Rattle.replay.specs.Tags.{STARTS, LISTBS, LISTAD, GRID}
+use Rattle.asked.specs.Tags.{STARTS, LISTBS, LISTAD, GRID}
 use Rattle.questions.specs.Questions.{oneOf, wordsBy}
 use Rattle.questions.proofs.Keys.{by-key, no-key}
 use borrow.Author.Needs.{needs}

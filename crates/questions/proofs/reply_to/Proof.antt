@@ -2,7 +2,7 @@
 use mathlib.Core.Path.{refl, _∙_}
 use mathlib.Core.List.{[], _∷_}
 use Rattle.conversion.specs.Flat.{flat}
-use Rattle.replay.specs.Tags.{CHECK, CHECKRULES, BS, AD, LEN, VALID, STEP, DAY, DATE, JD, NPT, EVENTS, RISE, SET, KALA, NISHITA, READ, SIN, COS, ASIN, ACOS, TAN}
+use Rattle.asked.specs.Tags.{CHECK, CHECKRULES, BS, AD, LEN, VALID, STEP, DAY, DATE, JD, NPT, EVENTS, RISE, SET, KALA, NISHITA, READ, SIN, COS, ASIN, ACOS, TAN}
 use Rattle.questions.specs.Questions.{oneOf, replyBy}
 use Rattle.questions.proofs.Keys.{by-key, no-key}
 use borrow.Author.Needs.{needs}

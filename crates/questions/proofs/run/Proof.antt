@@ -2,7 +2,7 @@
 use mathlib.Core.Path.{_≡_, refl, _∙_}
 use lib.ListN.{length}
 use native.Mathlib.Omega.{arith}
-use Rattle.replay.proofs.Turns.{turn-goes}
+use Rattle.asked.proofs.Turns.{turn-goes}
 use Rattle.questions.proofs.Runs.{Runs, runs-first, runs-turn, runs-all}
 use borrow.Author.Needs.{needs}
 use Rattle.questions.proofs.run.Statement.{statement}
@@ -14,12 +14,12 @@ Inv-loop rows₀ rules₀ piece₀ line₀ out₀ t₀ lent₀ rows rules piece 
 abbrev μ-loop : tie.MeasureT-loop
 μ-loop rows₀ rules₀ piece₀ line₀ out₀ t₀ lent₀ rows rules piece line out t lent = t .left
 
-begin-requires : tie.Need-begin-requires Inv-loop μ-loop
-begin-requires c κs = search needs
+first-turn-requires : tie.Need-first-turn-requires Inv-loop μ-loop
+first-turn-requires c κs = search needs
 
 loop-holds : tie.Need-loop-holds Inv-loop μ-loop
 loop-holds c = let a = c .before .before .before .before .before .before .before .before .before .before .before .before .before .args in
-    (refl, refl, refl, refl, refl, runs-first (a .first) (a .rows .now) (a .rules .now) (turn-goes (c .before .before .before .before .begin .ensures)))
+    (refl, refl, refl, refl, refl, runs-first (a .first) (a .rows .now) (a .rules .now) (turn-goes (c .before .before .before .before .first-turn .ensures)))
 
 step-requires : tie.Need-step-requires Inv-loop μ-loop
 step-requires c κs = search needs
@@ -63,7 +63,7 @@ run-spec =
     (tie.spec
     Inv-loop
     μ-loop
-    begin-requires
+    first-turn-requires
     loop-holds
     step-requires
     loop-less

@@ -13,8 +13,8 @@ lend-requires c κs = search needs
 answer-requires : tie.Need-answer-requires
 answer-requires c κs = search needs
 
-next-requires : tie.Need-next-requires
-next-requires c κs = search needs
+next-turn-requires : tie.Need-next-turn-requires
+next-turn-requires c κs = search needs
 
 same-length : tie.Need-same-length
 same-length c = search needs
@@ -34,7 +34,7 @@ same-length-5 c = search needs
 returns : tie.Need-returns
 returns c =
     let l = c .before .before .before .before .before .before .before .before .before .before .before .before .before .before .before .before .before .before .before .before .lend in
-    turn-done (c .before .before .before .before .before .before .before .before .before .before .before .before .before .before .before .before .before .before .before .before .before .before .before .before .split .ensures) (l .ensures .0) (l .ensures .1 .0) (l .ensures .1 .1) (c .before .before .before .before .before .before .before .before .before .before .before .before .answer .ensures) (c .before .before .before .before .before .before .next .ensures)
+    turn-done (c .before .before .before .before .before .before .before .before .before .before .before .before .before .before .before .before .before .before .before .before .before .before .before .before .split .ensures) (l .ensures .0) (l .ensures .1 .0) (l .ensures .1 .1) (c .before .before .before .before .before .before .before .before .before .before .before .before .answer .ensures) (c .before .before .before .before .before .before .next-turn .ensures)
 
 pub step-spec : {M : Type 1} → statement M
 step-spec =
@@ -43,7 +43,7 @@ step-spec =
     split-requires
     lend-requires
     answer-requires
-    next-requires
+    next-turn-requires
     same-length
     same-length-2
     same-length-3

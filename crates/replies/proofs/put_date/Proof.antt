@@ -1,5 +1,5 @@
 -- `replies::put_date` meets its contract. Assumes nothing.
-use Rattle.replay.proofs.Gathering.{then}
+use Rattle.output.proofs.Gathering.{then}
 use borrow.Author.Needs.{needs}
 use Rattle.replies.proofs.put_date.Statement.{statement}
 use Rattle.replies.proofs.put_date.Tie as tie

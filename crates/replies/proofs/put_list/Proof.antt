@@ -4,7 +4,7 @@ use mathlib.Core.Path.{_≡_, refl}
 use native.Mathlib.Omega.{arith}
 use lib.ListN.{length}
 use Rattle.text.specs.Digits.{digits}
-use Rattle.replay.proofs.Gathering.{then, Left, left-all, left-turn, left-none}
+use Rattle.output.proofs.Gathering.{then, Left, left-all, left-turn, left-none}
 use borrow.Author.Needs.{needs}
 use Rattle.replies.proofs.put_list.Statement.{statement}
 use Rattle.replies.proofs.put_list.Tie as tie

@@ -1,12 +1,30 @@
 -- `rules::is_good` meets its contract: its code is the definition, test by test. Assumes nothing.
-use mathlib.Core.Path.{refl}
+use borrow.Author.Needs.{needs}
 use Rattle.rules.specs.Rules.{ruleGood}
 use Rattle.rules.proofs.is_good.Statement.{statement}
 use Rattle.rules.proofs.is_good.Tie as tie
 
+has-date-requires : tie.Need-has-date-requires
+has-date-requires c κs = search needs
+
+has-date-requires-2 : tie.Need-has-date-requires-2
+has-date-requires-2 c κs = search needs
+
+has-date-requires-3 : tie.Need-has-date-requires-3
+has-date-requires-3 c κs = search needs
+
+has-date-requires-4 : tie.Need-has-date-requires-4
+has-date-requires-4 c κs = search needs
+
 returns : tie.Need-returns
 unfolding ruleGood
-returns c = refl
+returns c =
+    let other = c .before in
+    let computed = other .before .before .before .before in
+    let gregorian = computed .before .before .before in
+    rw (other .has-date4 .ensures, computed .has-date3 .ensures, gregorian .has-date2 .ensures, gregorian .before .before .before .has-date .ensures)
 
 pub is-good-spec : {M : Type 1} → statement M
-is-good-spec = tie.close (tie.spec returns)
+is-good-spec =
+    tie.close
+    (tie.spec has-date-requires has-date-requires-2 has-date-requires-3 has-date-requires-4 returns)

@@ -11,7 +11,7 @@ use Rattle.sky.specs.Tithi.{elongationOf}
 use Rattle.sky.specs.Search.{Walk, offset, targetOf, startsOf}
 use Rattle.sky.specs.Answers.{query}
 use Rattle.sky.proofs.Fronts.{over-length, over-front}
-use Rattle.sky.proofs.Searches.{starts-bounded, refused-buffer, gives-8, gives-9, gives-11, gives-found, found-buffer}
+use Rattle.sky.proofs.Searches.{starts-bounded, refused-buffer, out-of-range, no-room, not-ended, gives-found, found-buffer}
 use Rattle.sky.proofs.tithi_starts_between.Statement.{statement}
 use Rattle.sky.proofs.tithi_starts_between.Tie as tie
 
@@ -75,20 +75,20 @@ returns-2 : tie.Need-returns-2
 returns-2 c =
     let s = c .before .before in
     let a = start s .args in
-    let e = gives-9 (a .tithi) (a .from .0) (a .to .0) (a .out .now) (good s) (sym (ended s) ∙ c .before .if2 .taken) (omega (arith, count s)) in
+    let e = no-room (a .tithi) (a .from .0) (a .to .0) (a .out .now) (good s) (sym (ended s) ∙ c .before .if2 .taken) (omega (arith, count s)) in
     (sym e, sym (refused-buffer (a .tithi) (a .from .0) (a .to .0) (a .out .now) e))
 
 returns-3 : tie.Need-returns-3
 returns-3 c =
     let s = c .before in
     let a = start s .args in
-    let e = gives-11 (a .tithi) (a .from .0) (a .to .0) (a .out .now) (good s) (sym (ended s) ∙ c .if2 .left) in
+    let e = not-ended (a .tithi) (a .from .0) (a .to .0) (a .out .now) (good s) (sym (ended s) ∙ c .if2 .left) in
     (sym e, sym (refused-buffer (a .tithi) (a .from .0) (a .to .0) (a .out .now) e))
 
 returns-4 : tie.Need-returns-4
 returns-4 c =
     let a = c .before .before .before .args in
-    let e = gives-8 (a .tithi) (a .from .0) (a .to .0) (a .out .now) (sym (c .before .is-query .ensures) ∙ c .if1 .left) in
+    let e = out-of-range (a .tithi) (a .from .0) (a .to .0) (a .out .now) (sym (c .before .is-query .ensures) ∙ c .if1 .left) in
     (sym e, sym (refused-buffer (a .tithi) (a .from .0) (a .to .0) (a .out .now) e))
 
 pub tithi-starts-between-spec : {M : Type 1} → statement M

@@ -4,13 +4,13 @@ use Prim.Native.Nat.{_+_, _-_, _≤_}
 use mathlib.Core.Path.{_≡_, _∙_}
 use native.Mathlib.Nat.{zero-add}
 use lib.ListN.{length, drop}
-use Rattle.tables.specs.Lines as Lines
+use Rattle.tables.specs.Shared as Shared
 use Rattle.tables.proofs.Turns.{shared-over, shared-short, shared-differs, shared-turn}
 use Rattle.tables.proofs.shared.Statement.{statement}
 use Rattle.tables.proofs.shared.Tie as tie
 
 abbrev Inv-loop : tie.InvT-loop
-Inv-loop old new i₀ i = (i ≤ length old) × (i + Lines.shared (drop i old) (drop i new) ≡ Lines.shared old new)
+Inv-loop old new i₀ i = (i ≤ length old) × (i + Shared.shared (drop i old) (drop i new) ≡ Shared.shared old new)
 
 abbrev μ-loop : tie.MeasureT-loop
 μ-loop old new i₀ i = length old - i

@@ -3,8 +3,8 @@ use Prim.Native.Nat.{_-_, _≤_}
 use mathlib.Core.Path.{_≡_, refl}
 use native.Mathlib.Omega.{arith}
 use lib.ListN.{length}
-use Rattle.replay.specs.Line.{floatText}
-use Rattle.replay.proofs.Gathering.{then, Left, left-all, left-turn, left-none}
+use Rattle.output.specs.Floats.{floatText}
+use Rattle.output.proofs.Gathering.{then, Left, left-all, left-turn, left-none}
 use borrow.Author.Needs.{needs}
 use Rattle.answers.proofs.searches.elements.Statement.{statement}
 use Rattle.answers.proofs.searches.elements.Tie as tie

@@ -1,6 +1,6 @@
 -- `answers::searches::search` meets its contract. Assumes nothing.
 use native.Mathlib.Omega.{arith}
-use Rattle.replay.proofs.Gathering.{then}
+use Rattle.output.proofs.Gathering.{then}
 use Rattle.answers.specs.Searches.{startsWords}
 use borrow.Author.Needs.{needs}
 use Rattle.answers.proofs.searches.search.Statement.{statement}

@@ -2,7 +2,7 @@
 use mathlib.Core.Path.{ap}
 use Rattle.doubtful.specs.Tallies.{headingPieces, tallyOf}
 use Rattle.doubtful.specs.declared.page.Page.{Page}
-use Rattle.pieces.proofs.Pieces.{puts-none, then, puts-out}
+use Rattle.output.proofs.Pieces.{puts-none, then, puts-out}
 use borrow.Author.Needs.{needs}
 use Rattle.doubtful.proofs.page.head.Statement.{statement}
 use Rattle.doubtful.proofs.page.head.Tie as tie

@@ -1,6 +1,6 @@
 -- `doubtful::page::put_counts` meets its contract. Assumes nothing.
 use Rattle.doubtful.specs.Tallies.{countPieces}
-use Rattle.pieces.proofs.Pieces.{then}
+use Rattle.output.proofs.Pieces.{then}
 use borrow.Author.Needs.{needs}
 use Rattle.doubtful.proofs.page.put_counts.Statement.{statement}
 use Rattle.doubtful.proofs.page.put_counts.Tie as tie

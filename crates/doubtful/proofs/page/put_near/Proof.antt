@@ -1,6 +1,6 @@
 -- `doubtful::page::put_near` meets its contract. Assumes nothing.
 use Rattle.doubtful.specs.Tallies.{nearPieces}
-use Rattle.pieces.proofs.Pieces.{then}
+use Rattle.output.proofs.Pieces.{then}
 use borrow.Author.Needs.{needs}
 use Rattle.doubtful.proofs.page.put_near.Statement.{statement}
 use Rattle.doubtful.proofs.page.put_near.Tie as tie

@@ -1,6 +1,6 @@
 -- `doubtful::years::put_dated` meets its contract. Assumes nothing.
 use mathlib.Core.Path.{_∙_}
-use Rattle.pieces.proofs.Pieces.{then, puts-out}
+use Rattle.output.proofs.Pieces.{then, puts-out}
 use Rattle.doubtful.proofs.Sheets.{doubted-sheet, dated-beside, dated-far, dated-plain}
 use borrow.Author.Needs.{needs}
 use Rattle.doubtful.proofs.years.put_dated.Statement.{statement}

@@ -3,7 +3,7 @@ use Prim.Native.Nat.{ℕ, _<_}
 use mathlib.Core.Path.{sym, ap, _∙_}
 use borrow.Author.Needs.{needs}
 use Rattle.rules.specs.Days.{rank}
-use Rattle.festivals.specs.Kathmandu.{kalaNumber, kathmandu}
+use Rattle.festivals.specs.Kathmandu.{kalaNumber}
 use Rattle.festivals.specs.Answers.{dayIs}
 use Rattle.festivals.proofs.Asked.{asked-claimed, asked-last, asked-anew}
 use borrow.Fn.Kinds.{In}
@@ -92,7 +92,7 @@ festival-day-returns : (t : ℕ) → festival-day-lts.Need-returns (
 ) (festival-day-at t) festival-day.Post
 festival-day-returns t c =
     let p = c .before .before .before in
-    asked-claimed kathmandu _ _ _ _ _ _ (sym (ap dayIs (c .before .claim .given .1)) ∙ p .first-claim .ensures)
+    asked-claimed _ _ _ _ _ _ _ (sym (ap dayIs (c .before .claim .given .1)) ∙ p .first-claim .ensures)
 
 festival-day-returns-2 : (t : ℕ) → festival-day-lts.Need-returns-2 (
   first-claim-reads.Asked,
@@ -105,7 +105,7 @@ festival-day-returns-2 : (t : ℕ) → festival-day-lts.Need-returns-2 (
 festival-day-returns-2 t c =
     let r = c .before in
     let p = r .before .before .before in
-    asked-last kathmandu _ _ _ _ (sym (ap dayIs (r .before .enum-told .given .1)) ∙ p .first-claim .ensures) (sym (r .rank-of .ensures) ∙ c .if1 .taken)
+    asked-last _ _ _ _ _ (sym (ap dayIs (r .before .enum-told .given .1)) ∙ p .first-claim .ensures) (sym (r .rank-of .ensures) ∙ c .if1 .taken)
 
 festival-day-returns-3 : (t : ℕ) → festival-day-lts.Need-returns-3 (
   first-claim-reads.Asked,
@@ -119,7 +119,7 @@ festival-day-returns-3 t c =
     let r = c .before .before in
     let p = r .before .before .before in
     c .festival-day .ensures
-    ∙ asked-anew kathmandu _ _ _ _ (sym (ap dayIs (r .before .enum-told .given .1)) ∙ p .first-claim .ensures) (λ e. c .before .if1 .left (r .rank-of .ensures ∙ e))
+    ∙ asked-anew _ _ _ _ _ (sym (ap dayIs (r .before .enum-told .given .1)) ∙ p .first-claim .ensures) (λ e. c .before .if1 .left (r .rank-of .ensures ∙ e))
 
 pub +festival-day-spec : {M : Type 1} → statement M
 +festival-day-spec = close μ-festival-day λ t. festival-day-lts.spec (

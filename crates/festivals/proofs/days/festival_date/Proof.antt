@@ -4,7 +4,6 @@ use mathlib.Core.Path.{sym, ap, _∙_}
 use mathlib.Core.Option.{some}
 use native.Mathlib.Omega.{arith}
 use Rattle.sky.specs.Answers.{firstSays}
-use Rattle.festivals.specs.Kathmandu.{kathmandu}
 use Rattle.festivals.specs.Answers.{dayIs}
 use Rattle.festivals.proofs.Kalas.{begins-named, asked-named}
 use Rattle.festivals.proofs.Nepal.{nepal-range}
@@ -12,8 +11,8 @@ use Rattle.festivals.proofs.Dates.{date-none, date-begins, date-endless
 use Rattle.festivals.proofs.days.festival_date.Statement.{statement}
 use Rattle.festivals.proofs.days.festival_date.Tie as tie
 
-day-of-requires : tie.Need-day-of-requires
-day-of-requires c κs = search needs
+nepal-day-requires : tie.Need-nepal-day-requires
+nepal-day-requires c κs = search needs
 
 enum-known-begin : tie.Need-enum-known-begin
 enum-known-begin c = search needs
@@ -24,7 +23,7 @@ enum-told c = search needs
 returns : tie.Need-returns
 returns c =
     let d = c .before .before in
-    date-none kathmandu _ _ _ (sym (ap dayIs (c .enum-told .given .1)) ∙ d .day-of .ensures)
+    date-none _ _ _ _ (sym (ap dayIs (c .enum-told .given .1)) ∙ d .nepal-day .ensures)
 
 kala-named-requires : tie.Need-kala-named-requires
 kala-named-requires c κs = search needs
@@ -39,7 +38,7 @@ returns-2 c =
     let n = k .before .before in
     let d = n .before .before in
     let o = d .before in
-    date-begins kathmandu _ _ _ _ (sym (ap dayIs (n .begin .given .1)) ∙ d .day-of .ensures)
+    date-begins _ _ _ _ _ (sym (ap dayIs (n .begin .given .1)) ∙ d .nepal-day .ensures)
     (begins-named _ _ _ (o .pre .1) (k .kala-named .ensures) (sym (b .is-begins .ensures) ∙ c .if1 .taken))
 
 end-of-requires : tie.Need-end-of-requires
@@ -60,7 +59,7 @@ returns-3 c =
     let n = k .before .before in
     let d = n .before .before in
     let o = d .before in
-    date-endless kathmandu _ _ _ _ (sym (ap dayIs (n .begin .given .1)) ∙ d .day-of .ensures)
+    date-endless _ _ _ _ _ (sym (ap dayIs (n .begin .given .1)) ∙ d .nepal-day .ensures)
     (begins-named _ _ _ (o .pre .1) (k .kala-named .ensures) (sym (b .is-begins .ensures) ∙ i .if1 .left))
     (sym (ap firstSays (c .enum-told2 .given .1)) ∙ e .end-of .ensures)
 
@@ -68,7 +67,7 @@ festival-day-requires : tie.Need-festival-day-requires
 festival-day-requires c κs =
     let n = c .before .before .before .before .before .before .before .before in
     let d = n .before .before in
-    let r = nepal-range _ _ (sym (ap dayIs (n .begin .given .1)) ∙ d .day-of .ensures) in
+    let r = nepal-range _ _ (sym (ap dayIs (n .begin .given .1)) ∙ d .nepal-day .ensures) in
     (omega (arith, r .0), omega (arith, r .1))
 
 returns-4 : tie.Need-returns-4
@@ -82,8 +81,8 @@ returns-4 c =
     let d = n .before .before in
     let o = d .before in
     let a = o .args in
-    ap some (c .festival-day .ensures ∙ asked-named kathmandu (a .kala) _ _ _ _ (o .pre .1) (k .kala-named .ensures))
-    ∙ date-asked kathmandu _ _ _ _ (sym (ap dayIs (n .begin .given .1)) ∙ d .day-of .ensures)
+    ap some (c .festival-day .ensures ∙ asked-named _ (a .kala) _ _ _ _ (o .pre .1) (k .kala-named .ensures))
+    ∙ date-asked _ _ _ _ _ (sym (ap dayIs (n .begin .given .1)) ∙ d .nepal-day .ensures)
     (begins-named _ _ _ (o .pre .1) (k .kala-named .ensures) (sym (b .is-begins .ensures) ∙ i .if1 .left)) _
     (sym (ap firstSays (x .end .given .1)) ∙ e .end-of .ensures)
 
@@ -91,7 +90,7 @@ pub festival-date-spec : {M : Type 1} → statement M
 festival-date-spec =
     tie.close
     (tie.spec
-    day-of-requires
+    nepal-day-requires
     enum-known-begin
     enum-told
     returns

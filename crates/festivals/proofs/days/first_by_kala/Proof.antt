@@ -1,18 +1,16 @@
 -- `festivals::days::first_by_kala` meets its contract. The invariant: what is left of the four days gives the same. Assumes nothing.
 use borrow.Author.Needs.{needs}
 use mathlib.Core.Path.{_≡_, _∙_}
-use Prim.Native.Nat.{_+_, _≤_}
 use native.Mathlib.Omega.{arith}
-use Rattle.rules.specs.Days.{firstFrom, claims, claimed}
 use Rattle.festivals.specs.Kathmandu.{kalaNumber, kathmandu}
-use Rattle.festivals.proofs.Claims.{kala-claims, from-hit, from-miss, from-none, claimed-is}
+use Rattle.festivals.proofs.Claims.{Left, kala-claims, from-hit, from-miss, from-none, claimed-is}
+use Rattle.festivals.proofs.Kalas.{kala-on}
 use Rattle.festivals.proofs.days.first_by_kala.Statement.{statement}
 use Rattle.festivals.proofs.days.first_by_kala.Tie as tie
 
 abbrev Inv-loop : tie.InvT-loop
 Inv-loop start end kala begin n₀ left₀ n left =
-    (n + left ≤ begin + 3)
-    × (firstFrom (claims kathmandu (start .0) (end .0) (kalaNumber kala)) n left ≡ claimed kathmandu (start .0) (end .0) (kalaNumber kala) begin)
+    Left kathmandu (start .0) (end .0) (kalaNumber kala) begin n left
 
 abbrev μ-loop : tie.MeasureT-loop
 μ-loop start end kala begin n₀ left₀ n left = left
@@ -21,7 +19,7 @@ sub-n : tie.Need-sub-n Inv-loop μ-loop
 sub-n c = search needs
 
 loop-holds : tie.Need-loop-holds Inv-loop μ-loop
-loop-holds c = (omega arith, claimed-is _ _ _ _)
+loop-holds c = (omega arith, claimed-is _ _ _ _ _)
 
 events-on-requires : tie.Need-events-on-requires Inv-loop μ-loop
 events-on-requires c κs = search needs
@@ -36,8 +34,8 @@ returns c =
     let l = e .before .before in
     let o = l .before in
     let a = o .args in
-    from-hit (claims kathmandu (a .start .0) (a .end .0) (kalaNumber (a .kala))) (l .loop .n) (l .loop .left) (e .before .loop-test .taken) _ _
-    (k .covers-kala .ensures ∙ kala-claims _ _ (a .kala) _ _ (o .pre .0) (e .events-on .ensures)) (l .loop .inv .1) (c .if1 .taken)
+    from-hit _ (l .loop .n) (l .loop .left) _ (l .loop .inv .1) (e .before .loop-test .taken) _
+    (k .covers-kala .ensures ∙ kala-claims _ _ _ (a .kala) _ _ (o .pre .0) (kala-on (a .kala) _ _ (e .events-on .ensures))) (c .if1 .taken)
 
 add-n : tie.Need-add-n Inv-loop μ-loop
 add-n c = search needs
@@ -56,8 +54,8 @@ loop-again c =
     let o = l .before in
     let a = o .args in (
       omega arith,
-      from-miss (claims kathmandu (a .start .0) (a .end .0) (kalaNumber (a .kala))) (l .loop .n) (l .loop .left) (e .before .loop-test .taken) _ _
-          (k .covers-kala .ensures ∙ kala-claims _ _ (a .kala) _ _ (o .pre .0) (e .events-on .ensures)) (l .loop .inv .1) (c .if1 .left),
+      from-miss _ (l .loop .n) (l .loop .left) _ (l .loop .inv .1) (e .before .loop-test .taken) _
+          (k .covers-kala .ensures ∙ kala-claims _ _ _ (a .kala) _ _ (o .pre .0) (kala-on (a .kala) _ _ (e .events-on .ensures))) (c .if1 .left),
     )
 
 returns-2 : tie.Need-returns-2 Inv-loop μ-loop

@@ -2,21 +2,19 @@
 -- Assumes nothing.
 use borrow.Author.Needs.{needs}
 use mathlib.Core.Path.{_≡_, _∙_}
-use Prim.Native.Nat.{_+_, _≤_}
 use native.Mathlib.Omega.{arith}
 use Rattle.panchanga.specs.Noaa.{eventsOn}
 use Rattle.panchanga.specs.Answers.{spanIs}
-use Rattle.rules.specs.Days.{firstFrom, nishita, claims, claimed}
+use Rattle.rules.specs.Days.{nishita}
 use Rattle.festivals.specs.Kathmandu.{kathmandu}
-use Rattle.festivals.proofs.Claims.{night-claims, from-hit, from-miss, from-none, claimed-is}
+use Rattle.festivals.proofs.Claims.{Left, night-claims, from-hit, from-miss, from-none, claimed-is}
+use Rattle.festivals.proofs.Kalas.{night-on}
 use Rattle.festivals.proofs.days.first_by_night.Statement.{statement}
 use Rattle.festivals.proofs.days.first_by_night.Tie as tie
 
 abbrev Inv-loop : tie.InvT-loop
 Inv-loop start end begin n₀ today₀ left₀ n today left =
-    (n + left ≤ begin + 3)
-    × (spanIs today ≡ eventsOn n)
-    × (firstFrom (claims kathmandu (start .0) (end .0) nishita) n left ≡ claimed kathmandu (start .0) (end .0) nishita begin)
+    (spanIs today ≡ eventsOn n) × Left kathmandu (start .0) (end .0) nishita begin n left
 
 abbrev μ-loop : tie.MeasureT-loop
 μ-loop start end begin n₀ today₀ left₀ n today left = left
@@ -28,7 +26,7 @@ events-on-requires : tie.Need-events-on-requires Inv-loop μ-loop
 events-on-requires c κs = search needs
 
 loop-holds : tie.Need-loop-holds Inv-loop μ-loop
-loop-holds c = (omega arith, c .events-on .ensures, claimed-is _ _ _ _)
+loop-holds c = (c .events-on .ensures, (omega arith, claimed-is _ _ _ _ _))
 
 add-events-on : tie.Need-add-events-on Inv-loop μ-loop
 add-events-on c = search needs
@@ -48,9 +46,8 @@ returns c =
     let b = k .before in
     let e = b .before in
     let l = e .before .before in
-    let a = l .before .before .args in
-    from-hit (claims kathmandu (a .start .0) (a .end .0) nishita) (l .loop .n) (l .loop .left) (e .before .loop-test .taken) _ _
-    (k .covers-night .ensures ∙ night-claims _ _ _ _ _ _ (l .loop .inv .1) (e .events-on2 .ensures) (b .nishita-between .ensures)) (l .loop .inv .2) (c .if1 .taken)
+    from-hit _ (l .loop .n) (l .loop .left) _ (l .loop .inv .1 .1) (e .before .loop-test .taken) _
+    (k .covers-night .ensures ∙ night-claims _ _ _ _ _ (night-on _ _ _ _ (l .loop .inv .0) (e .events-on2 .ensures) (b .nishita-between .ensures))) (c .if1 .taken)
 
 add-n : tie.Need-add-n Inv-loop μ-loop
 add-n c = search needs
@@ -67,18 +64,16 @@ loop-again c =
     let b = k .before in
     let e = b .before in
     let l = e .before .before in
-    let a = l .before .before .args in (
-      omega arith,
-      e .events-on2 .ensures,
-      from-miss (claims kathmandu (a .start .0) (a .end .0) nishita) (l .loop .n) (l .loop .left) (e .before .loop-test .taken) _ _
-          (k .covers-night .ensures ∙ night-claims _ _ _ _ _ _ (l .loop .inv .1) (e .events-on2 .ensures) (b .nishita-between .ensures)) (l .loop .inv .2) (c .if1 .left),
-    )
+    let missed =
+    from-miss _ (l .loop .n) (l .loop .left) _ (l .loop .inv .1 .1) (e .before .loop-test .taken) _
+    (k .covers-night .ensures ∙ night-claims _ _ _ _ _ (night-on _ _ _ _ (l .loop .inv .0) (e .events-on2 .ensures) (b .nishita-between .ensures))) (c .if1 .left) in
+    (e .events-on2 .ensures, (omega arith, missed))
 
 returns-2 : tie.Need-returns-2 Inv-loop μ-loop
 returns-2 c =
     let l = c .before .loop in
     let z : l .left ≡ 0 = omega arith in
-    from-none _ (l .n) (l .left) _ z (l .inv .2)
+    from-none _ (l .n) (l .left) _ z (l .inv .1 .1)
 
 pub first-by-night-spec : {M : Type 1} → statement M
 first-by-night-spec =

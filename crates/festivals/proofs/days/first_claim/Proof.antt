@@ -1,10 +1,8 @@
 -- `festivals::days::first_claim` meets its contract. Assumes nothing.
 use borrow.Author.Needs.{needs}
-use mathlib.Core.Path.{sym, ap, _∙_}
-use Prim.Native.Nat.{ℕ}
+use mathlib.Core.Path.{sym, _∙_}
 use borrow.Author.Tests.{eqb-true}
-use Rattle.rules.specs.Days.{claimed}
-use Rattle.festivals.specs.Kathmandu.{kalaNumber, kathmandu}
+use Rattle.festivals.specs.Kathmandu.{kalaNumber}
 use Rattle.festivals.proofs.Kalas.{nishita-is}
 use Rattle.festivals.proofs.days.first_claim.Statement.{statement}
 use Rattle.festivals.proofs.days.first_claim.Tie as tie
@@ -20,7 +18,7 @@ returns c =
     let p = c .before .before in
     let a = p .before .args in
     let e = eqb-true (kalaNumber (a .kala)) 4 (nishita-is (a .kala) ∙ sym (p .is-nishita .ensures) ∙ c .before .if1 .taken) in
-    c .first-by-night .ensures ∙ ap (λ (k : ℕ). claimed kathmandu (a .start .0) (a .end .0) k (a .begin)) (sym e)
+    rw e (c .first-by-night .ensures)
 
 first-by-kala-requires : tie.Need-first-by-kala-requires
 first-by-kala-requires c κs = search needs

@@ -4,8 +4,7 @@ use mathlib.Core.Path.{sym, ap, _∙_}
 use mathlib.Core.Option.{none}
 use Prim.Native.Nat.{_+_}
 use Rattle.conversion.specs.Flat.{flat}
-use Rattle.rules.specs.Festivals.{lastOf, inMonth}
-use Rattle.festivals.specs.Kathmandu.{kathmandu}
+use Rattle.rules.specs.Festivals.{lastOf}
 use Rattle.festivals.specs.Answers.{daysAre}
 use Rattle.festivals.proofs.TableYears.{opens}
 use Rattle.festivals.proofs.months.lunar_months.Statement.{statement}
@@ -20,8 +19,8 @@ enum-known-first c = search needs
 enum-told : tie.Need-enum-told
 enum-told c = search needs
 
-place-moons-requires : tie.Need-place-moons-requires
-place-moons-requires c κs = search needs
+months-of-requires : tie.Need-months-of-requires
+months-of-requires c κs = search needs
 
 returns : tie.Need-returns
 returns c =
@@ -29,13 +28,13 @@ returns c =
     let d = t .before .before in
     let a = d .before .before .args in
     λ j h.
-    c .place-moons .ensures j h ∙ opens kathmandu (flat (a .table) (a .rows .now)) (a .year) none (sym (ap daysAre (t .enum-told .given .1)) ∙ d .year-days .ensures) (j + 1)
+    c .months-of .ensures j h ∙ opens _ (flat (a .table) (a .rows .now)) (a .year) none (sym (ap daysAre (t .enum-told .given .1)) ∙ d .year-days .ensures) (j + 1)
 
 new-moons-requires : tie.Need-new-moons-requires
 new-moons-requires c κs = search needs
 
-place-moons-requires-2 : tie.Need-place-moons-requires-2
-place-moons-requires-2 c κs = search needs
+months-of-requires-2 : tie.Need-months-of-requires-2
+months-of-requires-2 c κs = search needs
 
 returns-2 : tie.Need-returns-2
 returns-2 c =
@@ -45,9 +44,9 @@ returns-2 c =
     let a = d .before .before .args in
     let k = flat (a .table) (a .rows .now) in
     λ j h.
-    c .place-moons2 .ensures j h
-    ∙ ap (lastOf (inMonth kathmandu k (a .year) (j + 1)) none) (w .new-moons .ensures .1)
-    ∙ opens kathmandu k (a .year) _ (sym (ap daysAre (t .first .given .1)) ∙ d .year-days .ensures) (j + 1)
+    c .months-of2 .ensures j h
+    ∙ ap (lastOf _ none) (w .new-moons .ensures .1)
+    ∙ opens _ k (a .year) _ (sym (ap daysAre (t .first .given .1)) ∙ d .year-days .ensures) (j + 1)
 
 pub lunar-months-spec : {M : Type 1} → statement M
 lunar-months-spec =
@@ -56,8 +55,8 @@ lunar-months-spec =
     year-days-requires
     enum-known-first
     enum-told
-    place-moons-requires
+    months-of-requires
     returns
     new-moons-requires
-    place-moons-requires-2
+    months-of-requires-2
     returns-2)

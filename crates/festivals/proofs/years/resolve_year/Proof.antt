@@ -1,34 +1,23 @@
 -- `festivals::years::resolve_year` meets its contract. The invariant: what is left to enter comes to the same, and so do the places. Assumes nothing.
 use borrow.Author.Needs.{needs}
-use Prim.Native.Nat.{ℕ, _+_, _-_, _/_, _≤_, _<_}
+use Prim.Native.Nat.{ℕ, _+_, _-_, _/_, _<_}
 use mathlib.Core.Path.{_≡_, ap, _∙_}
 use mathlib.Core.List.{List}
-use native.Mathlib.Nat.{sub-zero, zero-add}
 use native.Mathlib.Omega.{arith}
 use lib.ListN.{length}
-use Rattle.conversion.specs.declared.Table.{Table}
 use Rattle.conversion.specs.Flat.{flat}
-use Rattle.rules.specs.Rules.{rulesFrom, countKind}
 use Rattle.rules.specs.Festivals.{ruleDay, entry}
-use Rattle.rules.specs.Resolved.{putEntry, filled, resolved}
-use Rattle.rules.proofs.Walk.{left-none, count-turn, count-skip}
+use Rattle.rules.specs.Resolved.{putEntry}
 use Rattle.rules.proofs.Accepted.{good-rules, good-rule}
 use Rattle.festivals.specs.Kathmandu.{kathmandu}
 use Rattle.festivals.specs.Answers.{dayIs}
 use Rattle.festivals.proofs.Placed.{inside, outside}
-use Rattle.festivals.proofs.Entries.{rule-day-at, entry-nothing, entry-outside, entry-here, fill-skip, fill-next, fill-end, from-zeros}
+use Rattle.festivals.proofs.Entries.{Entered, rule-day-at, entry-nothing, entry-outside, entry-here, entered-first, entered-skip, entered-next, entered-all, place-left}
 use Rattle.festivals.proofs.years.resolve_year.Statement.{statement}
 use Rattle.festivals.proofs.years.resolve_year.Tie as tie
 
--- after i of the n rules, and j of kind 3 among them, the days stand entered: the rest of the rules leads to the whole
-abbrev Entered : Table → List ℕ → List ℕ → ℕ → ℕ → List ℕ → ℕ → ℕ → Type 0
-Entered table rows rules year n days j i =
-    (i ≤ n)
-    × (j + countKind 3 (rulesFrom rules i (n - i)) ≡ countKind 3 (rulesFrom rules 0 n))
-    × (filled kathmandu (flat table rows) year days j (rulesFrom rules i (n - i)) ≡ resolved kathmandu (flat table rows) year (rulesFrom rules 0 n))
-
 abbrev Inv-loop : tie.InvT-loop
-Inv-loop table rows rules year months out₀ n j₀ i₀ out j i = Entered table rows rules year n (out .days) j i
+Inv-loop table rows rules year months out₀ n j₀ i₀ out j i = Entered kathmandu (flat table rows) year rules n (out .days) j i
 
 abbrev μ-loop : tie.MeasureT-loop
 μ-loop table rows rules year months out₀ n j₀ i₀ out j i = n - i
@@ -37,7 +26,7 @@ lunar-months-requires : tie.Need-lunar-months-requires Inv-loop μ-loop
 lunar-months-requires c κs = search needs
 
 loop-holds : tie.Need-loop-holds Inv-loop μ-loop
-loop-holds c = (omega arith, rw (sub-zero, zero-add), rw sub-zero (from-zeros kathmandu _ _ _))
+loop-holds c = entered-first _ _ _ _ _
 
 rule-at-requires : tie.Need-rule-at-requires Inv-loop μ-loop
 rule-at-requires c κs = search needs
@@ -51,25 +40,19 @@ loop-less c = search needs
 loop-again : tie.Need-loop-again Inv-loop μ-loop
 loop-again c =
     let g = c .before .before in
-    let h = g .before .loop-test .taken in
     let l = g .before .before in
-    let a = l .before .before .before .before .args in
-    let xs = a .rules .now in
-    let k = flat (a .table) (a .rows .now) in
-    let r = g .rule-at .result in
-    let er = g .rule-at .ensures in (
-      omega arith,
-      count-skip xs (l .loop .i) _ h r er 3 (l .loop .j) _ (l .loop .inv .1) (c .if1 .taken),
-      fill-skip xs (l .loop .i) _ h r er kathmandu k (a .year) _ _ (l .loop .j) (c .if1 .taken) (l .loop .inv .2),
-    )
+    entered-skip _ _ _ _ _ _ (g .before .loop-test .taken) _ (g .rule-at .ensures) _ _ (l .loop .inv) (c .if1 .taken)
 
-add-j : tie.Need-add-j Inv-loop μ-loop
-add-j c =
-    let g = c .before .before in
+-- a place is left for a rule of kind 3
+room : (f : tie.Else1 Inv-loop μ-loop) → f .before .before .before .before .loop .j < 64
+room f =
+    let g = f .before .before in
     let l = g .before .before in
     let o = l .before .before .before .before in
-    let xs = o .args .rules .now in
-    omega (arith, count-turn xs (l .loop .i) _ (g .before .loop-test .taken) (g .rule-at .result) (g .rule-at .ensures) 3 (l .loop .j) _ (l .loop .inv .1) (c .if1 .left), good-rules xs (o .pre .1) .counts .computed-few)
+    place-left _ _ _ _ _ _ (g .before .loop-test .taken) _ (g .rule-at .ensures) _ _ (l .loop .inv) (f .if1 .left) (good-rules (o .args .rules .now) (o .pre .1) .counts .computed-few)
+
+add-j : tie.Need-add-j Inv-loop μ-loop
+add-j c = omega (arith, room c)
 
 rule-day-requires : tie.Need-rule-day-requires Inv-loop μ-loop
 rule-day-requires c κs =
@@ -99,32 +82,25 @@ met-day d =
     let o = l .before .before .before .before in
     let a = o .args in
     let good = good-rule (a .rules .now) (l .loop .i) (g .rule-at .result) (o .pre .1) (g .before .loop-test .taken) (g .rule-at .ensures) in
-    rule-day-at kathmandu (flat (a .table) (a .rows .now)) (a .year) (g .rule-at .result) _ _ good (f .if1 .left) (l .before .lunar-months .ensures) (d .rule-day .ensures)
+    rule-day-at _ (flat (a .table) (a .rows .now)) (a .year) (g .rule-at .result) _ _ good (f .if1 .left) (l .before .lunar-months .ensures) (d .rule-day .ensures)
 
 -- the turn's end, by what it entered
 turned : (d : tie.After-rule-day Inv-loop μ-loop) (days : List ℕ) →
     let g = d .before .before .before in
     let l = g .before .before in
     let a = l .before .before .before .before .args in
-    days ≡ putEntry (l .loop .out .days) (l .loop .j) (entry kathmandu (flat (a .table) (a .rows .now)) (a .year) (g .rule-at .result))
-    → Entered (a .table) (a .rows .now) (a .rules .now) (a .year) (length (a .rules .now) / 8) days (l .loop .j + 1) (l .loop .i + 1)
+    let k = flat (a .table) (a .rows .now) in
+    days ≡ putEntry (l .loop .out .days) (l .loop .j) (entry kathmandu k (a .year) (g .rule-at .result))
+    → Entered kathmandu k (a .year) (a .rules .now) (length (a .rules .now) / 8) days (l .loop .j + 1) (l .loop .i + 1)
 turned d days e =
     let f = d .before in
     let g = f .before .before in
-    let l = g .before .before in
-    let a = l .before .before .before .before .args in
-    let xs = a .rules .now in
-    let h = g .before .loop-test .taken in
-    let r = g .rule-at .result in (
-      omega arith,
-      count-turn xs (l .loop .i) _ h r (g .rule-at .ensures) 3 (l .loop .j) _ (l .loop .inv .1) (f .if1 .left),
-      fill-next xs (l .loop .i) _ h r (g .rule-at .ensures) kathmandu (flat (a .table) (a .rows .now)) (a .year) (l .loop .out .days) _ (l .loop .j) (f .if1 .left) days e (l .loop .inv .2),
-    )
+    entered-next _ _ _ _ _ _ (g .before .loop-test .taken) _ (g .rule-at .ensures) _ _ (g .before .before .loop .inv) (f .if1 .left) days e
 
 loop-again-2 : tie.Need-loop-again-2 Inv-loop μ-loop
 loop-again-2 c =
     let d = c .before .before in
-    turned d _ (entry-nothing kathmandu _ _ _ _ _ (met-day d ∙ ap dayIs (c .enum-told .given .1)))
+    turned d _ (entry-nothing _ _ _ _ _ _ (met-day d ∙ ap dayIs (c .enum-told .given .1)))
 
 place-requires : tie.Need-place-requires Inv-loop μ-loop
 place-requires c κs = search needs
@@ -141,23 +117,13 @@ loop-again-3 c =
     let q = p .before .before in
     let d = q .before .before in
     let o = d .before .before .before .before .before .before .before .before .before in
-    turned d _ (entry-outside kathmandu _ _ _ _ _ _ 7 (met-day d ∙ ap dayIs (q .k .given .1)) (outside _ (o .pre .0) _ (p .place .result) (p .place .ensures) (c .match2 .keys2)))
-
--- a place is left for a rule of kind 3
-place-left : (d : tie.After-rule-day Inv-loop μ-loop) → d .before .before .before .before .before .loop .j < 64
-place-left d =
-    let f = d .before in
-    let g = f .before .before in
-    let l = g .before .before in
-    let o = l .before .before .before .before in
-    let xs = o .args .rules .now in
-    omega (arith, count-turn xs (l .loop .i) _ (g .before .loop-test .taken) (g .rule-at .result) (g .rule-at .ensures) 3 (l .loop .j) _ (l .loop .inv .1) (f .if1 .left), good-rules xs (o .pre .1) .counts .computed-few)
+    turned d _ (entry-outside _ _ _ _ _ _ _ 7 (met-day d ∙ ap dayIs (q .k .given .1)) (outside _ (o .pre .0) _ (p .place .result) (p .place .ensures) (c .match2 .keys2)))
 
 mul-out : tie.Need-mul-out Inv-loop μ-loop
-mul-out c = omega (arith, place-left (c .before .before .before .before .before .before))
+mul-out c = omega (arith, room (c .before .before .before .before .before .before .before))
 
 element-write-out : tie.Need-element-write-out Inv-loop μ-loop
-element-write-out c = omega (arith, place-left (c .before .before .before .before .before .before))
+element-write-out c = omega (arith, room (c .before .before .before .before .before .before .before))
 
 loop-less-4 : tie.Need-loop-less-4 Inv-loop μ-loop
 loop-less-4 c = search needs
@@ -168,14 +134,10 @@ loop-again-4 c =
     let q = p .before .before in
     let d = q .before .before in
     let o = d .before .before .before .before .before .before .before .before .before in
-    turned d _ (entry-here kathmandu _ _ _ _ _ _ _ (met-day d ∙ ap dayIs (q .k .given .1)) (inside _ (o .pre .0) _ (p .place .result) (p .place .ensures) _ (c .enum-told2 .given .1)))
+    turned d _ (entry-here _ _ _ _ _ _ _ _ (met-day d ∙ ap dayIs (q .k .given .1)) (inside _ (o .pre .0) _ (p .place .result) (p .place .ensures) _ (c .enum-told2 .given .1)))
 
 returns : tie.Need-returns Inv-loop μ-loop
-returns c =
-    let l = c .before in
-    let a = l .before .before .before .before .args in
-    let xs = a .rules .now in
-    fill-end kathmandu (flat (a .table) (a .rows .now)) (a .year) (l .loop .out .days) _ (l .loop .j) _ (left-none xs (l .loop .i) (length xs / 8) (c .loop-test .left)) (l .loop .inv .2)
+returns c = let l = c .before .loop in entered-all _ _ _ _ _ (l .i) (l .out .days) (l .j) (c .loop-test .left) (l .inv)
 
 pub resolve-year-spec : {M : Type 1} → statement M
 resolve-year-spec =

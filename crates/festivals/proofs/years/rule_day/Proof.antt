@@ -6,7 +6,6 @@ use Prim.Native.Nat.{_-_}
 use native.Mathlib.Omega.{arith}
 use Rattle.sky.specs.Answers.{firstSays}
 use Rattle.rules.proofs.Accepted.{computed-of}
-use Rattle.festivals.specs.Kathmandu.{kathmandu}
 use Rattle.festivals.proofs.Entries.{day-moonless, day-unstarted, day-started}
 use Rattle.festivals.proofs.years.rule_day.Statement.{statement}
 use Rattle.festivals.proofs.years.rule_day.Tie as tie
@@ -23,7 +22,7 @@ element-copy-out-if1 c = let o = c .before in omega (arith, computed-of (o .args
 returns : tie.Need-returns
 returns c =
     let a = c .before .before .before .args in
-    day-moonless kathmandu (a .r) (a .t1) (a .r .month - 1) (not-true _ (c .if1 .taken))
+    day-moonless _ (a .r) (a .t1) (a .r .month - 1) (not-true _ (c .if1 .taken))
 
 mul-t13 : tie.Need-mul-t13
 mul-t13 c = search needs
@@ -51,7 +50,7 @@ returns-2 c =
     let b = c .before .before in
     let f = b .before .before .before .before in
     let a = f .before .before .before .args in
-    day-unstarted kathmandu (a .r) (a .t1) (a .r .month - 1) (not-false _ (f .if1 .left)) (sym (ap firstSays (c .enum-told .given .1)) ∙ b .beginning-of .ensures)
+    day-unstarted _ (a .r) (a .t1) (a .r .month - 1) (not-false _ (f .if1 .left)) (sym (ap firstSays (c .enum-told .given .1)) ∙ b .beginning-of .ensures)
 
 festival-date-requires : tie.Need-festival-date-requires
 festival-date-requires c κs =
@@ -65,7 +64,7 @@ returns-3 c =
     let b = s .before .before in
     let f = b .before .before .before .before in
     let a = f .before .before .before .args in
-    day-started kathmandu (a .r) (a .t1) (a .r .month - 1) (not-false _ (f .if1 .left)) _ (sym (ap firstSays (s .start .given .1)) ∙ b .beginning-of .ensures) _ (c .festival-date .ensures)
+    day-started _ (a .r) (a .t1) (a .r .month - 1) (not-false _ (f .if1 .left)) _ (sym (ap firstSays (s .start .given .1)) ∙ b .beginning-of .ensures) _ (c .festival-date .ensures)
 
 pub rule-day-spec : {M : Type 1} → statement M
 rule-day-spec =

@@ -48,14 +48,5 @@ pub comment-at-spec : {M : Type 1} → statement M
 comment-at-spec =
     tie.close
     (tie.spec
-    Inv-loop
-    μ-loop
-    loop-holds
-    shared-slice-read-if1
-    add-past-spaces
-    past-spaces-requires
-    returns
-    add-i
-    loop-less
-    loop-again
+    Inv-loop μ-loop loop-holds shared-slice-read-if1 add-past-spaces past-spaces-requires returns add-i loop-less loop-again
     returns-2)

@@ -7,27 +7,6 @@ use Rattle.fields.proofs.names.keep_name.Tie as tie
 returns : tie.Need-returns
 returns c = let a = c .before .before .before .args in name-past (a .names .now) (a .s .now) (a .i) (c .if1 .taken)
 
-comment-at-requires : tie.Need-comment-at-requires
-comment-at-requires c κs = search needs
-
-mul-put-front : tie.Need-mul-put-front
-mul-put-front c = search needs
-
-sub-put-front : tie.Need-sub-put-front
-sub-put-front c = search needs
-
-part-put-front-start : tie.Need-part-put-front-start
-part-put-front-start c = search needs
-
-part-put-front-end : tie.Need-part-put-front-end
-part-put-front-end c = search needs
-
-put-front-requires : tie.Need-put-front-requires
-put-front-requires c κs = search needs
-
-same-length : tie.Need-same-length
-same-length c = search needs
-
 returns-2 : tie.Need-returns-2
 returns-2 c = let a = c .before .before .before .before .before .before .before .before .before .args in
     name-kept (a .names .now) (a .s .now) (c .before .before .put-front .last .0) (a .i) (c .before .before .before .before .before .comment-at .result) (c .before .before .put-front .ensures) (c .before .before .before .before .before .comment-at .ensures .1)
@@ -36,12 +15,5 @@ pub keep-name-spec : {M : Type 1} → statement M
 keep-name-spec =
     tie.close
     (tie.spec
-    returns
-    comment-at-requires
-    mul-put-front
-    sub-put-front
-    part-put-front-start
-    part-put-front-end
-    put-front-requires
-    same-length
-    returns-2)
+    returns (λ c κs. search needs) (λ c. search needs) (λ c. search needs) (λ c. search needs) (λ c. search needs)
+    (λ c κs. search needs) (λ c. search needs) returns-2)

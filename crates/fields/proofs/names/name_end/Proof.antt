@@ -49,14 +49,4 @@ pub name-end-spec : {M : Type 1} → statement M
 name-end-spec =
     tie.close
     (tie.spec
-    Inv-loop
-    μ-loop
-    loop-holds
-    returns
-    shared-slice-read-if2
-    returns-2
-    add-i
-    sub-left
-    loop-less
-    loop-again
-    returns-3)
+    Inv-loop μ-loop loop-holds returns shared-slice-read-if2 returns-2 add-i sub-left loop-less loop-again returns-3)

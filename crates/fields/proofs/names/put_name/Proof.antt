@@ -8,27 +8,6 @@ use Rattle.fields.proofs.names.put_name.Tie as tie
 returns : tie.Need-returns
 returns c = let a = c .before .before .before .args in rw (name-none (a .names .now) (a .i) (c .if1 .taken)) (wrote-none (a .out .now) (a .at))
 
-mul-from : tie.Need-mul-from
-mul-from c = search needs
-
-name-end-requires : tie.Need-name-end-requires
-name-end-requires c κs = search needs
-
-sub-put : tie.Need-sub-put
-sub-put c = search needs
-
-part-put-start : tie.Need-part-put-start
-part-put-start c = search needs
-
-part-put-end : tie.Need-part-put-end
-part-put-end c = search needs
-
-put-requires : tie.Need-put-requires
-put-requires c κs = search needs
-
-same-length : tie.Need-same-length
-same-length c = search needs
-
 returns-2 : tie.Need-returns-2
 returns-2 c = let a = c .before .before .before .before .before .before .before .before .before .args in
     let n = c .before .before .before .before .before .name-end in
@@ -38,12 +17,5 @@ pub put-name-spec : {M : Type 1} → statement M
 put-name-spec =
     tie.close
     (tie.spec
-    returns
-    mul-from
-    name-end-requires
-    sub-put
-    part-put-start
-    part-put-end
-    put-requires
-    same-length
-    returns-2)
+    returns (λ c. search needs) (λ c κs. search needs) (λ c. search needs) (λ c. search needs) (λ c. search needs)
+    (λ c κs. search needs) (λ c. search needs) returns-2)

@@ -4,15 +4,9 @@ use borrow.Author.Needs.{needs}
 use Rattle.fields.proofs.row.ends.Statement.{statement}
 use Rattle.fields.proofs.row.ends.Tie as tie
 
-at-end-requires : tie.Need-at-end-requires
-at-end-requires c κs = search needs
-
-stands-requires : tie.Need-stands-requires
-stands-requires c κs = search needs
-
 returns : tie.Need-returns
 unfolding Line.ends
 returns c = rw (c .before .at-end .ensures, c .stands .ensures)
 
 pub ends-spec : {M : Type 1} → statement M
-ends-spec = tie.close (tie.spec at-end-requires stands-requires returns)
+ends-spec = tie.close (tie.spec (λ c κs. search needs) (λ c κs. search needs) returns)

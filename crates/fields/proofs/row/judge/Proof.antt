@@ -4,9 +4,6 @@ use borrow.Author.Needs.{needs}
 use Rattle.fields.proofs.row.judge.Statement.{statement}
 use Rattle.fields.proofs.row.judge.Tie as tie
 
-enum-known-form : tie.Need-enum-known-form
-enum-known-form c = search needs
-
 returns : tie.Need-returns
 returns c = judged-blank (c .before .before .before .before .args .wanted) (c .before .before .before .before .args .form) (c .before .before .form .given .1) (c .if1 .taken)
 
@@ -14,31 +11,13 @@ returns-2 : tie.Need-returns-2
 returns-2 c = let a = c .before .before .before .before .before .args in
     judged-good (a .wanted) (a .form) (c .before .before .before .form .given .1) (c .before .if1 .left) (c .if2 .taken)
 
-enum-told : tie.Need-enum-told
-enum-told c = search needs
-
-enum-told-2 : tie.Need-enum-told-2
-enum-told-2 c = search needs
-
 returns-3 : tie.Need-returns-3
 returns-3 c = let a = c .before .before .before .before .before .args in
     judged-other (a .wanted) (a .form) (c .before .before .before .form .given .1) (c .before .if1 .left) (c .if2 .left)
-
-returns-4 : tie.Need-returns-4
-returns-4 c = search needs
-
-returns-5 : tie.Need-returns-5
-returns-5 c = search needs
 
 pub judge-spec : {M : Type 1} → statement M
 judge-spec =
     tie.close
     (tie.spec
-    enum-known-form
-    returns
-    returns-2
-    enum-told
-    enum-told-2
-    returns-3
-    returns-4
-    returns-5)
+    (λ c. search needs) returns returns-2 (λ c. search needs) (λ c. search needs) returns-3 (λ c. search needs)
+    (λ c. search needs))

@@ -10,21 +10,9 @@ use borrow.Author.Needs.{needs}
 use Rattle.fields.proofs.row.read_number.Statement.{statement}
 use Rattle.fields.proofs.row.read_number.Tie as tie
 
-decimal-requires : tie.Need-decimal-requires
-decimal-requires c κs = search needs
-
-enum-known-n : tie.Need-enum-known-n
-enum-known-n c = search needs
-
-enum-told : tie.Need-enum-told
-enum-told c = search needs
-
 returns : tie.Need-returns
 returns c = let a = c .before .before .before .before .args in
     record { same = number-none (drop (a .at) (a .s .now)) (number-unsaid (c .before .before .decimal .result) (c .before .before .decimal .ensures) (c .enum-told .given .1)); inside = omega arith }
-
-word-ends-requires : tie.Need-word-ends-requires
-word-ends-requires c κs = search needs
 
 returns-2 : tie.Need-returns-2
 returns-2 c = let a = c .before .before .before .before .before .before .before .args in
@@ -42,11 +30,5 @@ pub read-number-spec : {M : Type 1} → statement M
 read-number-spec =
     tie.close
     (tie.spec
-    decimal-requires
-    enum-known-n
-    enum-told
-    returns
-    word-ends-requires
-    returns-2
-    past-spaces-requires
+    (λ c κs. search needs) (λ c. search needs) (λ c. search needs) returns (λ c κs. search needs) returns-2 past-spaces-requires
     returns-3)

@@ -23,27 +23,9 @@ past-spaces-requires c κs = omega arith
 loop-holds : tie.Need-loop-holds Inv-loop μ-loop
 loop-holds c = (omega arith, refl, left-first (c .before .before .args .s .now) (c .past-spaces .result) (c .past-spaces .ensures .1))
 
-ends-requires : tie.Need-ends-requires Inv-loop μ-loop
-ends-requires c κs = search needs
-
-faulty-requires : tie.Need-faulty-requires Inv-loop μ-loop
-faulty-requires c κs = search needs
-
 returns : tie.Need-returns Inv-loop μ-loop
 returns c = let l = c .before .before .before .before .loop in
     c .faulty .ensures ∙ left-full (c .before .before .before .before .before .before .before .args .s .now) (l .values) (l .k) (l .at) (sym (c .before .before .before .ends .ensures) ∙ not-true _ (c .before .before .if1 .taken)) (c .before .if2 .taken) ∙ l .inv .2
-
-read-number-requires : tie.Need-read-number-requires Inv-loop μ-loop
-read-number-requires c κs = search needs
-
-enum-known-n : tie.Need-enum-known-n Inv-loop μ-loop
-enum-known-n c = search needs
-
-enum-told : tie.Need-enum-told Inv-loop μ-loop
-enum-told c = search needs
-
-faulty-requires-2 : tie.Need-faulty-requires-2 Inv-loop μ-loop
-faulty-requires-2 c κs = search needs
 
 returns-2 : tie.Need-returns-2 Inv-loop μ-loop
 returns-2 c = let l = c .before .before .before .before .before .before .before .loop in
@@ -77,22 +59,6 @@ pub read-row-spec : {M : Type 1} → statement M
 read-row-spec =
     tie.close
     (tie.spec
-    Inv-loop
-    μ-loop
-    past-spaces-requires
-    loop-holds
-    ends-requires
-    faulty-requires
-    returns
-    read-number-requires
-    enum-known-n
-    enum-told
-    faulty-requires-2
-    returns-2
-    cast-values
-    mul-values
-    array-write-values
-    add-k
-    loop-less
-    loop-again
-    returns-3)
+    Inv-loop μ-loop past-spaces-requires loop-holds (λ c κs. search needs) (λ c κs. search needs) returns (λ c κs. search needs)
+    (λ c. search needs) (λ c. search needs) (λ c κs. search needs) returns-2 cast-values mul-values array-write-values add-k
+    loop-less loop-again returns-3)

@@ -4,15 +4,9 @@ use borrow.Author.Needs.{needs}
 use Rattle.fields.proofs.row.word_ends.Statement.{statement}
 use Rattle.fields.proofs.row.word_ends.Tie as tie
 
-ends-requires : tie.Need-ends-requires
-ends-requires c κs = search needs
-
-stands-requires : tie.Need-stands-requires
-stands-requires c κs = search needs
-
 returns : tie.Need-returns
 unfolding Line.wordEnds
 returns c = rw (c .before .ends .ensures, c .stands .ensures)
 
 pub word-ends-spec : {M : Type 1} → statement M
-word-ends-spec = tie.close (tie.spec ends-requires stands-requires returns)
+word-ends-spec = tie.close (tie.spec (λ c κs. search needs) (λ c κs. search needs) returns)

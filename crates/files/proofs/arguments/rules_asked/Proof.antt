@@ -6,21 +6,11 @@ use borrow.Author.Needs.{needs}
 use Rattle.files.proofs.arguments.rules_asked.Statement.{statement}
 use Rattle.files.proofs.arguments.rules_asked.Tie as tie
 
-rules-at-requires : tie.Need-rules-at-requires
-rules-at-requires c κs = search needs
-
-same-length : tie.Need-same-length
-same-length c = search needs
-
-same-length-2 : tie.Need-same-length-2
-same-length-2 c = search needs
-
-returns : tie.Need-returns
-returns c = search needs
-
 returns-2 : tie.Need-returns-2
 returns-2 c = record { file = holds [] over; told = refl; stored = refl; named = refl }
 
 pub rules-asked-spec : {M : Type 1} → statement M
 rules-asked-spec =
-    tie.close (tie.spec rules-at-requires same-length same-length-2 returns returns-2)
+    tie.close
+    (tie.spec
+    (λ c κs. search needs) (λ c. search needs) (λ c. search needs) (λ c. search needs) returns-2)

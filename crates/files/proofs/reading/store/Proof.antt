@@ -55,16 +55,5 @@ pub store-spec : {M : Type 1} → statement M
 store-spec =
     tie.close
     (tie.spec
-    Inv-loop
-    μ-loop
-    loop-holds
-    mul-rows
-    array-read-rows
-    add-rows
-    mul-rows-2
-    slice-write-rows
-    add-i
-    loop-less
-    loop-again
-    same-length
-    returns)
+    Inv-loop μ-loop loop-holds mul-rows array-read-rows add-rows mul-rows-2 slice-write-rows add-i loop-less loop-again
+    same-length returns)

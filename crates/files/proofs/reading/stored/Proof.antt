@@ -6,37 +6,13 @@ use borrow.Author.Needs.{needs}
 use Rattle.files.proofs.reading.stored.Statement.{statement}
 use Rattle.files.proofs.reading.stored.Tie as tie
 
-faulted-requires : tie.Need-faulted-requires
-faulted-requires c κs = search needs
-
 returns : tie.Need-returns
 returns c = let a = c .before .before .before .before .before .args in
     instead (c .faulted .ensures) refl refl (row-over (a .r) (a .rows .now) (a .names .now) (a .s .now) (a .values) (a .width) (omega (arith, c .before .before .before .before .before .pre)) (omega (arith, c .before .if1 .taken)))
 
-sub-if2 : tie.Need-sub-if2
-sub-if2 c = search needs
-
-faulted-requires-2 : tie.Need-faulted-requires-2
-faulted-requires-2 c κs = search needs
-
 returns-2 : tie.Need-returns-2
 returns-2 c = let a = c .before .before .before .before .before .before .args in
     instead (c .faulted2 .ensures) refl refl (row-over (a .r) (a .rows .now) (a .names .now) (a .s .now) (a .values) (a .width) (omega (arith, c .before .before .before .before .before .before .pre)) (omega (arith, c .before .if2 .taken, c .before .before .if1 .left)))
-
-keep-name-requires : tie.Need-keep-name-requires
-keep-name-requires c κs = search needs
-
-store-requires : tie.Need-store-requires
-store-requires c κs = search needs
-
-counted-requires : tie.Need-counted-requires
-counted-requires c κs = search needs
-
-same-length : tie.Need-same-length
-same-length c = search needs
-
-same-length-2 : tie.Need-same-length-2
-same-length-2 c = search needs
 
 returns-3 : tie.Need-returns-3
 returns-3 c = let a = c .before .before .before .before .before .before .before .before .before .before .before .before .before .before .args in
@@ -47,14 +23,5 @@ pub stored-spec : {M : Type 1} → statement M
 stored-spec =
     tie.close
     (tie.spec
-    faulted-requires
-    returns
-    sub-if2
-    faulted-requires-2
-    returns-2
-    keep-name-requires
-    store-requires
-    counted-requires
-    same-length
-    same-length-2
-    returns-3)
+    (λ c κs. search needs) returns (λ c. search needs) (λ c κs. search needs) returns-2 (λ c κs. search needs)
+    (λ c κs. search needs) (λ c κs. search needs) (λ c. search needs) (λ c. search needs) returns-3)

@@ -8,9 +8,6 @@ use borrow.Author.Needs.{needs}
 use Rattle.files.proofs.reading.with_input.Statement.{statement}
 use Rattle.files.proofs.reading.with_input.Tie as tie
 
-faulted-requires : tie.Need-faulted-requires
-faulted-requires c κs = search needs
-
 returns : tie.Need-returns
 returns c = makes-broken (c .before .before .before .before .before .pre .1) (c .faulted .ensures)
 
@@ -20,15 +17,6 @@ returns-2 c = makes-same
 slice-aggregate-with-next : tie.Need-slice-aggregate-with-next
 slice-aggregate-with-next c = let a = c .before .before .before .before .before .before .before .before .before .args in sym (length-take-le (a .input .len) (a .line .now) (c .before .before .before .before .before .before .before .before .before .pre .2))
 
-with-next-requires : tie.Need-with-next-requires
-with-next-requires c κs = search needs
-
-same-length : tie.Need-same-length
-same-length c = search needs
-
-same-length-2 : tie.Need-same-length-2
-same-length-2 c = search needs
-
 returns-3 : tie.Need-returns-3
 returns-3 c = let a = c .before .before .before .before .before .before .before .before .before .before .before .before .before .before .args in
     makes-line {x = made (a .r) (a .rows .now) (a .names .now)} (c .before .before .before .before .before .before .before .before .before .before .before .before .before .before .pre .1) (cameAs (a .input .long) (take (a .input .len) (a .line .now))) (c .before .before .before .before .with-next .ensures)
@@ -37,11 +25,5 @@ pub with-input-spec : {M : Type 1} → statement M
 with-input-spec =
     tie.close
     (tie.spec
-    faulted-requires
-    returns
-    returns-2
-    slice-aggregate-with-next
-    with-next-requires
-    same-length
-    same-length-2
-    returns-3)
+    (λ c κs. search needs) returns returns-2 slice-aggregate-with-next (λ c κs. search needs) (λ c. search needs)
+    (λ c. search needs) returns-3)

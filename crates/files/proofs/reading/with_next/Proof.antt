@@ -5,31 +5,13 @@ use borrow.Author.Needs.{needs}
 use Rattle.files.proofs.reading.with_next.Statement.{statement}
 use Rattle.files.proofs.reading.with_next.Tie as tie
 
-faulted-requires : tie.Need-faulted-requires
-faulted-requires c κs = search needs
-
 returns : tie.Need-returns
 returns c = let a = c .before .before .before .before .before .before .args in
     instead (c .faulted .ensures) refl refl (next-over (a .width) (a .r) (a .rows .now) (a .names .now) (a .s .now) (a .long) (c .before .if1 .taken))
 
-numbered-requires : tie.Need-numbered-requires
-numbered-requires c κs = search needs
-
-faulted-requires-2 : tie.Need-faulted-requires-2
-faulted-requires-2 c κs = search needs
-
 returns-2 : tie.Need-returns-2
 returns-2 c = let a = c .before .before .before .before .before .before .before .before .args in
     instead (c .faulted2 .ensures) refl refl (next-long (a .width) (a .r) (a .rows .now) (a .names .now) (a .s .now) (a .long) (c .before .before .before .if1 .left) (c .before .before .numbered .ensures) (c .before .if2 .taken))
-
-with-line-requires : tie.Need-with-line-requires
-with-line-requires c κs = search needs
-
-same-length : tie.Need-same-length
-same-length c = search needs
-
-same-length-2 : tie.Need-same-length-2
-same-length-2 c = search needs
 
 returns-3 : tie.Need-returns-3
 returns-3 c = let a = c .before .before .before .before .before .before .before .before .before .before .before .before .before .before .args in
@@ -39,12 +21,5 @@ pub with-next-spec : {M : Type 1} → statement M
 with-next-spec =
     tie.close
     (tie.spec
-    faulted-requires
-    returns
-    numbered-requires
-    faulted-requires-2
-    returns-2
-    with-line-requires
-    same-length
-    same-length-2
-    returns-3)
+    (λ c κs. search needs) returns (λ c κs. search needs) (λ c κs. search needs) returns-2 (λ c κs. search needs)
+    (λ c. search needs) (λ c. search needs) returns-3)

@@ -5,11 +5,11 @@ use lib.Seq.{length-take-le}
 use Rattle.grid.proofs.page.put_front.Statement.{statement}
 use Rattle.grid.proofs.page.put_front.Tie as tie
 
-slice-aggregate-put : tie.Need-slice-aggregate-put
-slice-aggregate-put c = sym (length-take-le _ _ (c .before .before .before .before .pre .0))
+slice-aggregate-put-at : tie.Need-slice-aggregate-put-at
+slice-aggregate-put-at c = sym (length-take-le _ _ (c .before .before .before .before .pre .0))
 
-put-requires : tie.Need-put-requires
-put-requires c κs = let s = c .before .before .before .before in omega (arith, length-take-le (s .args .n) (s .args .src .now) (s .pre .0), s .pre)
+put-at-requires : tie.Need-put-at-requires
+put-at-requires c κs = let s = c .before .before .before .before in omega (arith, length-take-le (s .args .n) (s .args .src .now) (s .pre .0), s .pre)
 
 same-length : tie.Need-same-length
 same-length c = search needs
@@ -18,4 +18,4 @@ returns : tie.Need-returns
 returns c = search needs
 
 pub put-front-spec : {M : Type 1} → statement M
-put-front-spec = tie.close (tie.spec slice-aggregate-put put-requires same-length returns)
+put-front-spec = tie.close (tie.spec slice-aggregate-put-at put-at-requires same-length returns)

@@ -12,24 +12,19 @@ first-of-requires c κs =
     let k = in-year (o .args .table) (o .args .rows .now) (o .pre .0 .0) _ _ _ (o .pre .1) in
     (o .pre .0 .0, (k .0, k .1, refl))
 
-resolve-before-requires : tie.Need-resolve-before-requires
-resolve-before-requires c κs = search needs
-
-resolve-year-requires : tie.Need-resolve-year-requires
-resolve-year-requires c κs = search needs
+years-for-requires : tie.Need-years-for-requires
+years-for-requires c κs = search needs
 
 returns : tie.Need-returns
 returns c =
-    let b = c .before in
-    let f = b .before in
+    let f = c .before in
     let o = f .before .before .before in
     let t = o .args .table in
     let rows = o .args .rows .now in
-    let p : Plan = record { today = o .args .today; year = o .args .year; month = o .args .month; first = f .first-of .result; days = o .args .days; before = b .resolve-before .result; this = c .resolve-year .result } in (
+    let p : Plan = record { today = o .args .today; year = o .args .year; month = o .args .month; first = f .first-of .result; days = o .args .days; years = c .years-for .result } in (
       planned t rows (o .pre .0 .0) _ _ _ (o .pre .1) p refl refl refl (f .first-of .ensures),
-      same-grid t rows (o .pre .0 .0) _ _ _ (o .pre .1) p refl refl refl (f .first-of .ensures) (o .args .rules .now) (o .pre .0 .1) (b .resolve-before .ensures) (c .resolve-year .ensures),
+      same-grid t rows (o .pre .0 .0) _ _ _ (o .pre .1) p refl refl refl (f .first-of .ensures) (o .args .rules .now) (o .pre .0 .1) (c .years-for .ensures),
     )
 
 pub plan-of-spec : {M : Type 1} → statement M
-plan-of-spec =
-    tie.close (tie.spec first-of-requires resolve-before-requires resolve-year-requires returns)
+plan-of-spec = tie.close (tie.spec first-of-requires years-for-requires returns)

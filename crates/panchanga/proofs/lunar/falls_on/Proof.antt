@@ -11,19 +11,11 @@ enum-known-a c = search needs
 enum-told : tie.Need-enum-told
 enum-told c = search needs
 
-enum-told-2 : tie.Need-enum-told-2
-enum-told-2 c = search needs
-
 returns : tie.Need-returns
 returns c = let s = c .before .before .before .before .before .before .before in rw (← s .before .before .npt-date .ensures, s .a .given .1)
 
 returns-2 : tie.Need-returns-2
 returns-2 c = rw (← c .before .before .npt-date .ensures, c .enum-told .given .1)
 
-returns-3 : tie.Need-returns-3
-returns-3 c = rw (← c .before .before .npt-date .ensures, c .enum-told2 .given .1)
-
 pub falls-on-spec : {M : Type 1} → statement M
-falls-on-spec =
-    tie.close
-    (tie.spec npt-date-requires enum-known-a enum-told enum-told-2 returns returns-2 returns-3)
+falls-on-spec = tie.close (tie.spec npt-date-requires enum-known-a enum-told returns returns-2)

@@ -8,7 +8,7 @@ use Rattle.panchanga.proofs.noaa.events_at.Statement.{statement}
 use Rattle.panchanga.proofs.noaa.events_at.Tie as tie
 
 -- the hour angle's cosine is that of the definition
-horizon : (c : tie.After-cos-hour-angle) → let a = c .before .before .before .before .args in c .cos-hour-angle .result ≡ cosHourAngle (a .lat) (declination (centuriesAt (a .lon) (a .zero)) (sunLongitude (centuriesAt (a .lon) (a .zero))))
+horizon : (c : tie.After-cos-hour-angle) → let a = c .before .before .before .before .args in c .cos-hour-angle .result ≡ cosHourAngle (a .place .latitude) (declination (centuriesAt (a .place .longitude) (a .zero)) (sunLongitude (centuriesAt (a .place .longitude) (a .zero))))
 horizon c = rw (c .cos-hour-angle .ensures, c .before .declination .ensures, c .before .before .sun-at .ensures, c .before .before .before .centuries-at .ensures)
 
 centuries-at-requires : tie.Need-centuries-at-requires

@@ -16,15 +16,8 @@ returns-2 c = longer _ _ (rw (length-take-le (c .before .before .before .before 
 slice-aggregate-put : tie.Need-slice-aggregate-put
 slice-aggregate-put c = sym (length-take-le (c .before .before .before .before .before .before .args .n) (c .before .before .before .before .before .before .args .page .now) (omega arith))
 
-put-requires : tie.Need-put-requires
-put-requires c κs = search needs
-
-same-length : tie.Need-same-length
-same-length c = search needs
-
 returns-3 : tie.Need-returns-3
 returns-3 c = let e = length-take-le (c .before .before .before .before .before .before .before .before .before .args .n) (c .before .before .before .before .before .before .before .before .before .args .page .now) (omega arith) in fits _ _ (rw e (omega arith)) (rw e (omega arith)) (c .before .before .put .ensures)
 
 pub copy-spec : {M : Type 1} → statement M
-copy-spec =
-    tie.close (tie.spec returns returns-2 slice-aggregate-put put-requires same-length returns-3)
+copy-spec = tie.close (tie.spec returns returns-2 slice-aggregate-put (λ c κs. search needs) (λ c. search needs) returns-3)

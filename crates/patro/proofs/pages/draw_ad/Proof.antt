@@ -9,27 +9,6 @@ use borrow.Author.Needs.{needs}
 use Rattle.patro.proofs.pages.draw_ad.Statement.{statement}
 use Rattle.patro.proofs.pages.draw_ad.Tie as tie
 
-ad-to-bs-requires : tie.Need-ad-to-bs-requires
-ad-to-bs-requires c κs = search needs
-
-enum-known-bs : tie.Need-enum-known-bs
-enum-known-bs c = search needs
-
-draw-bs-requires : tie.Need-draw-bs-requires
-draw-bs-requires c κs = search needs
-
-enum-told : tie.Need-enum-told
-enum-told c = search needs
-
-enum-told-2 : tie.Need-enum-told-2
-enum-told-2 c = search needs
-
-enum-told-3 : tie.Need-enum-told-3
-enum-told-3 c = search needs
-
-same-length : tie.Need-same-length
-same-length c = search needs
-
 returns : tie.Need-returns
 unfolding pageAsked then
 returns c = rw (← said bsSays (c .before .before .before .before .before .bs .given .1) (c .before .before .before .before .before .before .before .ad-to-bs .ensures)) (c .before .before .draw-bs .ensures)
@@ -50,14 +29,5 @@ pub draw-ad-spec : {M : Type 1} → statement M
 draw-ad-spec =
     tie.close
     (tie.spec
-    ad-to-bs-requires
-    enum-known-bs
-    draw-bs-requires
-    enum-told
-    enum-told-2
-    enum-told-3
-    same-length
-    returns
-    returns-2
-    returns-3
-    returns-4)
+    (λ c κs. search needs) (λ c. search needs) (λ c κs. search needs) (λ c. search needs) (λ c. search needs) (λ c. search needs)
+    (λ c. search needs) returns returns-2 returns-3 returns-4)

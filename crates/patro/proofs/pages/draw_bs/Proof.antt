@@ -6,35 +6,8 @@ use borrow.Author.Needs.{needs}
 use Rattle.patro.proofs.pages.draw_bs.Statement.{statement}
 use Rattle.patro.proofs.pages.draw_bs.Tie as tie
 
-slice-aggregate-month-grid : tie.Need-slice-aggregate-month-grid
-slice-aggregate-month-grid c = search needs
-
-slice-aggregate-month-grid-2 : tie.Need-slice-aggregate-month-grid-2
-slice-aggregate-month-grid-2 c = search needs
-
-month-grid-requires : tie.Need-month-grid-requires
-month-grid-requires c κs = search needs
-
-told-requires : tie.Need-told-requires
-told-requires c κs = search needs
-
-enum-known-m : tie.Need-enum-known-m
-enum-known-m c = search needs
-
-slice-aggregate-draw-part : tie.Need-slice-aggregate-draw-part
-slice-aggregate-draw-part c = search needs
-
-slice-aggregate-draw-part-2 : tie.Need-slice-aggregate-draw-part-2
-slice-aggregate-draw-part-2 c = search needs
-
 draw-part-requires : tie.Need-draw-part-requires
 draw-part-requires c κs = let a = c .before .before .before .before .before .before .before .before .before .before .before .before .before .before .before .before .args in (few-cells (a .table) (a .rows .now) (a .rules .now) (a .today) (a .year) (a .month) (c .before .before .before .before .before .before .told .ensures) (c .before .before .before .before .before .before .before .before .before .month-grid .ensures .0) (c .before .before .before .before .m .given .1), search needs)
-
-enum-known-why : tie.Need-enum-known-why
-enum-known-why c = search needs
-
-same-length : tie.Need-same-length
-same-length c = search needs
 
 returns : tie.Need-returns
 returns c = let a = c .before .before .before .before .before .before .before .before .before .before .before .before .before .before .before .before .before .before .before .args in rw (bs-page (a .table) (a .rows .now) (a .rules .now) (a .today) (a .year) (a .month) (c .before .before .before .before .before .before .before .before .before .told .ensures) (c .before .before .before .before .before .before .before .before .before .before .before .before .month-grid .ensures .0) (a .names .now) (a .part) (c .before .before .before .before .before .before .before .m .given .1), ← c .before .before .before .before .before .before .before .before .before .before .before .before .month-grid .ensures .1 .0, ← c .before .before .before .before .before .before .before .before .before .before .before .before .month-grid .ensures .1 .1) (c .before .before .draw-part .ensures)
@@ -46,15 +19,5 @@ pub draw-bs-spec : {M : Type 1} → statement M
 draw-bs-spec =
     tie.close
     (tie.spec
-    slice-aggregate-month-grid
-    slice-aggregate-month-grid-2
-    month-grid-requires
-    told-requires
-    enum-known-m
-    slice-aggregate-draw-part
-    slice-aggregate-draw-part-2
-    draw-part-requires
-    enum-known-why
-    same-length
-    returns
-    returns-2)
+    (λ c. search needs) (λ c. search needs) (λ c κs. search needs) (λ c κs. search needs) (λ c. search needs) (λ c. search needs)
+    (λ c. search needs) draw-part-requires (λ c. search needs) (λ c. search needs) returns returns-2)

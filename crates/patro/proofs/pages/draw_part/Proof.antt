@@ -7,56 +7,22 @@ use borrow.Author.Needs.{needs}
 use Rattle.patro.proofs.pages.draw_part.Statement.{statement}
 use Rattle.patro.proofs.pages.draw_part.Tie as tie
 
-enum-told : tie.Need-enum-told
-enum-told c = search needs
-
-page-of-requires : tie.Need-page-of-requires
-page-of-requires c κs = search needs
-
-put-month-requires : tie.Need-put-month-requires
-put-month-requires c κs = search needs
-
-enum-known-part : tie.Need-enum-known-part
-enum-known-part c = search needs
-
 returns : tie.Need-returns
 returns c = let a = c .before .before .before .before .before .before .before .before .before .args in rw (c .before .before .part .given .1) (draws-refused (day-zero (a .rules .now) (a .names .now) (a .year) (a .month) _ (a .m) (a .cells .now) (a .festivals .now) (c .if1 .taken)) refl)
 
 returns-2 : tie.Need-returns-2
 returns-2 c = let a = c .before .before .before .before .before .before .before .before .before .before .before .args in rw (c .before .before .before .before .part .given .1) (draws-refused (day-past (a .rules .now) (a .names .now) (a .year) (a .month) _ (a .m) (a .cells .now) (a .festivals .now) (c .if2 .taken)) refl)
 
-cell-of-requires : tie.Need-cell-of-requires
-cell-of-requires c κs = search needs
-
-put-day-requires : tie.Need-put-day-requires
-put-day-requires c κs = search needs
-
-same-length : tie.Need-same-length
-same-length c = search needs
-
 returns-3 : tie.Need-returns-3
 unfolding partPage
-returns-3 c = rw (c .before .before .before .before .before .enum-told .given .1) (draws-page refl (rw (c .before .before .before .before .page-of .ensures) at (c .before .before .put-month .ensures)))
-
-same-length-2 : tie.Need-same-length-2
-same-length-2 c = search needs
+returns-3 c = rw (c .before .before .before .before .before .enum-told .given .1) (draws-page refl (rw (c .before .before .before .before .page-of .ensures) at (c .before .before .put-month-page .ensures)))
 
 returns-4 : tie.Need-returns-4
-returns-4 c = let a = c .before .before .before .before .before .before .before .before .before .before .before .before .before .before .before .before .args in rw (c .before .before .before .before .before .before .before .before .before .part .given .1) (draws-page (day-in (a .rules .now) (a .names .now) (a .year) (a .month) _ (a .m) (a .cells .now) (a .festivals .now) (c .before .before .before .before .before .before .before .if1 .left) (c .before .before .before .before .before .if2 .left)) (rw (c .before .before .before .before .cell-of .ensures) at (c .before .before .put-day .ensures)))
+returns-4 c = let a = c .before .before .before .before .before .before .before .before .before .before .before .before .before .before .before .before .args in rw (c .before .before .before .before .before .before .before .before .before .part .given .1) (draws-page (day-in (a .rules .now) (a .names .now) (a .year) (a .month) _ (a .m) (a .cells .now) (a .festivals .now) (c .before .before .before .before .before .before .before .if1 .left) (c .before .before .before .before .before .if2 .left)) (rw (c .before .before .before .before .cell-of .ensures) at (c .before .before .put-day-page .ensures)))
 
 pub draw-part-spec : {M : Type 1} → statement M
 draw-part-spec =
     tie.close
     (tie.spec
-    enum-told
-    page-of-requires
-    put-month-requires
-    enum-known-part
-    returns
-    returns-2
-    cell-of-requires
-    put-day-requires
-    same-length
-    returns-3
-    same-length-2
-    returns-4)
+    (λ c. search needs) (λ c κs. search needs) (λ c κs. search needs) (λ c. search needs) returns returns-2 (λ c κs. search needs)
+    (λ c κs. search needs) (λ c. search needs) returns-3 (λ c. search needs) returns-4)

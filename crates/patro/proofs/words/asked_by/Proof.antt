@@ -5,22 +5,13 @@ use borrow.Author.Needs.{needs}
 use Rattle.patro.proofs.words.asked_by.Statement.{statement}
 use Rattle.patro.proofs.words.asked_by.Tie as tie
 
-one-word-requires : tie.Need-one-word-requires
-one-word-requires c κs = search needs
-
 returns : tie.Need-returns
 unfolding askedBy
 returns c = rw (eq-eqb _ _ (c .before .if1 .taken)) (c .one-word .ensures)
 
-two-words-requires : tie.Need-two-words-requires
-two-words-requires c κs = search needs
-
 returns-2 : tie.Need-returns-2
 unfolding askedBy
 returns-2 c = rw (ne-eqb _ _ (c .before .before .if1 .left), eq-eqb _ _ (c .before .if2 .taken)) (c .two-words .ensures)
-
-three-words-requires : tie.Need-three-words-requires
-three-words-requires c κs = search needs
 
 returns-3 : tie.Need-returns-3
 unfolding askedBy
@@ -34,10 +25,4 @@ pub asked-by-spec : {M : Type 1} → statement M
 asked-by-spec =
     tie.close
     (tie.spec
-    one-word-requires
-    returns
-    two-words-requires
-    returns-2
-    three-words-requires
-    returns-3
-    returns-4)
+    (λ c κs. search needs) returns (λ c κs. search needs) returns-2 (λ c κs. search needs) returns-3 returns-4)

@@ -4,18 +4,6 @@ use borrow.Author.Needs.{needs}
 use Rattle.patro.proofs.words.date_of.Statement.{statement}
 use Rattle.patro.proofs.words.date_of.Tie as tie
 
-start-requires : tie.Need-start-requires
-start-requires c κs = search needs
-
-dashed-requires : tie.Need-dashed-requires
-dashed-requires c κs = search needs
-
-enum-known-year : tie.Need-enum-known-year
-enum-known-year c = search needs
-
-enum-told : tie.Need-enum-told
-enum-told c = search needs
-
 returns : tie.Need-returns
 returns c = date-none (c .before .before .before .before .before .args .s .now) (c .before .before .before .start .result .at) (c .before .before .before .start .ensures) (c .before .before .dashed .ensures) (c .enum-told .given .1)
 
@@ -26,9 +14,4 @@ pub date-of-spec : {M : Type 1} → statement M
 date-of-spec =
     tie.close
     (tie.spec
-    start-requires
-    dashed-requires
-    enum-known-year
-    enum-told
-    returns
-    returns-2)
+    (λ c κs. search needs) (λ c κs. search needs) (λ c. search needs) (λ c. search needs) returns returns-2)

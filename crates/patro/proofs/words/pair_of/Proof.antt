@@ -5,26 +5,8 @@ use borrow.Author.Needs.{needs}
 use Rattle.patro.proofs.words.pair_of.Statement.{statement}
 use Rattle.patro.proofs.words.pair_of.Tie as tie
 
-whole-number-requires : tie.Need-whole-number-requires
-whole-number-requires c κs = search needs
-
-enum-known-first : tie.Need-enum-known-first
-enum-known-first c = search needs
-
-enum-told : tie.Need-enum-told
-enum-told c = search needs
-
 returns : tie.Need-returns
 returns c = rw (← said wholeSays (c .enum-told .given .1) (c .before .before .whole-number .ensures))
-
-whole-number-requires-2 : tie.Need-whole-number-requires-2
-whole-number-requires-2 c κs = search needs
-
-enum-known-second : tie.Need-enum-known-second
-enum-known-second c = search needs
-
-enum-told-2 : tie.Need-enum-told-2
-enum-told-2 c = search needs
 
 returns-2 : tie.Need-returns-2
 returns-2 c = rw (← said wholeSays (c .before .before .before .before .first .given .1) (c .before .before .before .before .before .before .whole-number .ensures), ← said wholeSays (c .enum-told2 .given .1) (c .before .before .whole-number2 .ensures))
@@ -36,12 +18,5 @@ pub pair-of-spec : {M : Type 1} → statement M
 pair-of-spec =
     tie.close
     (tie.spec
-    whole-number-requires
-    enum-known-first
-    enum-told
-    returns
-    whole-number-requires-2
-    enum-known-second
-    enum-told-2
-    returns-2
-    returns-3)
+    (λ c κs. search needs) (λ c. search needs) (λ c. search needs) returns (λ c κs. search needs) (λ c. search needs)
+    (λ c. search needs) returns-2 returns-3)

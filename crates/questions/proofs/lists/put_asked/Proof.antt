@@ -1,5 +1,5 @@
 -- The reply, then the buffer. Assumes nothing.
-use Rattle.replay.proofs.Gathering.{then}
+use Rattle.output.proofs.Gathering.{then}
 use borrow.Author.Needs.{needs}
 use Rattle.questions.proofs.lists.put_asked.Statement.{statement}
 use Rattle.questions.proofs.lists.put_asked.Tie as tie

@@ -1,6 +1,6 @@
 -- The month, then both buffers. Assumes nothing.
 use lib.Dec.{lit<}
-use Rattle.replay.proofs.Gathering.{then}
+use Rattle.output.proofs.Gathering.{then}
 use borrow.Author.Needs.{needs}
 use Rattle.questions.proofs.months.put_asked.Statement.{statement}
 use Rattle.questions.proofs.months.put_asked.Tie as tie

@@ -1,5 +1,5 @@
 -- One after the other. Assumes nothing.
-use Rattle.replay.proofs.Gathering.{then}
+use Rattle.output.proofs.Gathering.{then}
 use Rattle.replies.specs.Replies.{replyWords}
 use borrow.Author.Needs.{needs}
 use Rattle.questions.proofs.months.put_days.Statement.{statement}

@@ -1,7 +1,7 @@
 -- `rules::lists::put_before` meets its contract. Assumes nothing.
 use borrow.Author.Needs.{needs}
 use borrow.Author.Tests.{lt-leb, le-leb}
-use Rattle.rules.specs.Store.{storePairs}
+use Rattle.rules.specs.Inner.{storePairs}
 use Rattle.rules.proofs.lists.put_before.Statement.{statement}
 use Rattle.rules.proofs.lists.put_before.Tie as tie
 

@@ -8,7 +8,7 @@ use lib.ListN.{length}
 use Rattle.rules.specs.Rules.{rulesFrom}
 use Rattle.rules.specs.Festivals.{picked}
 use Rattle.rules.specs.Resolved.{falls}
-use Rattle.rules.specs.Store.{storePairs}
+use Rattle.rules.specs.Inner.{storePairs}
 use Rattle.rules.proofs.Walk.{left-none}
 use Rattle.rules.proofs.Stores.{turn-picked, none-picked}
 use Rattle.rules.proofs.lists.put_dated.Statement.{statement}
@@ -33,8 +33,8 @@ rule-at-requires c κs = search needs
 falls-on-requires : tie.Need-falls-on-requires Inv-loop μ-loop
 falls-on-requires c κs = search needs
 
-push-requires : tie.Need-push-requires Inv-loop μ-loop
-push-requires c κs = search needs
+keep-pair-requires : tie.Need-keep-pair-requires Inv-loop μ-loop
+keep-pair-requires c κs = search needs
 
 add-i : tie.Need-add-i Inv-loop μ-loop
 add-i c = search needs
@@ -49,9 +49,9 @@ loop-again c =
     let l = g .before .before .loop in
     let a = g .before .before .before .before .before .args in (
       omega arith,
-      p .push .kept .0 ∙ l .inv .1,
-      omega (arith, p .push .ensures .1, l .inv .2),
-      turn-picked (a .rules .now) (l .i) _ (g .before .loop-test .taken) _ (g .rule-at .ensures) (falls (a .k) (a .day)) (l .buf, l .t) _ _ _ (p .before .falls-on .ensures) (p .push .ensures .0) (l .inv .3),
+      p .keep-pair .kept .0 ∙ l .inv .1,
+      omega (arith, p .keep-pair .ensures .1, l .inv .2),
+      turn-picked (a .rules .now) (l .i) _ (g .before .loop-test .taken) _ (g .rule-at .ensures) (falls (a .k) (a .day)) (l .buf, l .t) _ _ _ (p .before .falls-on .ensures) (p .keep-pair .ensures .0) (l .inv .3),
     )
 
 same-length : tie.Need-same-length Inv-loop μ-loop
@@ -73,7 +73,7 @@ put-dated-spec =
     loop-holds
     rule-at-requires
     falls-on-requires
-    push-requires
+    keep-pair-requires
     add-i
     loop-less
     loop-again

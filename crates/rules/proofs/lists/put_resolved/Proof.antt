@@ -7,7 +7,7 @@ use native.Mathlib.Omega.{arith}
 use lib.ListN.{length}
 use Rattle.rules.specs.Rules.{rulesFrom, rulesOf, countKind}
 use Rattle.rules.specs.Resolved.{used}
-use Rattle.rules.specs.Store.{storePairs}
+use Rattle.rules.specs.Inner.{storePairs}
 use Rattle.rules.proofs.Walk.{left-none, count-turn, count-skip}
 use Rattle.rules.proofs.Stores.{skip-used, turn-used, none-used}
 use Rattle.rules.proofs.lists.put_resolved.Statement.{statement}
@@ -75,8 +75,8 @@ add-j c = search needs
 shows-on-requires : tie.Need-shows-on-requires Inv-loop μ-loop
 shows-on-requires c κs = search needs
 
-push-requires : tie.Need-push-requires Inv-loop μ-loop
-push-requires c κs = search needs
+keep-pair-requires : tie.Need-keep-pair-requires Inv-loop μ-loop
+keep-pair-requires c κs = search needs
 
 loop-less-2 : tie.Need-loop-less-2 Inv-loop μ-loop
 loop-less-2 c = search needs
@@ -93,10 +93,10 @@ loop-again-2 c =
     let r = g .rule-at .result in
     let er = g .rule-at .ensures in (
       omega arith,
-      p .push .kept .0 ∙ l .inv .1,
-      omega (arith, p .push .ensures .1, l .inv .2),
+      p .keep-pair .kept .0 ∙ l .inv .1,
+      omega (arith, p .keep-pair .ensures .1, l .inv .2),
       count-turn xs (l .i) _ h r er 3 (l .j) _ (l .inv .3) (f .if1 .left),
-      turn-used xs (l .i) _ h r er (rulesOf xs) (a .year) _ (a .n) (l .j) (l .buf, l .t) _ (f .if1 .left) _ _ (p .before .shows-on .ensures) (p .push .ensures .0) (l .inv .4),
+      turn-used xs (l .i) _ h r er (rulesOf xs) (a .year) _ (a .n) (l .j) (l .buf, l .t) _ (f .if1 .left) _ _ (p .before .shows-on .ensures) (p .keep-pair .ensures .0) (l .inv .4),
     )
 
 same-length : tie.Need-same-length Inv-loop μ-loop
@@ -124,7 +124,7 @@ put-resolved-spec =
     element-copy-out-k
     add-j
     shows-on-requires
-    push-requires
+    keep-pair-requires
     loop-less-2
     loop-again-2
     same-length

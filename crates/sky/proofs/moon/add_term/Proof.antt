@@ -11,14 +11,14 @@ use Rattle.sky.proofs.moon.add_term.Tie as tie
 returns : tie.Need-returns
 returns c =
     let s = c .before .before .before .args in
-    let f : SFits w32 (s .x .coeff) = record { sfits = c .before .struct-told .given .1 .1 .1 .1 .0 .1 } in
-    term-none (s .e) (s .x) (s .sine) (s .sum) (is w32 (s .x .coeff) f 0 (c .if1 .taken))
+    let f : SFits w32 (s .x .coefficient) = record { sfits = c .before .struct-told .given .1 .1 .1 .1 .0 .1 } in
+    term-none (s .factor) (s .x) (s .sine) (s .sum) (is w32 (s .x .coefficient) f 0 (c .if1 .taken))
 
 as-float-requires : tie.Need-as-float-requires
 as-float-requires c κs = search needs
 
-ecc-power-requires : tie.Need-ecc-power-requires
-ecc-power-requires c κs = search needs
+factor-power-requires : tie.Need-factor-power-requires
+factor-power-requires c κs = search needs
 
 returns-2 : tie.Need-returns-2
 returns-2 c =
@@ -27,8 +27,8 @@ returns-2 c =
     let told = test .before in
     let s = told .before .before .args in
     let g = told .struct-told .given in
-    term-is (s .e) (s .x) (s .sine) (s .sum) (record { sfits = g .1 .0 .1 }) (record { sfits = g .1 .1 .1 .1 .0 .1 }) (is-not w32 (s .x .coeff) (pos 0) (test .if1 .left))
-    (w .as-float .ensures) (c .ecc-power .ensures)
+    term-is (s .factor) (s .x) (s .sine) (s .sum) (record { sfits = g .1 .0 .1 }) (record { sfits = g .1 .1 .1 .1 .0 .1 }) (is-not w32 (s .x .coefficient) (pos 0) (test .if1 .left))
+    (w .as-float .ensures) (c .factor-power .ensures)
 
 pub add-term-spec : {M : Type 1} → statement M
-add-term-spec = tie.close (tie.spec returns as-float-requires ecc-power-requires returns-2)
+add-term-spec = tie.close (tie.spec returns as-float-requires factor-power-requires returns-2)

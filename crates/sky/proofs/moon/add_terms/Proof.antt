@@ -6,16 +6,16 @@ use lib.Ieee.{nan, ofBits}
 use lib.ListN.{getD}
 use borrow.Author.Needs.{needs}
 use Rattle.paper.specs.Floats.{near}
-use Rattle.sky.specs.Moon.{added}
+use Rattle.sky.specs.Inner.{added}
 use Rattle.sky.proofs.Series.{row-more}
 use Rattle.sky.proofs.moon.add_terms.Statement.{statement}
 use Rattle.sky.proofs.moon.add_terms.Tie as tie
 
 abbrev Inv-loop : tie.InvT-loop
-Inv-loop terms e sines sum₀ i₀ sum i = (i ≤ 60) × (sum ≡ added terms e (λ k. getD sines k nan) i)
+Inv-loop terms factor sines sum₀ i₀ sum i = (i ≤ 60) × (sum ≡ added terms factor (λ k. getD sines k nan) i)
 
 abbrev μ-loop : tie.MeasureT-loop
-μ-loop terms e sines sum₀ i₀ sum i = 60 - i
+μ-loop terms factor sines sum₀ i₀ sum i = 60 - i
 
 loop-holds : tie.Need-loop-holds Inv-loop μ-loop
 unfolding added near ofBits
@@ -44,7 +44,7 @@ loop-again c =
     let t = c .before .before in
     let l = t .before .before in
     let a = l .before .args in
-    (omega arith, row-more (a .terms .now) (a .e) (λ k. getD (a .sines .now) k nan) (l .loop .i) (l .loop .inv .1) (t .term-at .ensures) refl (c .add-term .ensures))
+    (omega arith, row-more (a .terms .now) (a .factor) (λ k. getD (a .sines .now) k nan) (l .loop .i) (l .loop .inv .1) (t .term-at .ensures) refl (c .add-term .ensures))
 
 returns : tie.Need-returns Inv-loop μ-loop
 returns c =

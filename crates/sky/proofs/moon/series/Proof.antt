@@ -2,8 +2,7 @@
 use mathlib.Core.Path.{ap, _∙_}
 use borrow.Author.Needs.{needs}
 use Rattle.trig.specs.Trig.{sine}
-use Rattle.sky.specs.Moon.{series}
-use Rattle.sky.proofs.Series.{added-same}
+use Rattle.sky.proofs.Series.{passes}
 use Rattle.sky.proofs.moon.series.Statement.{statement}
 use Rattle.sky.proofs.moon.series.Tie as tie
 
@@ -17,11 +16,10 @@ add-terms-requires : tie.Need-add-terms-requires
 add-terms-requires c κs = search needs
 
 returns : tie.Need-returns
-unfolding series
 returns c =
     let turned = c .before .before .put-sines .ensures .1 in
     let placed = c .before .before .before .before .put-angles .ensures .1 in
-    c .add-terms .ensures ∙ added-same _ _ _ _ 60 (λ i h. turned i h ∙ ap sine (placed i h))
+    c .add-terms .ensures ∙ passes _ _ _ 60 (λ i h. turned i h ∙ ap sine (placed i h))
 
 pub series-spec : {M : Type 1} → statement M
 series-spec =

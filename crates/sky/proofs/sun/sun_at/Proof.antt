@@ -9,8 +9,8 @@ mean-longitude-requires c κs = search needs
 anomaly-requires : tie.Need-anomaly-requires
 anomaly-requires c κs = search needs
 
-center-requires : tie.Need-center-requires
-center-requires c κs = search needs
+true-longitude-requires : tie.Need-true-longitude-requires
+true-longitude-requires c κs = search needs
 
 norm360-requires : tie.Need-norm360-requires
 norm360-requires c κs = search needs
@@ -20,4 +20,4 @@ unfolding sunLongitude
 returns c = cc
 
 pub sun-at-spec : {M : Type 1} → statement M
-sun-at-spec = tie.close (tie.spec mean-longitude-requires anomaly-requires center-requires norm360-requires returns)
+sun-at-spec = tie.close (tie.spec mean-longitude-requires anomaly-requires true-longitude-requires norm360-requires returns)

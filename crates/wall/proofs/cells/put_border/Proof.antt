@@ -5,18 +5,9 @@ use borrow.Author.Needs.{needs}
 use Rattle.wall.proofs.cells.put_border.Statement.{statement}
 use Rattle.wall.proofs.cells.put_border.Tie as tie
 
-slice-aggregate-put : tie.Need-slice-aggregate-put
-slice-aggregate-put c = search needs
-
-put-requires : tie.Need-put-requires
-put-requires c κs = search needs
-
-same-length : tie.Need-same-length
-same-length c = search needs
-
 returns : tie.Need-returns
 unfolding border repeated
 returns c = c .before .before .put .ensures
 
 pub put-border-spec : {M : Type 1} → statement M
-put-border-spec = tie.close (tie.spec slice-aggregate-put put-requires same-length returns)
+put-border-spec = tie.close (tie.spec (λ c. search needs) (λ c κs. search needs) (λ c. search needs) returns)

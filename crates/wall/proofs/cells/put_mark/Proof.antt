@@ -5,21 +5,9 @@ use borrow.Author.Needs.{needs}
 use Rattle.wall.proofs.cells.put_mark.Statement.{statement}
 use Rattle.wall.proofs.cells.put_mark.Tie as tie
 
-put-requires : tie.Need-put-requires
-put-requires c κs = search needs
-
-same-length : tie.Need-same-length
-same-length c = search needs
-
 returns : tie.Need-returns
 unfolding marked
 returns c = rw (eq-eqb (c .before .before .before .before .before .before .before .before .args .n) 0 (c .before .before .before .before .if1 .taken)) (c .before .before .put .ensures)
-
-put-requires-2 : tie.Need-put-requires-2
-put-requires-2 c κs = search needs
-
-same-length-2 : tie.Need-same-length-2
-same-length-2 c = search needs
 
 returns-2 : tie.Need-returns-2
 unfolding marked
@@ -27,4 +15,6 @@ returns-2 c = rw (ne-eqb (c .before .before .before .before .before .before .bef
 
 pub put-mark-spec : {M : Type 1} → statement M
 put-mark-spec =
-    tie.close (tie.spec put-requires same-length returns put-requires-2 same-length-2 returns-2)
+    tie.close
+    (tie.spec
+    (λ c κs. search needs) (λ c. search needs) returns (λ c κs. search needs) (λ c. search needs) returns-2)

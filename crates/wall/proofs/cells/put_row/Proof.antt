@@ -1,10 +1,11 @@
 -- `wall::cells::put_row` meets its contract: the cells from the place reached are still to be written. Assumes nothing.
 use Prim.Native.Nat.{_+_, _≤_}
 use mathlib.Core.Path.{_≡_, refl, _∙_}
-use mathlib.Core.List.{[], _∷_, _++_}
+use mathlib.Core.List.{_++_}
 use native.Mathlib.Omega.{arith}
 use lib.ListN.{length}
 use Rattle.text.proofs.Writes.{then}
+use Rattle.text.specs.Quoted.{bytes}
 use Rattle.wall.specs.Columns.{repeated}
 use Rattle.wall.specs.Cells.{barred, row}
 use Rattle.wall.proofs.Going.{Going, written, repeated-then, repeated-end}
@@ -13,7 +14,7 @@ use Rattle.wall.proofs.cells.put_row.Statement.{statement}
 use Rattle.wall.proofs.cells.put_row.Tie as tie
 
 abbrev Inv-loop : tie.InvT-loop
-Inv-loop out₀ at k cells i next₀ j₀ left₀ t10 t11 out next j left = (length out ≡ length out₀) × (j + left ≤ i + 7) × Going out₀ at (row k cells i) out next (repeated (barred k cells) 1 j left ++ (124 ∷ 10 ∷ []))
+Inv-loop out₀ at k cells i next₀ j₀ left₀ t10 t11 out next j left = (length out ≡ length out₀) × (j + left ≤ i + 7) × Going out₀ at (row k cells i) out next (repeated (barred k cells) 1 j left ++ bytes "|\n")
 
 abbrev μ-loop : tie.MeasureT-loop
 μ-loop out₀ at k cells i next₀ j₀ left₀ t10 t11 out next j left = left
@@ -22,32 +23,8 @@ loop-holds : tie.Need-loop-holds Inv-loop μ-loop
 unfolding row
 loop-holds c = (refl, omega arith, λ after end w. w)
 
-slice-aggregate-put : tie.Need-slice-aggregate-put Inv-loop μ-loop
-slice-aggregate-put c = search needs
-
-put-requires : tie.Need-put-requires Inv-loop μ-loop
-put-requires c κs = search needs
-
-put-piece-requires : tie.Need-put-piece-requires Inv-loop μ-loop
-put-piece-requires c κs = search needs
-
-add-j : tie.Need-add-j Inv-loop μ-loop
-add-j c = search needs
-
-sub-left : tie.Need-sub-left Inv-loop μ-loop
-sub-left c = search needs
-
-loop-less : tie.Need-loop-less Inv-loop μ-loop
-loop-less c = search needs
-
 loop-again : tie.Need-loop-again Inv-loop μ-loop
-loop-again c = let l = c .before .before .before .before .before .before .before .before .before .before .loop in (c .before .before .put-piece .kept .0 ∙ c .before .before .before .before .before .before .put .kept .0 ∙ l .inv .0, omega arith, written (l .inv .2) (then (c .before .before .before .before .before .before .put .ensures) (c .before .before .put-piece .ensures)) _ (repeated-then (barred (c .before .before .before .before .before .before .before .before .before .before .before .before .before .args .k) (c .before .before .before .before .before .before .before .before .before .before .before .before .before .args .cells .now)) 1 (l .j) (l .left) (124 ∷ 10 ∷ []) (c .before .before .before .before .before .before .before .before .before .loop-test .taken)))
-
-slice-aggregate-put-2 : tie.Need-slice-aggregate-put-2 Inv-loop μ-loop
-slice-aggregate-put-2 c = search needs
-
-put-requires-2 : tie.Need-put-requires-2 Inv-loop μ-loop
-put-requires-2 c κs = search needs
+loop-again c = let l = c .before .before .before .before .before .before .before .before .before .before .loop in (c .before .before .put-piece .kept .0 ∙ c .before .before .before .before .before .before .put .kept .0 ∙ l .inv .0, omega arith, written (l .inv .2) (then (c .before .before .before .before .before .before .put .ensures) (c .before .before .put-piece .ensures)) _ (repeated-then (barred (c .before .before .before .before .before .before .before .before .before .before .before .before .before .args .k) (c .before .before .before .before .before .before .before .before .before .before .before .before .before .args .cells .now)) 1 (l .j) (l .left) (bytes "|\n") (c .before .before .before .before .before .before .before .before .before .loop-test .taken)))
 
 same-length : tie.Need-same-length Inv-loop μ-loop
 same-length c = c .before .before .put2 .kept .0 ∙ c .before .before .before .before .before .before .loop .inv .0
@@ -59,17 +36,5 @@ pub put-row-spec : {M : Type 1} → statement M
 put-row-spec =
     tie.close
     (tie.spec
-    Inv-loop
-    μ-loop
-    loop-holds
-    slice-aggregate-put
-    put-requires
-    put-piece-requires
-    add-j
-    sub-left
-    loop-less
-    loop-again
-    slice-aggregate-put-2
-    put-requires-2
-    same-length
-    returns)
+    Inv-loop μ-loop loop-holds (λ c. search needs) (λ c κs. search needs) (λ c κs. search needs) (λ c. search needs)
+    (λ c. search needs) (λ c. search needs) loop-again (λ c. search needs) (λ c κs. search needs) same-length returns)

@@ -6,27 +6,9 @@ use borrow.Author.Needs.{needs}
 use Rattle.wall.proofs.columns.put_two.Statement.{statement}
 use Rattle.wall.proofs.columns.put_two.Tie as tie
 
-slice-aggregate-put : tie.Need-slice-aggregate-put
-slice-aggregate-put c = search needs
-
-put-requires : tie.Need-put-requires
-put-requires c κs = search needs
-
-put-wide-requires : tie.Need-put-wide-requires
-put-wide-requires c κs = search needs
-
-same-length : tie.Need-same-length
-same-length c = search needs
-
 returns : tie.Need-returns
 unfolding two
 returns c = rw (lt-ltb (c .before .before .before .before .before .before .before .before .before .before .before .args .n) 10 (c .before .before .before .before .before .before .before .before .before .if1 .taken)) (then (c .before .before .before .before .before .before .put .ensures) (c .before .before .put-wide .ensures))
-
-put-wide-requires-2 : tie.Need-put-wide-requires-2
-put-wide-requires-2 c κs = search needs
-
-same-length-2 : tie.Need-same-length-2
-same-length-2 c = search needs
 
 returns-2 : tie.Need-returns-2
 unfolding two
@@ -36,11 +18,5 @@ pub put-two-spec : {M : Type 1} → statement M
 put-two-spec =
     tie.close
     (tie.spec
-    slice-aggregate-put
-    put-requires
-    put-wide-requires
-    same-length
-    returns
-    put-wide-requires-2
-    same-length-2
-    returns-2)
+    (λ c. search needs) (λ c κs. search needs) (λ c κs. search needs) (λ c. search needs) returns (λ c κs. search needs)
+    (λ c. search needs) returns-2)

@@ -6,36 +6,9 @@ use borrow.Author.Needs.{needs}
 use Rattle.wall.proofs.day.put_end.Statement.{statement}
 use Rattle.wall.proofs.day.put_end.Tie as tie
 
-slice-aggregate-put : tie.Need-slice-aggregate-put
-slice-aggregate-put c = search needs
-
-put-requires : tie.Need-put-requires
-put-requires c κs = search needs
-
-put-clock-requires : tie.Need-put-clock-requires
-put-clock-requires c κs = search needs
-
-slice-aggregate-put-2 : tie.Need-slice-aggregate-put-2
-slice-aggregate-put-2 c = search needs
-
-put-requires-2 : tie.Need-put-requires-2
-put-requires-2 c κs = search needs
-
-same-length : tie.Need-same-length
-same-length c = search needs
-
 returns : tie.Need-returns
 unfolding endText
 returns c = rw (lt-ltb (c .before .before .before .before .before .before .before .before .before .before .before .before .before .before .before .before .args .end) 1440 (c .before .before .before .before .before .before .before .before .before .before .before .before .before .before .if1 .taken)) (then (c .before .before .before .before .before .before .before .before .before .before .before .put .ensures) (then (c .before .before .before .before .before .before .before .put-clock .ensures) (c .before .before .put2 .ensures)))
-
-slice-aggregate-put-3 : tie.Need-slice-aggregate-put-3
-slice-aggregate-put-3 c = search needs
-
-put-requires-3 : tie.Need-put-requires-3
-put-requires-3 c κs = search needs
-
-same-length-2 : tie.Need-same-length-2
-same-length-2 c = search needs
 
 returns-2 : tie.Need-returns-2
 unfolding endText
@@ -45,14 +18,5 @@ pub put-end-spec : {M : Type 1} → statement M
 put-end-spec =
     tie.close
     (tie.spec
-    slice-aggregate-put
-    put-requires
-    put-clock-requires
-    slice-aggregate-put-2
-    put-requires-2
-    same-length
-    returns
-    slice-aggregate-put-3
-    put-requires-3
-    same-length-2
-    returns-2)
+    (λ c. search needs) (λ c κs. search needs) (λ c κs. search needs) (λ c. search needs) (λ c κs. search needs)
+    (λ c. search needs) returns (λ c. search needs) (λ c κs. search needs) (λ c. search needs) returns-2)

@@ -19,18 +19,6 @@ abbrev μ-loop : tie.MeasureT-loop
 loop-holds : tie.Need-loop-holds Inv-loop μ-loop
 loop-holds c = (refl, search needs, λ after end w. w)
 
-put-festivals-on-requires : tie.Need-put-festivals-on-requires Inv-loop μ-loop
-put-festivals-on-requires c κs = search needs
-
-add-i : tie.Need-add-i Inv-loop μ-loop
-add-i c = search needs
-
-sub-left : tie.Need-sub-left Inv-loop μ-loop
-sub-left c = search needs
-
-loop-less : tie.Need-loop-less Inv-loop μ-loop
-loop-less c = search needs
-
 loop-again : tie.Need-loop-again Inv-loop μ-loop
 loop-again c = let a = c .before .before .before .before .before .before .before .before .before .before .before .args in let l = c .before .before .before .before .before .loop in (c .before .before .put-festivals-on .kept .0 ∙ l .inv .0, omega arith, written (l .inv .2) (c .before .before .put-festivals-on .ensures) _ (repeated-turn (festivalsOn (a .rules .now) (a .names .now) (a .cells .now) (a .festivals .now)) 1 (l .i) (l .left) (c .before .before .before .before .loop-test .taken)))
 
@@ -44,13 +32,5 @@ pub put-festivals-spec : {M : Type 1} → statement M
 put-festivals-spec =
     tie.close
     (tie.spec
-    Inv-loop
-    μ-loop
-    loop-holds
-    put-festivals-on-requires
-    add-i
-    sub-left
-    loop-less
-    loop-again
-    same-length
-    returns)
+    Inv-loop μ-loop loop-holds (λ c κs. search needs) (λ c. search needs) (λ c. search needs) (λ c. search needs) loop-again
+    same-length returns)

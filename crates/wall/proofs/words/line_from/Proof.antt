@@ -17,15 +17,6 @@ abbrev μ-loop : tie.MeasureT-loop
 loop-holds : tie.Need-loop-holds Inv-loop μ-loop
 loop-holds c = refl
 
-next-line-requires : tie.Need-next-line-requires Inv-loop μ-loop
-next-line-requires c κs = search needs
-
-sub-left : tie.Need-sub-left Inv-loop μ-loop
-sub-left c = search needs
-
-loop-less : tie.Need-loop-less Inv-loop μ-loop
-loop-less c = search needs
-
 loop-again : tie.Need-loop-again Inv-loop μ-loop
 loop-again c = let l = c .before .before .loop in ap (lineFrom (l .left - 1)) (c .next-line .ensures) ∙ line-turn (l .left) (drop (l .at) (c .before .before .before .before .args .s .now)) (c .before .loop-test .taken) ∙ l .inv
 
@@ -35,4 +26,5 @@ returns c = let l = c .before .loop in line-here (l .left) (drop (l .at) (c .bef
 pub line-from-spec : {M : Type 1} → statement M
 line-from-spec =
     tie.close
-    (tie.spec Inv-loop μ-loop loop-holds next-line-requires sub-left loop-less loop-again returns)
+    (tie.spec
+    Inv-loop μ-loop loop-holds (λ c κs. search needs) (λ c. search needs) (λ c. search needs) loop-again returns)

@@ -23,29 +23,11 @@ same-length c = c .before .before .loop .inv .0
 returns : tie.Need-returns Inv-loop μ-loop
 returns c = let l = c .before .before .loop in stopped (l .inv .1) (up-over (c .before .before .before .before .before .args .stop) (c .before .before .before .before .before .args .s .now) (l .i) (l .left) (c .if1 .taken))
 
-shared-slice-read-x : tie.Need-shared-slice-read-x Inv-loop μ-loop
-shared-slice-read-x c = search needs
-
 same-length-2 : tie.Need-same-length-2 Inv-loop μ-loop
 same-length-2 c = c .before .before .before .before .loop .inv .0
 
 returns-2 : tie.Need-returns-2 Inv-loop μ-loop
 returns-2 c = let l = c .before .before .before .before .loop in stopped (l .inv .1) (up-stopped (c .before .before .before .before .before .before .before .args .stop) (c .before .before .before .before .before .before .before .args .s .now) (l .i) (l .left) (c .before .before .if1 .left) (c .if2 .taken))
-
-slice-aggregate-put : tie.Need-slice-aggregate-put Inv-loop μ-loop
-slice-aggregate-put c = search needs
-
-put-requires : tie.Need-put-requires Inv-loop μ-loop
-put-requires c κs = search needs
-
-add-i : tie.Need-add-i Inv-loop μ-loop
-add-i c = search needs
-
-sub-left : tie.Need-sub-left Inv-loop μ-loop
-sub-left c = search needs
-
-loop-less : tie.Need-loop-less Inv-loop μ-loop
-loop-less c = search needs
 
 loop-again : tie.Need-loop-again Inv-loop μ-loop
 loop-again c = let l = c .before .before .before .before .before .before .before .before .before .loop in (c .before .before .put .kept .0 ∙ l .inv .0, written (l .inv .1) (c .before .before .put .ensures) _ (up-turn (c .before .before .before .before .before .before .before .before .before .before .before .before .args .stop) (c .before .before .before .before .before .before .before .before .before .before .before .before .args .s .now) (l .i) (l .left) (c .before .before .before .before .before .before .before .before .loop-test .taken) (c .before .before .before .before .before .before .before .if1 .left) (c .before .before .before .before .before .if2 .left)))
@@ -60,19 +42,5 @@ pub put-up-to-spec : {M : Type 1} → statement M
 put-up-to-spec =
     tie.close
     (tie.spec
-    Inv-loop
-    μ-loop
-    loop-holds
-    same-length
-    returns
-    shared-slice-read-x
-    same-length-2
-    returns-2
-    slice-aggregate-put
-    put-requires
-    add-i
-    sub-left
-    loop-less
-    loop-again
-    same-length-3
-    returns-3)
+    Inv-loop μ-loop loop-holds same-length returns (λ c. search needs) same-length-2 returns-2 (λ c. search needs)
+    (λ c κs. search needs) (λ c. search needs) (λ c. search needs) (λ c. search needs) loop-again same-length-3 returns-3)

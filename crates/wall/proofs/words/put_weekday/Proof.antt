@@ -4,19 +4,9 @@ use borrow.Author.Needs.{needs}
 use Rattle.wall.proofs.words.put_weekday.Statement.{statement}
 use Rattle.wall.proofs.words.put_weekday.Tie as tie
 
-slice-aggregate-put-word : tie.Need-slice-aggregate-put-word
-slice-aggregate-put-word c = search needs
-
-put-word-requires : tie.Need-put-word-requires
-put-word-requires c κs = search needs
-
-same-length : tie.Need-same-length
-same-length c = search needs
-
 returns : tie.Need-returns
 unfolding weekdays
 returns c = c .before .before .put-word .ensures
 
 pub put-weekday-spec : {M : Type 1} → statement M
-put-weekday-spec =
-    tie.close (tie.spec slice-aggregate-put-word put-word-requires same-length returns)
+put-weekday-spec = tie.close (tie.spec (λ c. search needs) (λ c κs. search needs) (λ c. search needs) returns)

@@ -4,18 +4,9 @@ use borrow.Author.Needs.{needs}
 use Rattle.wall.proofs.words.put_word.Statement.{statement}
 use Rattle.wall.proofs.words.put_word.Tie as tie
 
-line-from-requires : tie.Need-line-from-requires
-line-from-requires c κs = search needs
-
-put-up-to-requires : tie.Need-put-up-to-requires
-put-up-to-requires c κs = search needs
-
-same-length : tie.Need-same-length
-same-length c = search needs
-
 returns : tie.Need-returns
 unfolding word
 returns c = rw (← c .before .before .before .line-from .ensures) (c .before .before .put-up-to .ensures)
 
 pub put-word-spec : {M : Type 1} → statement M
-put-word-spec = tie.close (tie.spec line-from-requires put-up-to-requires same-length returns)
+put-word-spec = tie.close (tie.spec (λ c κs. search needs) (λ c κs. search needs) (λ c. search needs) returns)

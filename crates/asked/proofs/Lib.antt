@@ -1,0 +1,3 @@
+pub mod Splits
+pub mod Patterns
+pub mod Turns

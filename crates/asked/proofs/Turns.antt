@@ -1,0 +1,61 @@
+-- The turn of a line, or the end. Assumes nothing.
+use Prim.Native.Nat.{ℕ, _≤_, _<_}
+use mathlib.Core.Path.{_≡_, ap}
+use mathlib.Core.Bool.{Bool, true, false, cond, _||_}
+use mathlib.Core.List.{List}
+use native.Mathlib.Omega.{arith}
+use borrow.Author.Tests.{eq-eqb, ne-eqb}
+use lib.Dec.{eqb}
+use Rattle.lines.specs.declared.Input.{Input}
+use Rattle.lines.specs.Lines.{NextLine}
+use Rattle.output.specs.declared.Out.{Out}
+use Rattle.asked.specs.declared.input.Turn.{Turn}
+use Rattle.output.specs.Gathered.{Gathered, gathered}
+use Rattle.asked.specs.Turns.{noTurn, turnOf, TurnAfter}
+
+-- what was gathered, once it is written out
+written : (at : ℕ) (begun failed b : Bool) → at ≡ 0 → begun ≡ b → _≡_ {A = Out} (record { at = at; begun = begun; failed = failed }) (record { at = 0; begun = b; failed = failed })
+written at begun failed b p q = rw (p, q)
+
+module _ (input : Input) (o : Out) {r : Turn} where
+  -- after a write that failed
+  pub turn-failed : (x : Out) → o .failed ≡ true → x .at ≡ 0 → x .begun ≡ o .begun → r ≡ noTurn x → r ≡ turnOf input o (r .out .failed)
+  turn-failed x f p q h = rw (h, f) (ap noTurn (written (x .at) (x .begun) (x .failed) (o .begun) p q))
+
+  -- at the end of the input
+  pub turn-over : (x : Out) → o .failed ≡ false → input .left ≡ 0 → x .at ≡ 0 → x .begun ≡ o .begun → r ≡ noTurn x → r ≡ turnOf input o (r .out .failed)
+  turn-over x f z p q h = rw (h, f, eq-eqb (input .left) 0 z) (ap noTurn (written (x .at) (x .begun) (x .failed) (o .begun) p q))
+
+-- at a line
+pub turn-line : (input : Input) (o : Out) (failed : Bool) → o .failed ≡ false → (input .left ≡ 0 → ⊥)
+    → record { left = input .left; len = input .len; from = input .from; to = input .to; out = o } ≡ turnOf input o failed
+turn-line input o failed f n = rw (f, ne-eqb (input .left) 0 n)
+
+-- a turn is no more than the input has
+turn-left : (input : Input) (o : Out) (failed : Bool) {r : Turn} → r ≡ turnOf input o failed → r .left ≤ input .left
+turn-left input o failed {r} e = go (o .failed || eqb (input .left) 0) e
+  where
+    go : (f : Bool) → r ≡ cond f (noTurn (record { at = 0; begun = o .begun; failed = failed })) (record { left = input .left; len = input .len; from = input .from; to = input .to; out = o })
+        → r .left ≤ input .left
+    go true h = omega (arith, ap (λ (x : Turn). x .left) h)
+    go false h = omega (arith, ap (λ (x : Turn). x .left) h)
+
+-- the turn after a line was read and what was answered is gathered
+pub turn-after : {before input : Input} {piece line piece' line' : List ℕ} (out : List ℕ) {g : Gathered} (o : Out) {r : Turn} → NextLine before piece line piece' line' input → gathered out o ≡ g
+    → r ≡ turnOf input o (r .out .failed) → TurnAfter before piece line piece' line' out g r
+turn-after {input = input} out o {r} n g e =
+    record { input = input; read = n; answered = o; gathers = g; turn = e; fewer = omega (arith, n .fewer, turn-left input o (r .out .failed) e) }
+
+module _ {before : Input} {piece line piece' line' out : List ℕ} {g : Gathered} {r : Turn} (t : TurnAfter before piece line piece' line' out g r) where
+  -- the lent buffer holds what is gathered
+  pub turn-buffer : out ≡ g .buffer
+  turn-buffer = ap (λ (x : Gathered). x .buffer) (t .gathers)
+
+  -- and while there are turns nothing of it is lost
+  pub turn-goes : 0 < r .left → gathered out (r .out) ≡ g
+  turn-goes h = go (t .answered .failed || eqb (t .input .left) 0) (t .turn)
+    where
+      go : (f : Bool) → r ≡ cond f (noTurn (record { at = 0; begun = t .answered .begun; failed = r .out .failed }))
+          (record { left = t .input .left; len = t .input .len; from = t .input .from; to = t .input .to; out = t .answered }) → gathered out (r .out) ≡ g
+      go true e = absurd (let z : r .left ≡ 0 = ap (λ (x : Turn). x .left) e in let bad : ⊥ = omega arith in bad)
+      go false e = rw (ap (λ (x : Turn). x .out) e) (t .gathers)

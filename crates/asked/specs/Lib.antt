@@ -1,0 +1,4 @@
+-- What the contracts of `asked` are written in.
+pub mod Line
+pub mod Turns
+pub mod Tags

@@ -1,0 +1,36 @@
+-- The turns of a program that answers each line of standard input. What the input holds, and whether a write fails, is any. Assumes nothing.
+use Prim.Native.Nat.{ℕ, _-_, _≤_}
+use mathlib.Core.Path.{_≡_}
+use mathlib.Core.Bool.{Bool, false, cond, _||_}
+use mathlib.Core.List.{List}
+use lib.Dec.{eqb}
+use Rattle.lines.specs.declared.Input.{Input}
+use Rattle.lines.specs.Lines.{NextLine}
+use Rattle.output.specs.declared.Out.{Out}
+use Rattle.asked.specs.declared.input.Turn.{Turn}
+use Rattle.output.specs.Gathered.{Gathered, gathered}
+
+-- the input as a turn left it
+abbrev pub inputOf : Turn → Input
+inputOf t = record { left = t .left; len = t .len; long = false; failed = false; from = t .from; to = t .to }
+
+-- no turn any more
+abbrev pub noTurn : Out → Turn
+noTurn o = record { left = 0; len = 0; from = 0; to = 0; out = o }
+
+-- the turn of a line; where there is none, or a write failed, the end, and all that was gathered is written out
+abbrev pub turnOf : Input → Out → Bool → Turn
+turnOf input o failed =
+    cond (o .failed || eqb (input .left) 0) (noTurn (record { at = 0; begun = o .begun; failed = failed }))
+    (record { left = input .left; len = input .len; from = input .from; to = input .to; out = o })
+
+-- the turn after an input stood so, with so much gathered
+pub record TurnAfter (before : Input) (piece line piece' line' out : List ℕ) (g : Gathered) (r : Turn) : Type 0 where
+  -- how the input stands at its next line
+  pub input : Input
+  pub read : NextLine before piece line piece' line' input
+  -- what was answered so far, and whether it could be written
+  pub answered : Out
+  pub gathers : gathered out answered ≡ g
+  pub turn : r ≡ turnOf input answered (r .out .failed)
+  pub fewer : r .left ≤ before .left - 1

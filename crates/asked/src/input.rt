@@ -1,0 +1,85 @@
+// Standard input, a line at a time, and the turns of a program that answers each line.
+ghost use mathlib.Core.Path.{_≡_};
+ghost use mathlib.Core.Bool.{false};
+ghost use Rattle.lines.specs.Lines.{started};
+ghost use Rattle.output.specs.Gathered as Gathered;
+ghost use Rattle.output.specs.Gathered.{gathered};
+ghost use Rattle.asked.specs.Turns.{noTurn, turnOf, inputOf, TurnAfter};
+use libc::STDERR_FILENO;
+use libc::STDIN_FILENO;
+use lines::Input;
+use output::Out;
+
+// A turn of a program: how many are left, 0 at the end, the length of the line to be answered, and what was answered so far. A line that was too
+// long for its buffer has length 0, since no program serves either; a read that fails ends the input. The turns are counted down from a number that
+// no run uses up.
+pub struct Turn {
+    pub left: u64,
+    pub len: usize,
+    pub from: usize,
+    pub to: usize,
+    pub out: Out,
+}
+
+// The end of the turns. An input that could not be read to its end is told on standard error.
+fn ended(unread: bool, o: Out) -> Turn
+    ensures { λ r. ⌜ r ≡ noTurn o ⌝ }
+{
+    if unread {
+        io::write_all(STDERR_FILENO, b"standard input cannot be read to its end\n");
+    }
+    Turn {
+        left: 0,
+        len: 0,
+        from: 0,
+        to: 0,
+        out: o,
+    }
+}
+
+// The turn of a line, or the end: what was answered is written out then. A write that failed is the end too.
+fn turn_of(input: Input, o: Out, out: &[u8]) -> Turn
+    ensures { λ r. ⌜ r ≡ turnOf input o (r .out .failed) ⌝ }
+{
+    if o.failed {
+        return ended(false, o.finish(out));
+    }
+    if input.left == 0 {
+        return ended(input.failed, o.finish(out));
+    }
+    Turn {
+        left: input.left,
+        len: input.len,
+        from: input.from,
+        to: input.to,
+        out: o,
+    }
+}
+
+// The turn of the first line.
+pub fn first_turn(piece: &mut [u8], line: &mut [u8], out: &[u8]) -> Turn
+    ensures { λ r. ⌜ TurnAfter (started 18446744073709551615) (now (piece .entry)) (now (line .entry)) (now (piece .exit)) (now (line .exit)) (now (out .entry)) (record { buffer = now (out .entry); at = 0; begun = false }) r ⌝ }
+{
+    let input = lines::next_line(STDIN_FILENO, lines::start(u64::MAX), piece, line);
+    turn_of(input, output::empty(), out)
+}
+
+// The turn of the next line, after this one was answered.
+pub fn next_turn(t: Turn, o: Out, piece: &mut [u8], line: &mut [u8], out: &mut [u8]) -> Turn
+    ensures { λ r. ⌜ TurnAfter (inputOf t) (now (piece .entry)) (now (line .entry)) (now (piece .exit)) (now (line .exit)) (now (out .exit)) (Gathered.ended (gathered (now (out .entry)) o)) r ⌝ }
+{
+    let input = Input {
+        left: t.left,
+        len: t.len,
+        long: false,
+        failed: false,
+        from: t.from,
+        to: t.to,
+    };
+    let answered = o.end(out);
+    turn_of(
+        lines::next_line(STDIN_FILENO, input, piece, line),
+        answered,
+        out,
+    )
+}

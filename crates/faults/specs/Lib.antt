@@ -1,2 +1,0 @@
--- What the contracts of `faults` are written in.
-pub mod Faults

@@ -1,0 +1,160 @@
+-- `festivals::months::months_of` meets its contract. The invariant: what is left to place comes to the same. Assumes nothing.
+use borrow.Author.Needs.{needs}
+use mathlib.Core.Path.{_≡_, refl, sym, ap, _∙_}
+use Prim.Native.Nat.{_-_, _≤_}
+use native.Mathlib.Omega.{arith}
+use lib.ListN.{length}
+use Rattle.paper.specs.Answers.{answered}
+use Rattle.conversion.specs.Calendar.{fromDay}
+use Rattle.conversion.specs.Flat.{flat}
+use Rattle.festivals.specs.declared.months.Months.{Months}
+use Rattle.festivals.specs.Kathmandu.{kathmandu}
+use Rattle.festivals.specs.Months.{put, place, monthAt}
+use Rattle.festivals.specs.Answers.{dayIs}
+use Rattle.festivals.proofs.Placed.{inside, outside, month-of}
+use Rattle.festivals.proofs.Moons.{Stands, stands-turn, place-nothing, place-outside, place-other, place-in, placed-none, placed-first}
+use Rattle.festivals.proofs.months.months_of.Statement.{statement}
+use Rattle.festivals.proofs.months.months_of.Tie as tie
+
+abbrev Inv-loop : tie.InvT-loop
+Inv-loop table rows year found n m₀ i₀ m i = Stands kathmandu (flat table rows) year found n m₀ m i
+
+abbrev μ-loop : tie.MeasureT-loop
+μ-loop table rows year found n m₀ i₀ m i = n - i
+
+loop-holds : tie.Need-loop-holds Inv-loop μ-loop
+loop-holds c = (omega arith, refl)
+
+mul-x : tie.Need-mul-x Inv-loop μ-loop
+mul-x c = search needs
+
+element-copy-out-x : tie.Need-element-copy-out-x Inv-loop μ-loop
+element-copy-out-x c = search needs
+
+add-i : tie.Need-add-i Inv-loop μ-loop
+add-i c = search needs
+
+nepal-day-requires : tie.Need-nepal-day-requires Inv-loop μ-loop
+nepal-day-requires c κs = search needs
+
+enum-known-k : tie.Need-enum-known-k Inv-loop μ-loop
+enum-known-k c = search needs
+
+enum-told : tie.Need-enum-told Inv-loop μ-loop
+enum-told c = search needs
+
+loop-less : tie.Need-loop-less Inv-loop μ-loop
+loop-less c = search needs
+
+-- the new moons are there
+fits : (d : tie.After-nepal-day Inv-loop μ-loop) → let a = d .before .before .before .before .before .args in a .n ≤ length (a .found .now)
+fits d = let o = d .before .before .before .before .before in omega (arith, o .pre .1, o .pre .2)
+
+loop-again : tie.Need-loop-again Inv-loop μ-loop
+loop-again c =
+    let d = c .before .before in
+    stands-turn _ _ _ _ _ _ _ _ _ (d .before .before .loop-test .taken) (fits d) (place-nothing _ _ _ _ _ (sym (ap dayIs (c .enum-told .given .1)) ∙ d .nepal-day .ensures)) (d .before .before .before .loop .inv)
+
+place-requires : tie.Need-place-requires Inv-loop μ-loop
+place-requires c κs = search needs
+
+enum-known-date : tie.Need-enum-known-date Inv-loop μ-loop
+enum-known-date c = search needs
+
+loop-less-2 : tie.Need-loop-less-2 Inv-loop μ-loop
+loop-less-2 c = search needs
+
+loop-again-2 : tie.Need-loop-again-2 Inv-loop μ-loop
+loop-again-2 c =
+    let p = c .before in
+    let n = p .before .before in
+    let d = n .before .before in
+    let o = d .before .before .before .before .before in
+    stands-turn _ _ _ _ _ _ _ _ _ (d .before .before .loop-test .taken) (fits d) (place-outside _ _ _ _ _ _ (sym (ap dayIs (n .k .given .1)) ∙ d .nepal-day .ensures) 7 (outside _ (o .pre .0) _ (p .place .result) (p .place .ensures) (c .match2 .keys2))) (d .before .before .before .loop .inv)
+
+loop-less-3 : tie.Need-loop-less-3 Inv-loop μ-loop
+loop-less-3 c = search needs
+
+-- the date of a new moon inside the table
+dated-in : (t : tie.After-date Inv-loop μ-loop) →
+    let p = t .before .before in
+    let a = p .before .before .before .before .before .before .before .before .before .args in
+    fromDay (flat (a .table) (a .rows .now)) (p .before .before .k .given .0 .0) ≡ answered (t .date .given .0 .0)
+dated-in t =
+    let p = t .before .before in
+    let o = p .before .before .before .before .before .before .before .before .before in
+    inside (flat (o .args .table) (o .args .rows .now)) (o .pre .0) _ (p .place .result) (p .place .ensures) _ (t .date .given .1)
+
+loop-again-3 : tie.Need-loop-again-3 Inv-loop μ-loop
+loop-again-3 c =
+    let t = c .before .before .before in
+    let n = t .before .before .before .before in
+    let d = n .before .before in
+    stands-turn _ _ _ _ _ _ _ _ _ (d .before .before .loop-test .taken) (fits d) (place-other _ _ _ _ _ _ (sym (ap dayIs (n .k .given .1)) ∙ d .nepal-day .ensures) _ (dated-in t) (c .if1 .taken)) (d .before .before .before .loop .inv)
+
+sub-j : tie.Need-sub-j Inv-loop μ-loop
+sub-j c = omega (arith, month-of _ _ _ (dated-in (c .before .before .before .before)))
+
+cast-j : tie.Need-cast-j Inv-loop μ-loop
+cast-j c = search needs
+
+mul-m : tie.Need-mul-m Inv-loop μ-loop
+mul-m c = search needs
+
+element-write-m : tie.Need-element-write-m Inv-loop μ-loop
+element-write-m c = omega (arith, month-of _ _ _ (dated-in (c .before .before .before .before)))
+
+element-write-m-2 : tie.Need-element-write-m-2 Inv-loop μ-loop
+element-write-m-2 c = omega (arith, month-of _ _ _ (dated-in (c .before .before .before .before)))
+
+loop-less-4 : tie.Need-loop-less-4 Inv-loop μ-loop
+loop-less-4 c = search needs
+
+loop-again-4 : tie.Need-loop-again-4 Inv-loop μ-loop
+unfolding put
+loop-again-4 c =
+    let t = c .before .before .before .before in
+    let n = t .before .before .before .before in
+    let d = n .before .before in
+    stands-turn _ _ _ _ _ _ _ _ _ (d .before .before .loop-test .taken) (fits d) (place-in _ _ _ _ _ _ (sym (ap dayIs (n .k .given .1)) ∙ d .nepal-day .ensures) _ (dated-in t) (c .before .if1 .left)) (d .before .before .before .loop .inv)
+
+returns : tie.Need-returns Inv-loop μ-loop
+returns c =
+    let l = c .before in
+    let a = l .before .before .args in
+    let k = flat (a .table) (a .rows .now) in
+    let e : l .loop .i ≡ a .n = omega arith in
+    let q = sym (placed-none _ k (a .year) (a .found .now) (a .n) (l .loop .m)) ∙ (rw e at (l .loop .inv .1)) in
+    λ j h.
+    ap (λ (m : Months). monthAt m j) q
+    ∙ placed-first _ k (a .year) j h _ _ refl refl
+
+pub months-of-spec : {M : Type 1} → statement M
+months-of-spec =
+    tie.close
+    (tie.spec
+    Inv-loop
+    μ-loop
+    loop-holds
+    mul-x
+    element-copy-out-x
+    add-i
+    nepal-day-requires
+    enum-known-k
+    enum-told
+    loop-less
+    loop-again
+    place-requires
+    enum-known-date
+    loop-less-2
+    loop-again-2
+    loop-less-3
+    loop-again-3
+    sub-j
+    cast-j
+    mul-m
+    element-write-m
+    element-write-m-2
+    loop-less-4
+    loop-again-4
+    returns)

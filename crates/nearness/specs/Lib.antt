@@ -1,2 +1,0 @@
--- What the contracts of `nearness` are written in.
-pub mod Near

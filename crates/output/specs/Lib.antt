@@ -1,0 +1,4 @@
+-- What the contracts of `output` are written in.
+pub mod Gathered
+pub mod Floats
+pub mod Pieces

@@ -1,2 +1,0 @@
--- What the contracts of `pieces` are written in.
-pub mod Pieces

@@ -1,4 +1,0 @@
-pub mod Splits
-pub mod Patterns
-pub mod Gathering
-pub mod Turns
