@@ -7,6 +7,7 @@ use lib.IntN.{pos, negsuc}
 use lib.ListN.{drop, replicate}
 use lib.Seq.{sets}
 use Rattle.text.specs.Digits.{Got, got, no, found, past, fixed, decimal, isEnd}
+use Rattle.text.specs.Quoted.{bytes}
 use Rattle.text.specs.declared.reading.Read.{Read}
 use Rattle.text.specs.declared.reading.Read.the-variants.{Number, NotOne}
 use Rattle.asked.specs.declared.words.Found.{Found}
@@ -41,11 +42,11 @@ abbrev pub item : (ℕ → ℕ) → Got ℕ → Got Item
 item kind (got n t) = got (record { kind = kind n; value = n }) t
 item kind no = no
 
--- 0x (48, 120) and sixteen hexadecimal digits; a minus sign (45) and a number; or a number
+-- 0x and sixteen hexadecimal digits; a minus sign and a number; or a number
 unfoldable pub word : List ℕ → Got Item
 word s =
-    found (past (48 ∷ 120 ∷ []) s) (λ u t. item (λ n. 4) (fixed 16 16 0 t))
-    (found (past (45 ∷ []) s) (λ u t. item (λ n. 3) (decimal 2147483648 t))
+    found (past (bytes "0x") s) (λ u t. item (λ n. 4) (fixed 16 16 0 t))
+    (found (past (bytes "-") s) (λ u t. item (λ n. 3) (decimal 2147483648 t))
     (item kindOf (decimal 4294967295 s)))
 
 -- ---- a line
@@ -54,12 +55,12 @@ abbrev pub cons : Item → Got (List Item) → Got (List Item)
 cons w (got ws t) = got (w ∷ ws) t
 cons w no = no
 
--- at most so many words to the line's end, a space (32) before each
+-- at most so many words to the line's end, a space before each
 unfoldable pub others : ℕ → List ℕ → Got (List Item)
 others zero s = cond (isEnd s) (got [] []) no
 others (suc most) s =
     cond (isEnd s) (got [] [])
-    (found (past (32 ∷ []) s) (λ u t. found (word t) (λ w r. cons w (others most r)) no) no)
+    (found (past (bytes " ") s) (λ u t. found (word t) (λ w r. cons w (others most r)) no) no)
 
 -- the kinds as decimal digits, the first first, after those before them
 abbrev pub form : ℕ → List Item → ℕ
