@@ -5,12 +5,9 @@ use borrow.Author.Needs.{needs}
 use Rattle.panchanga.proofs.lunar.morning.Statement.{statement}
 use Rattle.panchanga.proofs.lunar.morning.Tie as tie
 
-zero-hour-requires : tie.Need-zero-hour-requires
-zero-hour-requires c κs = search needs
-
 returns : tie.Need-returns
 unfolding morning near ofBits div
 returns c = rw (c .zero-hour .ensures)
 
 pub morning-spec : {M : Type 1} → statement M
-morning-spec = tie.close (tie.spec zero-hour-requires returns)
+morning-spec = tie.close (tie.spec (λ c κs. search needs) returns)
