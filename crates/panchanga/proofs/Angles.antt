@@ -6,13 +6,14 @@ use lib.Dec.{T}
 use lib.Ieee.{Float, neg, div, le, ofBits}
 use lib.Ieee.Fits.{and-l, and-r}
 use Rattle.paper.specs.Floats.{_⊗_, _⊘_, near, dec}
+use Rattle.gregorian.specs.Instants.{zeroOf}
 use Rattle.trig.specs.Trig.{one, limit, inRange, withinOne, sine}
 use Rattle.sky.specs.Angles.{deg}
 use Rattle.sky.specs.Sun.{meanLongitude, anomaly, sunLongitude}
 use Rattle.sky.proofs.Norms.{upto-within}
 use Rattle.sky.proofs.Numbers.{sine-number, tt-between, centuries-number, sun-upto}
 use Rattle.sky.proofs.Served as Sky
-use Rattle.panchanga.specs.Noaa.{zeroOf, centuriesAt, obliquity, declination, kathmandu}
+use Rattle.panchanga.specs.Noaa.{centuriesAt, obliquity, declination, kathmandu}
 use Rattle.paper.proofs.Within.{Within, refined, clamped, inside, lit, got, _⊞_, _⊟_, _⊠_, by, _⧄_, within}
 use Rattle.panchanga.proofs.Small.{tilt-sine, small-arc}
 use Rattle.panchanga.proofs.Noon.{Dated, noon-instant}

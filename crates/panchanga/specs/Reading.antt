@@ -7,13 +7,13 @@ use lib.Ieee.{Float}
 use Rattle.paper.specs.Answers.{Answer, answered, refused}
 use Rattle.paper.specs.Floats.{_⊕_, _⊖_, dec}
 use Rattle.gregorian.specs.declared.Date.{Date}
-use Rattle.gregorian.specs.Instants.{nptOffset, nptAnswer}
+use Rattle.gregorian.specs.Instants.{zeroOf, nptOffset, nptAnswer}
 use Rattle.sky.specs.Tithi.{elongationOf, tithiOf}
 use Rattle.sky.specs.Search.{endOf}
 use Rattle.panchanga.specs.declared.Place.{Place}
 use Rattle.panchanga.specs.declared.lunar.Reading.{Reading}
 use Rattle.panchanga.specs.Clock.{clockOf}
-use Rattle.panchanga.specs.Noaa.{zeroOf, eventsOn}
+use Rattle.panchanga.specs.Noaa.{eventsOn}
 
 -- whether an answered date is x
 abbrev pub sameDate : Date → Answer Date → Bool

@@ -9,8 +9,10 @@ use super::clock::clock_of;
 use super::noaa::events_on;
 use gregorian::Date;
 use gregorian::DateAnswer;
+use gregorian::NPT_OFFSET;
 use gregorian::UtDay;
 use gregorian::npt_date;
+use gregorian::zero_hour;
 use sky::search::FirstStart;
 use sky::search::first_start;
 use sky::search::next_tithi;
@@ -24,9 +26,6 @@ pub struct Reading {
     pub sunrise: u16,
     pub sunset: u16,
 }
-
-// Nepal time, 5 hours and 45 minutes east, as a fraction of a day.
-const NPT_OFFSET: f64 = 5.75 / 24.0;
 
 // The minute of what does not happen.
 const NONE: u16 = 1440;
@@ -63,7 +62,7 @@ fn end_on(date: Date, end: FirstStart) -> u16
 fn morning(n: u32) -> f64
     ensures { λ r. ⌜ r ≡ morning n ⌝ }
 {
-    n as f64 - 0.5 + (0.25 - NPT_OFFSET)
+    zero_hour(n) + (0.25 - NPT_OFFSET)
 }
 
 // The reading of a date by the instant that names the day.

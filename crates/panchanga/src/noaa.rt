@@ -116,5 +116,5 @@ pub fn events_at(place: Place, zero: f64) -> Span
 pub fn events_on(place: Place, n: u32) -> Span
     ensures { λ r. ⌜ spanIs r ≡ eventsOn place n ⌝ }
 {
-    events_at(place, n as f64 - 0.5)
+    events_at(place, gregorian::zero_hour(n))
 }

@@ -16,18 +16,6 @@ told c o e =
     let i = j .before .before in
     rw (← i .before .is-instant .ensures, i .if1 .taken, ← j .is-instant2 .ensures, c .before .if2 .taken, e, c .end-of .ensures)
 
-is-instant-requires : tie.Need-is-instant-requires
-is-instant-requires c κs = search needs
-
-is-instant-requires-2 : tie.Need-is-instant-requires-2
-is-instant-requires-2 c κs = search needs
-
-end-of-requires : tie.Need-end-of-requires
-end-of-requires c κs = search needs
-
-enum-known-end : tie.Need-enum-known-end
-enum-known-end c = search needs
-
 returns : tie.Need-returns
 returns c = told (c .before .before .before) (some _) (sym (ap firstSays (c .before .end .given .1)))
 
@@ -50,13 +38,4 @@ returns-4 c = rw (← c .before .is-instant .ensures, c .if1 .left)
 pub tithi-end-spec : {M : Type 1} → statement M
 tithi-end-spec =
     tie.close
-    (tie.spec
-    is-instant-requires
-    is-instant-requires-2
-    end-of-requires
-    enum-known-end
-    returns
-    enum-told
-    returns-2
-    returns-3
-    returns-4)
+    (tie.spec (λ c κs. search needs) (λ c κs. search needs) (λ c κs. search needs) (λ c. search needs) returns enum-told returns-2 returns-3 returns-4)

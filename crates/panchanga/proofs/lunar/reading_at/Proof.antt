@@ -7,20 +7,8 @@ use borrow.Author.Needs.{needs}
 use Rattle.panchanga.proofs.lunar.reading_at.Statement.{statement}
 use Rattle.panchanga.proofs.lunar.reading_at.Tie as tie
 
-elongation-of-requires : tie.Need-elongation-of-requires
-elongation-of-requires c κs = search needs
-
-tithi-of-requires : tie.Need-tithi-of-requires
-tithi-of-requires c κs = search needs
-
 next-tithi-requires : tie.Need-next-tithi-requires
 next-tithi-requires c κs = omega (arith, tithi-range (c .before .elongation-of .result) .1, c .tithi-of .ensures)
-
-first-start-requires : tie.Need-first-start-requires
-first-start-requires c κs = search needs
-
-end-on-requires : tie.Need-end-on-requires
-end-on-requires c κs = search needs
 
 returns : tie.Need-returns
 unfolding endOf near ofBits
@@ -29,10 +17,4 @@ returns c = let n = c .before .before .before in rw (c .end-on .ensures, c .befo
 pub reading-at-spec : {M : Type 1} → statement M
 reading-at-spec =
     tie.close
-    (tie.spec
-    elongation-of-requires
-    tithi-of-requires
-    next-tithi-requires
-    first-start-requires
-    end-on-requires
-    returns)
+    (tie.spec (λ c κs. search needs) (λ c κs. search needs) next-tithi-requires (λ c κs. search needs) (λ c κs. search needs) returns)
