@@ -27,7 +27,9 @@ endOn x (some e) = cond (sameDate x (nptAnswer e)) (clockOf e) 1440
 
 -- the tithi at an instant that names the day, its end, and the minutes of sunrise and sunset
 abbrev pub readingAt : Date → Float → ℕ → ℕ → Reading
-readingAt x at rise set = record { tithi = tithiOf (elongationOf at); end = endOn x (endOf at); sunrise = rise; sunset = set }
+readingAt x at rise set =
+    let n = tithiOf (elongationOf at) in
+    record { tithi = n; end = endOn x (endOf n at); sunrise = rise; sunset = set }
 
 -- a quarter of the day in Nepal, on the day with number n
 unfoldable pub morning : ℕ → Float

@@ -14,8 +14,7 @@ use gregorian::UtDay;
 use gregorian::npt_date;
 use gregorian::zero_hour;
 use sky::search::FirstStart;
-use sky::search::first_start;
-use sky::search::next_tithi;
+use sky::search::end_of;
 use sky::tithi::elongation_of;
 use sky::tithi::tithi_of;
 
@@ -70,10 +69,9 @@ fn reading_at(date: Date, at: UtDay, sunrise: u16, sunset: u16) -> Reading
     ensures { λ r. ⌜ r ≡ readingAt date (at .0) sunrise sunset ⌝ }
 {
     let tithi = tithi_of(elongation_of(at));
-    let end = first_start(next_tithi(tithi), at, UtDay(at.0 + 2.5));
     Reading {
         tithi,
-        end: end_on(date, end),
+        end: end_on(date, end_of(tithi, at)),
         sunrise,
         sunset,
     }

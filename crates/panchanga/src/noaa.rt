@@ -1,6 +1,7 @@
 // Sunrise and sunset after NOAA's solar calculator. Each function serves every f64.
 ghost use mathlib.Core.Path.{_≡_};
-ghost use Rattle.panchanga.specs.Noaa.{centuriesAt, obliquity, eccentricity, declination, timeEquation, equationOfTime, cosHourAngle, solarNoon, halfDay, eventsAround, sunEvents, eventsOn};
+ghost use Rattle.panchanga.specs.Noaa.{centuriesAt, obliquity, eccentricity, declination, timeEquation, equationOfTime};
+ghost use Rattle.panchanga.specs.Noaa.{cosHourAngle, solarNoon, halfDay, eventsAround, sunEvents, eventsOn};
 ghost use Rattle.panchanga.specs.Answers.{spanIs};
 use super::Place;
 use super::Span;

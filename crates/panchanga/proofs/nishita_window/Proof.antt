@@ -7,9 +7,6 @@ use borrow.Author.Needs.{needs}
 use Rattle.panchanga.proofs.nishita_window.Statement.{statement}
 use Rattle.panchanga.proofs.nishita_window.Tie as tie
 
-enum-told : tie.Need-enum-told
-enum-told c = search needs
-
 add-events-on : tie.Need-add-events-on
 add-events-on c =
     let s = c .before .before .before .before in
@@ -36,5 +33,5 @@ returns-3 c = rw (← c .before .before .before .next .ensures, c .before .after
 pub nishita-window-spec : {M : Type 1} → statement M
 nishita-window-spec =
     tie.close
-    (tie.spec (λ c κs. search needs) enum-told (λ c κs. search needs) (λ c. search needs) (λ c κs. search needs) add-events-on (λ c κs. search needs)
-    (λ c κs. search needs) (λ c κs. search needs) (λ c. search needs) (λ c. search needs) returns returns-2 returns-3)
+    (tie.spec (λ c κs. search needs) (λ c. search needs) (λ c κs. search needs) (λ c. search needs) (λ c κs. search needs) add-events-on
+    (λ c κs. search needs) (λ c κs. search needs) (λ c κs. search needs) (λ c. search needs) (λ c. search needs) returns returns-2 returns-3)

@@ -5,9 +5,6 @@ use borrow.Author.Needs.{needs}
 use Rattle.panchanga.proofs.kalas.kala_at.Statement.{statement}
 use Rattle.panchanga.proofs.kalas.kala_at.Tie as tie
 
-enum-told : tie.Need-enum-told
-enum-told c = search needs
-
 returns : tie.Need-returns
 unfolding kalaAt
 returns c = rw (c .enum-told .given .1)
@@ -35,5 +32,5 @@ returns-6 c = rw (c .enum-told6 .given .1)
 pub kala-at-spec : {M : Type 1} → statement M
 kala-at-spec =
     tie.close
-    (tie.spec enum-told (λ c. search needs) (λ c. search needs) (λ c. search needs) (λ c. search needs) (λ c. search needs) returns returns-2
-    returns-3 returns-4 returns-5 returns-6)
+    (tie.spec (λ c. search needs) (λ c. search needs) (λ c. search needs) (λ c. search needs) (λ c. search needs) (λ c. search needs) returns
+    returns-2 returns-3 returns-4 returns-5 returns-6)

@@ -7,9 +7,6 @@ returns : tie.Need-returns
 unfolding endOn
 returns c = rw (c .before .before .before .before .end .given .1, ← c .before .before .falls-on .ensures, c .before .if1 .taken, c .clock-of .ensures)
 
-enum-told : tie.Need-enum-told
-enum-told c = search needs
-
 returns-2 : tie.Need-returns-2
 unfolding endOn
 returns-2 c = rw (c .before .before .before .end .given .1, ← c .before .falls-on .ensures, c .if1 .left)
@@ -19,4 +16,4 @@ unfolding endOn
 returns-3 c = rw (c .enum-told .given .1)
 
 pub end-on-spec : {M : Type 1} → statement M
-end-on-spec = tie.close (tie.spec (λ c. search needs) (λ c κs. search needs) (λ c κs. search needs) returns enum-told returns-2 returns-3)
+end-on-spec = tie.close (tie.spec (λ c. search needs) (λ c κs. search needs) (λ c κs. search needs) returns (λ c. search needs) returns-2 returns-3)

@@ -2,9 +2,6 @@ use borrow.Author.Needs.{needs}
 use Rattle.panchanga.proofs.lunar.reading_of.Statement.{statement}
 use Rattle.panchanga.proofs.lunar.reading_of.Tie as tie
 
-enum-told : tie.Need-enum-told
-enum-told c = search needs
-
 returns : tie.Need-returns
 returns c = let s = c .before .before .before .before in rw (← s .before .before .events-on .ensures, s .events .given .1, c .reading-at .ensures, c .before .clock-of2 .ensures, c .before .before .clock-of .ensures)
 
@@ -14,5 +11,5 @@ returns-2 c = let s = c .before .before in rw (← s .before .before .events-on 
 pub reading-of-spec : {M : Type 1} → statement M
 reading-of-spec =
     tie.close
-    (tie.spec (λ c κs. search needs) (λ c. search needs) (λ c κs. search needs) (λ c κs. search needs) (λ c κs. search needs) enum-told
+    (tie.spec (λ c κs. search needs) (λ c. search needs) (λ c κs. search needs) (λ c κs. search needs) (λ c κs. search needs) (λ c. search needs)
     (λ c κs. search needs) (λ c κs. search needs) returns returns-2)
