@@ -3,8 +3,9 @@ use Prim.Native.Nat.{ℕ, zero, suc, _+_, _-_, _*_}
 use mathlib.Core.Bool.{Bool, true, false, cond, _&&_}
 use mathlib.Core.List.{List, [], _∷_}
 use lib.Dec.{leb}
+use lib.Ieee.{Float, binary64, ofBits}
 use lib.IntN.{pos, negsuc}
-use lib.ListN.{drop, replicate}
+use lib.ListN.{drop, replicate, getD}
 use lib.Seq.{sets}
 use Rattle.text.specs.Digits.{Got, got, no, found, past, fixed, decimal, isEnd}
 use Rattle.text.specs.Quoted.{bytes}
@@ -107,6 +108,16 @@ foundKind Not = 0
 -- a word's value, and 0 where it is larger than asked
 unfoldable pub fitting : ℕ → ℕ → ℕ
 fitting most v = cond (leb v most) v 0
+
+-- a line's word: a number up to 65,535, one that a u32 holds, a float
+abbrev pub small : Words → ℕ → ℕ
+small w i = fitting 65535 (getD (w .values) i 0)
+
+abbrev pub large : Words → ℕ → ℕ
+large w i = fitting 4294967295 (getD (w .values) i 0)
+
+abbrev pub float : Words → ℕ → Float
+float w i = ofBits binary64 (getD (w .values) i 0)
 
 -- a whole number of an i32, behind a minus sign or not
 unfoldable pub wholeOf : Bool → ℕ → Whole

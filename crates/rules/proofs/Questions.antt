@@ -21,7 +21,7 @@ use Rattle.rules.proofs.Lent.{given-not, lent-on, lent-not}
 pub then-by : {A B : Type 0} (a : Answer A) (f : A → Answer B) (x : A) → a ≡ answered x → then a f ≡ f x
 then-by a f x e = rw e (then-answered x f)
 
-then-not : {A B : Type 0} (a : Answer A) (f : A → Answer B) (k : Refusal) → a ≡ refused k → then a f ≡ refused k
+pub then-not : {A B : Type 0} (a : Answer A) (f : A → Answer B) (k : Refusal) → a ≡ refused k → then a f ≡ refused k
 then-not a f k e = rw e (then-refused k f)
 
 module _ {I : Type 0} (s : Sky I) (c : Calendar) (rs : List Rule) (ok : Bool) (y m d : ℕ) where

@@ -13,7 +13,7 @@ use lib.Ieee.Fits.{down-pos, and-r}
 use lib.Ieee.Exact.{HasValue}
 use lib.Ieee.Order.{le-of-values}
 use Rattle.paper.specs.Floats.{whole}
-use Rattle.paper.proofs.Within.{held-exactly, up-to}
+use Rattle.paper.proofs.Within.{up-to}
 use Rattle.gregorian.specs.Instants.{instant}
 use Rattle.gregorian.proofs.Instants.{whole-value}
 use Rattle.sky.specs.Tithi.{elongationOf, twelves, tithiOf}

@@ -8,7 +8,6 @@ ghost use Rattle.sky.specs.Search.{turned, offset, targetOf, halved, ste
 ghost use Rattle.sky.specs.Answers.{firstSays};
 ghost use Rattle.sky.specs.Inner.{noStart, Comes};
 use super::tithi::elongation_of;
-use super::tithi::tithi_of;
 use gregorian::UtDay;
 
 // The first instant of some, if there is one.
@@ -201,10 +200,10 @@ pub fn next_tithi(tithi: u16) -> u16
     if tithi == 30 { 1 } else { tithi + 1 }
 }
 
-// Where the tithi that runs at a day of universal time ends.
-pub fn end_of(ut: UtDay) -> FirstStart
-    ensures { λ r. ⌜ firstSays r ≡ endOf (ut .0) ⌝ }
+// Where a tithi that runs at a day of universal time ends: the next one's first start in two and a half days.
+pub fn end_of(tithi: u16, ut: UtDay) -> FirstStart
+    requires { ⌜ tithi ≤ 30 ⌝ }
+    ensures { λ r. ⌜ firstSays r ≡ endOf tithi (ut .0) ⌝ }
 {
-    let next = next_tithi(tithi_of(elongation_of(ut)));
-    first_start(next, ut, UtDay(ut.0 + 2.5))
+    first_start(next_tithi(tithi), ut, UtDay(ut.0 + 2.5))
 }

@@ -5,12 +5,6 @@ use Rattle.sky.proofs.Steps.{first-found, first-none}
 use Rattle.sky.proofs.search.first_start.Statement.{statement}
 use Rattle.sky.proofs.search.first_start.Tie as tie
 
-target-of-requires : tie.Need-target-of-requires
-target-of-requires c κs = search needs
-
-first-next-requires : tie.Need-first-next-requires
-first-next-requires c κs = search needs
-
 returns : tie.Need-returns
 returns c =
     let n = c .before in
@@ -24,4 +18,4 @@ returns-2 c =
     rw (← n .before .target-of .ensures) (first-none (offset elongationOf (n .before .target-of .result)) (a .to .0) (a .from .0) (n .first-next .ensures) (c .if1 .left))
 
 pub first-start-spec : {M : Type 1} → statement M
-first-start-spec = tie.close (tie.spec target-of-requires first-next-requires returns returns-2)
+first-start-spec = tie.close (tie.spec (λ c κs. search needs) (λ c κs. search needs) returns returns-2)

@@ -18,21 +18,6 @@ abbrev μ-loop : tie.MeasureT-loop
 loop-holds : tie.Need-loop-holds Inv-loop μ-loop
 loop-holds c = sought-begin (offset elongationOf (c .args .target)) (c .args .end) (c .args .steps) (c .args .from) (c .pre)
 
-step-end-requires : tie.Need-step-end-requires Inv-loop μ-loop
-step-end-requires c κs = search needs
-
-elongation-offset-requires : tie.Need-elongation-offset-requires Inv-loop μ-loop
-elongation-offset-requires c κs = search needs
-
-sub-left : tie.Need-sub-left Inv-loop μ-loop
-sub-left c = omega arith
-
-is-crossing-requires : tie.Need-is-crossing-requires Inv-loop μ-loop
-is-crossing-requires c κs = search needs
-
-bisect-crossing-requires : tie.Need-bisect-crossing-requires Inv-loop μ-loop
-bisect-crossing-requires c κs = search needs
-
 -- the step of a turn, from where the test of its offsets was made
 turn : (x : tie.After-is-crossing Inv-loop μ-loop) →
     let o = x .before in
@@ -52,18 +37,12 @@ returns c =
     let a = l .before .args in
     sought-one (offset elongationOf (a .target)) (a .end) (a .steps) (a .from) (l .loop .inv) (turn x) (sym (x .is-crossing .ensures) ∙ c .before .if2 .taken) (c .bisect-crossing .ensures)
 
-loop-less : tie.Need-loop-less Inv-loop μ-loop
-loop-less c = omega arith
-
 loop-again : tie.Need-loop-again Inv-loop μ-loop
 loop-again c =
     let x = c .before in
     let l = x .before .before .before .before .before in
     let a = l .before .args in
     sought-none (offset elongationOf (a .target)) (a .end) (a .steps) (a .from) (l .loop .inv) (turn x) (sym (x .is-crossing .ensures) ∙ c .if2 .left)
-
-no-start-requires : tie.Need-no-start-requires Inv-loop μ-loop
-no-start-requires c κs = search needs
 
 returns-2 : tie.Need-returns-2 Inv-loop μ-loop
 returns-2 c =
@@ -72,9 +51,6 @@ returns-2 c =
     let f = offset elongationOf (a .target) in
     let h = c .before .if1 .left in
     rw (c .no-start .ensures) (sought-out f (a .end) (a .steps) (a .from) (l .loop .inv) (rest-stop f (a .end) (l .loop .left) (l .loop .lo) h ∙ ap (λ (b : Bool). stopped (not b)) (sym h)))
-
-no-start-requires-2 : tie.Need-no-start-requires-2 Inv-loop μ-loop
-no-start-requires-2 c κs = search needs
 
 returns-3 : tie.Need-returns-3 Inv-loop μ-loop
 returns-3 c =
@@ -87,19 +63,5 @@ returns-3 c =
 pub next-start-spec : {M : Type 1} → statement M
 next-start-spec =
     tie.close
-    (tie.spec
-    Inv-loop
-    μ-loop
-    loop-holds
-    step-end-requires
-    elongation-offset-requires
-    sub-left
-    is-crossing-requires
-    bisect-crossing-requires
-    returns
-    loop-less
-    loop-again
-    no-start-requires
-    returns-2
-    no-start-requires-2
-    returns-3)
+    (tie.spec Inv-loop μ-loop loop-holds (λ c κs. search needs) (λ c κs. search needs) (λ c. omega arith) (λ c κs. search needs)
+    (λ c κs. search needs) returns (λ c. omega arith) loop-again (λ c κs. search needs) returns-2 (λ c κs. search needs) returns-3)

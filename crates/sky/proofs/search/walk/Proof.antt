@@ -16,12 +16,6 @@ Inv-loop tithi found₀ target begin end next₀ count₀ found next count = All
 abbrev μ-loop : tie.MeasureT-loop
 μ-loop tithi found₀ target begin end next₀ count₀ found next count = length (came next) + next .left
 
-target-of-requires : tie.Need-target-of-requires Inv-loop μ-loop
-target-of-requires c κs = search needs
-
-first-next-requires : tie.Need-first-next-requires Inv-loop μ-loop
-first-next-requires c κs = search needs
-
 loop-holds : tie.Need-loop-holds Inv-loop μ-loop
 loop-holds c =
     let t = c .before in
@@ -62,9 +56,6 @@ loop-again c =
     let a = t .before .args in
     all-more (offset elongationOf (t .target-of .result)) (a .to .0) (a .from .0) (l .loop .inv) (n .loop-test .taken) (c .next-start .ensures)
 
-sub-steps : tie.Need-sub-steps Inv-loop μ-loop
-sub-steps c = omega arith
-
 returns : tie.Need-returns Inv-loop μ-loop
 returns c =
     let n = c .before .before in
@@ -76,17 +67,5 @@ returns c =
 pub walk-spec : {M : Type 1} → statement M
 walk-spec =
     tie.close
-    (tie.spec
-    Inv-loop
-    μ-loop
-    target-of-requires
-    first-next-requires
-    loop-holds
-    mul-found
-    element-write-found
-    add-count
-    next-start-requires
-    loop-less
-    loop-again
-    sub-steps
-    returns)
+    (tie.spec Inv-loop μ-loop (λ c κs. search needs) (λ c κs. search needs) loop-holds mul-found element-write-found add-count next-start-requires
+    loop-less loop-again (λ c. omega arith) returns)
