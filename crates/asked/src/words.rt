@@ -145,7 +145,7 @@ pub fn split(line: &[u8], n: usize) -> Words
 impl Words {
     // The word at a place, if it is a number up to 65,535.
     pub fn small(self, i: usize) -> u16
-        ensures { λ r. ⌜ (i < 16 → r ≡ fitting 65535 (getD (self .values) i 0)) ⌝ }
+        ensures { λ r. ⌜ (i < 16 → r ≡ Line.small self i) ⌝ }
     {
         if i < 16 {
             let v = self.values[i];
@@ -158,7 +158,7 @@ impl Words {
 
     // The word at a place, if it is a number that a u32 holds.
     pub fn large(self, i: usize) -> u32
-        ensures { λ r. ⌜ (i < 16 → r ≡ fitting 4294967295 (getD (self .values) i 0)) ⌝ }
+        ensures { λ r. ⌜ (i < 16 → r ≡ Line.large self i) ⌝ }
     {
         if i < 16 {
             let v = self.values[i];
@@ -171,7 +171,7 @@ impl Words {
 
     // The word at a place, as the bits of a float.
     pub fn float(self, i: usize) -> f64
-        ensures { λ r. ⌜ (i < 16 → r ≡ ofBits binary64 (getD (self .values) i 0)) ⌝ }
+        ensures { λ r. ⌜ (i < 16 → r ≡ Line.float self i) ⌝ }
     {
         if i < 16 {
             floats::float_of(self.values[i])

@@ -1,41 +1,66 @@
 -- How an answer crosses the C boundary: as its number, and as what is written where it was asked for. Assumes nothing.
 use Prim.Native.Nat.{ℕ}
-use mathlib.Core.Bool.{Bool}
+use mathlib.Core.Bool.{Bool, true, false}
 use mathlib.Core.List.{List}
 use mathlib.Core.Option.{Option, some, none}
 use lib.Dec.{leb}
 use lib.Ieee.{Float}
 use Rattle.paper.specs.Answers.{Answer, answered, refused, given}
 use Rattle.gregorian.specs.declared.Date.{Date}
+use Rattle.conversion.specs.declared.BsDate.{BsDate}
 use Rattle.conversion.specs.declared.Table.{Table}
 use Rattle.conversion.specs.Calendar.{Calendar}
 use Rattle.conversion.specs.Flat.{flat}
+use Rattle.panchanga.specs.declared.lunar.Reading.{Reading}
 use Rattle.panchanga.specs.Answers.{kalaAnswer}
+use Rattle.rules.specs.Festivals.{Listed}
 use Rattle.festivals.specs.Kathmandu.{kalaNamed}
+use Rattle.grid.specs.declared.BsMonth.{BsMonth}
+use Rattle.grid.specs.declared.Month.{Month}
+use Rattle.grid.specs.Month.{Shown}
 
 -- 0 for an answer, or the number of the refusal
-unfoldable pub code : {A : Type 0} → Answer A → ℕ
+abbrev pub code : {A : Type 0} → Answer A → ℕ
 code (answered x) = 0
 code (refused k) = k
 
--- what a lent place then holds: the part of the answer that is asked for; a refusal leaves what stood there
-unfoldable pub left : {A B : Type 0} → Answer A → (A → B) → B → B
-left (answered x) part old = part x
-left (refused k) part old = old
+-- 0 and the lent places with the parts of the answer; or the number of the refusal, and the places as they were
+abbrev pub gives : {A P : Type 0} → Answer A → (A → P) → P → ℕ × P
+gives (answered x) parts old = (0, parts x)
+gives (refused k) parts old = (k, old)
 
--- whether there is something: 1, or 0 for none
-unfoldable pub some? : {A : Type 0} → Option A → ℕ
-some? (some x) = 1
-some? none = 0
+-- the same of an answer that may be none: a first place says whether there is something, 1, or nothing, 0, which leaves the others
+abbrev pub givesSome : {A P : Type 0} → Answer (Option A) → (A → P) → ℕ × P → ℕ × (ℕ × P)
+givesSome (answered (some x)) parts old = (0, (1, parts x))
+givesSome (answered none) parts old = (0, (0, old .1))
+givesSome (refused k) parts old = (k, old)
 
--- the same of an answer that may be none, which leaves the place too
-unfoldable pub leftSome : {A B : Type 0} → Answer (Option A) → (A → B) → B → B
-leftSome (answered (some x)) part old = part x
-leftSome (answered none) part old = old
-leftSome (refused k) part old = old
+-- a day's list: its count, and the lent buffer
+abbrev pub givesList : Listed → ℕ → (ℕ × ℕ) × List ℕ
+givesList l old = (gives (l .answer) (λ n. n) old, l .buffer)
 
 abbrev pub date : ℕ → ℕ → ℕ → Date
 date y m d = record { year = y; month = m; day = d }
+
+abbrev pub numbers : Date → ℕ × ℕ × ℕ
+numbers x = (x .year, x .month, x .day)
+
+abbrev pub bsNumbers : BsDate → ℕ × ℕ × ℕ
+bsNumbers x = (x .year, x .month, x .day)
+
+abbrev pub monthOf : BsMonth → ℕ × ℕ
+monthOf x = (x .year, x .month)
+
+abbrev pub readings : Reading → ℕ × ℕ × ℕ × ℕ
+readings x = (x .tithi, x .end, x .sunrise, x .sunset)
+
+-- a month's days, the numbers of its first and last Gregorian date, and how many cells and festivals
+abbrev pub monthNumbers : Month → ℕ × (ℕ × ℕ × ℕ) × (ℕ × ℕ × ℕ) × ℕ × ℕ
+monthNumbers x = (x .days, numbers (x .first), numbers (x .last), x .cells, x .festivals)
+
+-- a month: its numbers, and the two lent buffers
+abbrev pub givesMonth : Shown → ℕ × (ℕ × ℕ × ℕ) × (ℕ × ℕ × ℕ) × ℕ × ℕ → (ℕ × (ℕ × (ℕ × ℕ × ℕ) × (ℕ × ℕ × ℕ) × ℕ × ℕ)) × List ℕ × List ℕ
+givesMonth m old = (gives (m .answer) monthNumbers old, m .cells, m .festivals)
 
 -- a lent table without its rows: its first year, and the Gregorian date of its first day
 abbrev pub table : ℕ → ℕ → ℕ → ℕ → Table
@@ -51,4 +76,5 @@ kalaBy k x = given (leb k 5) 2 (kalaAnswer (kalaNamed k) x)
 
 -- whether what is lent is accepted: yes, or the refusal k
 abbrev pub accepting : Bool → ℕ → Answer Unit
-accepting good k = given good k (answered tt)
+accepting true k = answered tt
+accepting false k = refused k

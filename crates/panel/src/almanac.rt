@@ -2,7 +2,7 @@
 ghost use mathlib.Core.Path.{_≡_};
 ghost use Rattle.panchanga.specs.Answers.{spanSays, instantSays, minutesSays, readingSays, eventsAnswer, riseAnswer, setAnswer, nishitaAnswer, clockAnswer, readingAnswer};
 ghost use Rattle.panchanga.specs.Clock.{minutesOf};
-ghost use Rattle.panel.specs.Boundary.{code, left, some?, leftSome, date, kalaBy};
+ghost use Rattle.panel.specs.Boundary.{gives, givesSome, readings, date, kalaBy};
 use festivals::days::kala_named;
 use gregorian::Date;
 use gregorian::UtDay;
@@ -13,10 +13,8 @@ use panchanga::SpanAnswer;
 
 // Two instants where they are asked for, if there are some, and whether there are.
 fn give_span(answer: SpanAnswer, found: &mut u16, from: &mut f64, to: &mut f64) -> u16
-    ensures code { λ r. ⌜ r ≡ code (spanSays answer) ⌝ }
-    ensures found { λ r. ⌜ now (found .exit) ≡ left (spanSays answer) some? (now (found .entry)) ⌝ }
-    ensures from { λ r. ⌜ now (from .exit) ≡ leftSome (spanSays answer) (λ x. x .0) (now (from .entry)) ⌝ }
-    ensures to { λ r. ⌜ now (to .exit) ≡ leftSome (spanSays answer) (λ x. x .1) (now (to .entry)) ⌝ }
+    ensures { λ r. ⌜ (r, (now (found .exit), (now (from .exit), now (to .exit))))
+        ≡ givesSome (spanSays answer) (λ x. x) (now (found .entry), (now (from .entry), now (to .entry))) ⌝ }
 {
     match answer {
         SpanAnswer::Is { from: a, to: b } => {
@@ -35,9 +33,7 @@ fn give_span(answer: SpanAnswer, found: &mut u16, from: &mut f64, to: &mut f64) 
 
 // An instant where it is asked for, if there is one, and whether there is.
 fn give_instant(answer: InstantAnswer, found: &mut u16, ut: &mut f64) -> u16
-    ensures code { λ r. ⌜ r ≡ code (instantSays answer) ⌝ }
-    ensures found { λ r. ⌜ now (found .exit) ≡ left (instantSays answer) some? (now (found .entry)) ⌝ }
-    ensures ut { λ r. ⌜ now (ut .exit) ≡ leftSome (instantSays answer) (λ x. x) (now (ut .entry)) ⌝ }
+    ensures { λ r. ⌜ (r, (now (found .exit), now (ut .exit))) ≡ givesSome (instantSays answer) (λ x. x) (now (found .entry), now (ut .entry)) ⌝ }
 {
     match answer {
         InstantAnswer::At(at) => {
@@ -55,8 +51,7 @@ fn give_instant(answer: InstantAnswer, found: &mut u16, ut: &mut f64) -> u16
 
 // Minutes where they are asked for.
 fn give_minutes(answer: MinutesAnswer, minutes: &mut u16) -> u16
-    ensures code { λ r. ⌜ r ≡ code (minutesSays answer) ⌝ }
-    ensures minutes { λ r. ⌜ now (minutes .exit) ≡ left (minutesSays answer) (λ n. n) (now (minutes .entry)) ⌝ }
+    ensures { λ r. ⌜ (r, now (minutes .exit)) ≡ gives (minutesSays answer) (λ x. x) (now (minutes .entry)) ⌝ }
 {
     let MinutesAnswer::Is(n) = answer else {
         return 8;
@@ -73,11 +68,8 @@ fn give_reading(
     sunrise: &mut u16,
     sunset: &mut u16,
 ) -> u16
-    ensures code { λ r. ⌜ r ≡ code (readingSays answer) ⌝ }
-    ensures tithi { λ r. ⌜ now (tithi .exit) ≡ left (readingSays answer) (λ x. x .tithi) (now (tithi .entry)) ⌝ }
-    ensures end { λ r. ⌜ now (end .exit) ≡ left (readingSays answer) (λ x. x .end) (now (end .entry)) ⌝ }
-    ensures sunrise { λ r. ⌜ now (sunrise .exit) ≡ left (readingSays answer) (λ x. x .sunrise) (now (sunrise .entry)) ⌝ }
-    ensures sunset { λ r. ⌜ now (sunset .exit) ≡ left (readingSays answer) (λ x. x .sunset) (now (sunset .entry)) ⌝ }
+    ensures { λ r. ⌜ (r, (now (tithi .exit), now (end .exit), now (sunrise .exit), now (sunset .exit)))
+        ≡ gives (readingSays answer) readings (now (tithi .entry), now (end .entry), now (sunrise .entry), now (sunset .entry)) ⌝ }
 {
     let ReadingAnswer::Is(reading) = answer else {
         return 3;
@@ -99,10 +91,8 @@ pub extern "C" fn panel_sun_events(
     rise: &mut f64,
     set: &mut f64,
 ) -> u16
-    ensures code { λ r. ⌜ r ≡ code (eventsAnswer (date year month day)) ⌝ }
-    ensures found { λ r. ⌜ now (found .exit) ≡ left (eventsAnswer (date year month day)) some? (now (found .entry)) ⌝ }
-    ensures rise { λ r. ⌜ now (rise .exit) ≡ leftSome (eventsAnswer (date year month day)) (λ x. x .0) (now (rise .entry)) ⌝ }
-    ensures set { λ r. ⌜ now (set .exit) ≡ leftSome (eventsAnswer (date year month day)) (λ x. x .1) (now (set .entry)) ⌝ }
+    ensures { λ r. ⌜ (r, (now (found .exit), (now (rise .exit), now (set .exit))))
+        ≡ givesSome (eventsAnswer (date year month day)) (λ x. x) (now (found .entry), (now (rise .entry), now (set .entry))) ⌝ }
 {
     give_span(
         panchanga::sun_events(Date { year, month, day }),
@@ -121,9 +111,7 @@ pub extern "C" fn panel_sunrise(
     found: &mut u16,
     ut: &mut f64,
 ) -> u16
-    ensures code { λ r. ⌜ r ≡ code (riseAnswer (date year month day)) ⌝ }
-    ensures found { λ r. ⌜ now (found .exit) ≡ left (riseAnswer (date year month day)) some? (now (found .entry)) ⌝ }
-    ensures ut { λ r. ⌜ now (ut .exit) ≡ leftSome (riseAnswer (date year month day)) (λ x. x) (now (ut .entry)) ⌝ }
+    ensures { λ r. ⌜ (r, (now (found .exit), now (ut .exit))) ≡ givesSome (riseAnswer (date year month day)) (λ x. x) (now (found .entry), now (ut .entry)) ⌝ }
 {
     give_instant(panchanga::sunrise(Date { year, month, day }), found, ut)
 }
@@ -137,9 +125,7 @@ pub extern "C" fn panel_sunset(
     found: &mut u16,
     ut: &mut f64,
 ) -> u16
-    ensures code { λ r. ⌜ r ≡ code (setAnswer (date year month day)) ⌝ }
-    ensures found { λ r. ⌜ now (found .exit) ≡ left (setAnswer (date year month day)) some? (now (found .entry)) ⌝ }
-    ensures ut { λ r. ⌜ now (ut .exit) ≡ leftSome (setAnswer (date year month day)) (λ x. x) (now (ut .entry)) ⌝ }
+    ensures { λ r. ⌜ (r, (now (found .exit), now (ut .exit))) ≡ givesSome (setAnswer (date year month day)) (λ x. x) (now (found .entry), now (ut .entry)) ⌝ }
 {
     give_instant(panchanga::sunset(Date { year, month, day }), found, ut)
 }
@@ -154,10 +140,8 @@ pub extern "C" fn panel_nishita_window(
     from: &mut f64,
     to: &mut f64,
 ) -> u16
-    ensures code { λ r. ⌜ r ≡ code (nishitaAnswer (date year month day)) ⌝ }
-    ensures found { λ r. ⌜ now (found .exit) ≡ left (nishitaAnswer (date year month day)) some? (now (found .entry)) ⌝ }
-    ensures from { λ r. ⌜ now (from .exit) ≡ leftSome (nishitaAnswer (date year month day)) (λ x. x .0) (now (from .entry)) ⌝ }
-    ensures to { λ r. ⌜ now (to .exit) ≡ leftSome (nishitaAnswer (date year month day)) (λ x. x .1) (now (to .entry)) ⌝ }
+    ensures { λ r. ⌜ (r, (now (found .exit), (now (from .exit), now (to .exit))))
+        ≡ givesSome (nishitaAnswer (date year month day)) (λ x. x) (now (found .entry), (now (from .entry), now (to .entry))) ⌝ }
 {
     give_span(
         panchanga::nishita_window(Date { year, month, day }),
@@ -177,9 +161,8 @@ pub extern "C" fn panel_kala_instant(
     found: &mut u16,
     ut: &mut f64,
 ) -> u16
-    ensures code { λ r. ⌜ r ≡ code (kalaBy kala (date year month day)) ⌝ }
-    ensures found { λ r. ⌜ now (found .exit) ≡ left (kalaBy kala (date year month day)) some? (now (found .entry)) ⌝ }
-    ensures ut { λ r. ⌜ now (ut .exit) ≡ leftSome (kalaBy kala (date year month day)) (λ x. x) (now (ut .entry)) ⌝ }
+    ensures { λ r. ⌜ (r, (now (found .exit), now (ut .exit)))
+        ≡ givesSome (kalaBy kala (date year month day)) (λ x. x) (now (found .entry), now (ut .entry)) ⌝ }
 {
     if 5 < kala {
         return 2;
@@ -195,8 +178,7 @@ pub extern "C" fn panel_kala_instant(
 // The minute of the clock in Nepal at an instant: 8.
 #[no_mangle]
 pub extern "C" fn panel_npt_clock(ut: f64, minutes: &mut u16) -> u16
-    ensures code { λ r. ⌜ r ≡ code (clockAnswer ut) ⌝ }
-    ensures minutes { λ r. ⌜ now (minutes .exit) ≡ left (clockAnswer ut) (λ n. n) (now (minutes .entry)) ⌝ }
+    ensures { λ r. ⌜ (r, now (minutes .exit)) ≡ gives (clockAnswer ut) (λ x. x) (now (minutes .entry)) ⌝ }
 {
     give_minutes(panchanga::npt_clock(UtDay(ut)), minutes)
 }
@@ -222,11 +204,8 @@ pub extern "C" fn panel_reading(
     sunrise: &mut u16,
     sunset: &mut u16,
 ) -> u16
-    ensures code { λ r. ⌜ r ≡ code (readingAnswer (date year month day)) ⌝ }
-    ensures tithi { λ r. ⌜ now (tithi .exit) ≡ left (readingAnswer (date year month day)) (λ x. x .tithi) (now (tithi .entry)) ⌝ }
-    ensures end { λ r. ⌜ now (end .exit) ≡ left (readingAnswer (date year month day)) (λ x. x .end) (now (end .entry)) ⌝ }
-    ensures sunrise { λ r. ⌜ now (sunrise .exit) ≡ left (readingAnswer (date year month day)) (λ x. x .sunrise) (now (sunrise .entry)) ⌝ }
-    ensures sunset { λ r. ⌜ now (sunset .exit) ≡ left (readingAnswer (date year month day)) (λ x. x .sunset) (now (sunset .entry)) ⌝ }
+    ensures { λ r. ⌜ (r, (now (tithi .exit), now (end .exit), now (sunrise .exit), now (sunset .exit)))
+        ≡ gives (readingAnswer (date year month day)) readings (now (tithi .entry), now (end .entry), now (sunrise .entry), now (sunset .entry)) ⌝ }
 {
     give_reading(
         panchanga::reading(Date { year, month, day }),

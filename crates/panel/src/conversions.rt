@@ -3,18 +3,17 @@ ghost use mathlib.Core.Path.{_≡_};
 ghost use Rattle.conversion.specs.Flat.{accepted};
 ghost use Rattle.conversion.specs.Calendar.{monthLen, validBs, toAd, fromAd};
 ghost use Rattle.conversion.specs.Answers.{monthLenSays, validSays, adSays, bsSays};
-ghost use Rattle.panel.specs.Boundary.{code, left, table, lent, accepting};
+ghost use Rattle.panel.specs.Boundary.{code, gives, numbers, bsNumbers, table, lent, accepting};
+use crate::table_of;
 use conversion::AdAnswer;
 use conversion::BsAnswer;
 use conversion::BsDate;
 use conversion::MonthLen;
-use conversion::Table;
 use conversion::Validity;
 
 // A month's length where it is asked for.
 fn give_month_len(answer: MonthLen, days: &mut u16) -> u16
-    ensures code { λ r. ⌜ r ≡ code (monthLenSays answer) ⌝ }
-    ensures days { λ r. ⌜ now (days .exit) ≡ left (monthLenSays answer) (λ n. n) (now (days .entry)) ⌝ }
+    ensures { λ r. ⌜ (r, now (days .exit)) ≡ gives (monthLenSays answer) (λ x. x) (now (days .entry)) ⌝ }
 {
     match answer {
         MonthLen::Days(n) => {
@@ -42,10 +41,8 @@ fn give_validity(answer: Validity) -> u16
 
 // A Gregorian date's three numbers where they are asked for.
 fn give_ad(answer: AdAnswer, year: &mut u16, month: &mut u16, day: &mut u16) -> u16
-    ensures code { λ r. ⌜ r ≡ code (adSays answer) ⌝ }
-    ensures year { λ r. ⌜ now (year .exit) ≡ left (adSays answer) (λ x. x .year) (now (year .entry)) ⌝ }
-    ensures month { λ r. ⌜ now (month .exit) ≡ left (adSays answer) (λ x. x .month) (now (month .entry)) ⌝ }
-    ensures day { λ r. ⌜ now (day .exit) ≡ left (adSays answer) (λ x. x .day) (now (day .entry)) ⌝ }
+    ensures { λ r. ⌜ (r, (now (year .exit), now (month .exit), now (day .exit)))
+        ≡ gives (adSays answer) numbers (now (year .entry), now (month .entry), now (day .entry)) ⌝ }
 {
     match answer {
         AdAnswer::Is(date) => {
@@ -63,10 +60,8 @@ fn give_ad(answer: AdAnswer, year: &mut u16, month: &mut u16, day: &mut u16) -> 
 
 // A BS date's three numbers where they are asked for.
 fn give_bs(answer: BsAnswer, year: &mut u16, month: &mut u16, day: &mut u16) -> u16
-    ensures code { λ r. ⌜ r ≡ code (bsSays answer) ⌝ }
-    ensures year { λ r. ⌜ now (year .exit) ≡ left (bsSays answer) (λ x. x .year) (now (year .entry)) ⌝ }
-    ensures month { λ r. ⌜ now (month .exit) ≡ left (bsSays answer) (λ x. x .month) (now (month .entry)) ⌝ }
-    ensures day { λ r. ⌜ now (day .exit) ≡ left (bsSays answer) (λ x. x .day) (now (day .entry)) ⌝ }
+    ensures { λ r. ⌜ (r, (now (year .exit), now (month .exit), now (day .exit)))
+        ≡ gives (bsSays answer) bsNumbers (now (year .entry), now (month .entry), now (day .entry)) ⌝ }
 {
     match answer {
         BsAnswer::Is(date) => {
@@ -92,12 +87,7 @@ pub extern "C" fn panel_check_table(
 ) -> u16
     ensures { λ r. ⌜ r ≡ code (accepting (accepted (table «first_year» «first_ad_year» «first_ad_month» «first_ad_day») (now (rows .entry))) 1) ⌝ }
 {
-    let table = Table {
-        first_year,
-        year: first_ad_year,
-        month: first_ad_month,
-        day: first_ad_day,
-    };
+    let table = table_of(first_year, first_ad_year, first_ad_month, first_ad_day);
     if conversion::accepts(table, rows) {
         0
     } else {
@@ -117,15 +107,11 @@ pub extern "C" fn panel_bs_month_len(
     month: u16,
     days: &mut u16,
 ) -> u16
-    ensures code { λ r. ⌜ r ≡ code (monthLen (lent «first_year» «first_ad_year» «first_ad_month» «first_ad_day» (now (rows .entry))) year month) ⌝ }
-    ensures days { λ r. ⌜ now (days .exit) ≡ left (monthLen (lent «first_year» «first_ad_year» «first_ad_month» «first_ad_day» (now (rows .entry))) year month) (λ n. n) (now (days .entry)) ⌝ }
+    ensures { λ r. ⌜ (r, now (days .exit))
+        ≡ gives (monthLen (lent «first_year» «first_ad_year» «first_ad_month» «first_ad_day» (now (rows .entry))) year month) (λ x. x)
+        (now (days .entry)) ⌝ }
 {
-    let table = Table {
-        first_year,
-        year: first_ad_year,
-        month: first_ad_month,
-        day: first_ad_day,
-    };
+    let table = table_of(first_year, first_ad_year, first_ad_month, first_ad_day);
     give_month_len(conversion::bs_month_len(table, rows, year, month), days)
 }
 
@@ -143,12 +129,7 @@ pub extern "C" fn panel_validate_bs_date(
 ) -> u16
     ensures { λ r. ⌜ r ≡ code (validBs (lent «first_year» «first_ad_year» «first_ad_month» «first_ad_day» (now (rows .entry))) year month day) ⌝ }
 {
-    let table = Table {
-        first_year,
-        year: first_ad_year,
-        month: first_ad_month,
-        day: first_ad_day,
-    };
+    let table = table_of(first_year, first_ad_year, first_ad_month, first_ad_day);
     give_validity(conversion::validate_bs_date(table, rows, BsDate { year, month, day }))
 }
 
@@ -167,17 +148,11 @@ pub extern "C" fn panel_bs_to_ad(
     ad_month: &mut u16,
     ad_day: &mut u16,
 ) -> u16
-    ensures code { λ r. ⌜ r ≡ code (toAd (lent «first_year» «first_ad_year» «first_ad_month» «first_ad_day» (now (rows .entry))) year month day) ⌝ }
-    ensures year { λ r. ⌜ now («ad_year» .exit) ≡ left (toAd (lent «first_year» «first_ad_year» «first_ad_month» «first_ad_day» (now (rows .entry))) year month day) (λ x. x .year) (now («ad_year» .entry)) ⌝ }
-    ensures month { λ r. ⌜ now («ad_month» .exit) ≡ left (toAd (lent «first_year» «first_ad_year» «first_ad_month» «first_ad_day» (now (rows .entry))) year month day) (λ x. x .month) (now («ad_month» .entry)) ⌝ }
-    ensures day { λ r. ⌜ now («ad_day» .exit) ≡ left (toAd (lent «first_year» «first_ad_year» «first_ad_month» «first_ad_day» (now (rows .entry))) year month day) (λ x. x .day) (now («ad_day» .entry)) ⌝ }
+    ensures { λ r. ⌜ (r, (now («ad_year» .exit), now («ad_month» .exit), now («ad_day» .exit)))
+        ≡ gives (toAd (lent «first_year» «first_ad_year» «first_ad_month» «first_ad_day» (now (rows .entry))) year month day) numbers
+        (now («ad_year» .entry), now («ad_month» .entry), now («ad_day» .entry)) ⌝ }
 {
-    let table = Table {
-        first_year,
-        year: first_ad_year,
-        month: first_ad_month,
-        day: first_ad_day,
-    };
+    let table = table_of(first_year, first_ad_year, first_ad_month, first_ad_day);
     give_ad(
         conversion::bs_to_ad(table, rows, BsDate { year, month, day }),
         ad_year,
@@ -201,17 +176,11 @@ pub extern "C" fn panel_ad_to_bs(
     bs_month: &mut u16,
     bs_day: &mut u16,
 ) -> u16
-    ensures code { λ r. ⌜ r ≡ code (fromAd (lent «first_year» «first_ad_year» «first_ad_month» «first_ad_day» (now (rows .entry))) year month day) ⌝ }
-    ensures year { λ r. ⌜ now («bs_year» .exit) ≡ left (fromAd (lent «first_year» «first_ad_year» «first_ad_month» «first_ad_day» (now (rows .entry))) year month day) (λ x. x .year) (now («bs_year» .entry)) ⌝ }
-    ensures month { λ r. ⌜ now («bs_month» .exit) ≡ left (fromAd (lent «first_year» «first_ad_year» «first_ad_month» «first_ad_day» (now (rows .entry))) year month day) (λ x. x .month) (now («bs_month» .entry)) ⌝ }
-    ensures day { λ r. ⌜ now («bs_day» .exit) ≡ left (fromAd (lent «first_year» «first_ad_year» «first_ad_month» «first_ad_day» (now (rows .entry))) year month day) (λ x. x .day) (now («bs_day» .entry)) ⌝ }
+    ensures { λ r. ⌜ (r, (now («bs_year» .exit), now («bs_month» .exit), now («bs_day» .exit)))
+        ≡ gives (fromAd (lent «first_year» «first_ad_year» «first_ad_month» «first_ad_day» (now (rows .entry))) year month day) bsNumbers
+        (now («bs_year» .entry), now («bs_month» .entry), now («bs_day» .entry)) ⌝ }
 {
-    let table = Table {
-        first_year,
-        year: first_ad_year,
-        month: first_ad_month,
-        day: first_ad_day,
-    };
+    let table = table_of(first_year, first_ad_year, first_ad_month, first_ad_day);
     give_bs(
         conversion::ad_to_bs(table, rows, year, month, day),
         bs_year,

@@ -2,7 +2,7 @@
 ghost use mathlib.Core.Path.{_≡_};
 ghost use Rattle.gregorian.specs.Answers.{dateSays, numberSays, newDate, numberAnswer, weekdayAnswer, nextAnswer, dateAnswer};
 ghost use Rattle.gregorian.specs.Instants.{julianSays, nptSays, julianAnswer, nptAnswer};
-ghost use Rattle.panel.specs.Boundary.{code, left, date};
+ghost use Rattle.panel.specs.Boundary.{gives, numbers, date};
 use gregorian::Date;
 use gregorian::DateAnswer;
 use gregorian::JulianAnswer;
@@ -12,10 +12,8 @@ use gregorian::UtDay;
 
 // A date's three numbers where they are asked for.
 fn give_date(answer: DateAnswer, year: &mut u16, month: &mut u16, day: &mut u16) -> u16
-    ensures code { λ r. ⌜ r ≡ code (dateSays answer) ⌝ }
-    ensures year { λ r. ⌜ now (year .exit) ≡ left (dateSays answer) (λ x. x .year) (now (year .entry)) ⌝ }
-    ensures month { λ r. ⌜ now (month .exit) ≡ left (dateSays answer) (λ x. x .month) (now (month .entry)) ⌝ }
-    ensures day { λ r. ⌜ now (day .exit) ≡ left (dateSays answer) (λ x. x .day) (now (day .entry)) ⌝ }
+    ensures { λ r. ⌜ (r, (now (year .exit), now (month .exit), now (day .exit)))
+        ≡ gives (dateSays answer) numbers (now (year .entry), now (month .entry), now (day .entry)) ⌝ }
 {
     let DateAnswer::Is(date) = answer else {
         return 3;
@@ -28,8 +26,7 @@ fn give_date(answer: DateAnswer, year: &mut u16, month: &mut u16, day: &mut u16)
 
 // A number where it is asked for.
 fn give_number(answer: NumberAnswer, number: &mut u32) -> u16
-    ensures code { λ r. ⌜ r ≡ code (numberSays answer) ⌝ }
-    ensures number { λ r. ⌜ now (number .exit) ≡ left (numberSays answer) (λ n. n) (now (number .entry)) ⌝ }
+    ensures { λ r. ⌜ (r, now (number .exit)) ≡ gives (numberSays answer) (λ x. x) (now (number .entry)) ⌝ }
 {
     let NumberAnswer::Number(n) = answer else {
         return 3;
@@ -40,8 +37,7 @@ fn give_number(answer: NumberAnswer, number: &mut u32) -> u16
 
 // An instant where it is asked for.
 fn give_julian(answer: JulianAnswer, ut: &mut f64) -> u16
-    ensures code { λ r. ⌜ r ≡ code (julianSays answer) ⌝ }
-    ensures ut { λ r. ⌜ now (ut .exit) ≡ left (julianSays answer) (λ x. x) (now (ut .entry)) ⌝ }
+    ensures { λ r. ⌜ (r, now (ut .exit)) ≡ gives (julianSays answer) (λ x. x) (now (ut .entry)) ⌝ }
 {
     match answer {
         JulianAnswer::At(at) => {
@@ -55,10 +51,8 @@ fn give_julian(answer: JulianAnswer, ut: &mut f64) -> u16
 
 // A date in Nepal where it is asked for.
 fn give_npt(answer: NptAnswer, year: &mut u16, month: &mut u16, day: &mut u16) -> u16
-    ensures code { λ r. ⌜ r ≡ code (nptSays answer) ⌝ }
-    ensures year { λ r. ⌜ now (year .exit) ≡ left (nptSays answer) (λ x. x .year) (now (year .entry)) ⌝ }
-    ensures month { λ r. ⌜ now (month .exit) ≡ left (nptSays answer) (λ x. x .month) (now (month .entry)) ⌝ }
-    ensures day { λ r. ⌜ now (day .exit) ≡ left (nptSays answer) (λ x. x .day) (now (day .entry)) ⌝ }
+    ensures { λ r. ⌜ (r, (now (year .exit), now (month .exit), now (day .exit)))
+        ≡ gives (nptSays answer) numbers (now (year .entry), now (month .entry), now (day .entry)) ⌝ }
 {
     match answer {
         NptAnswer::Is(date) => {
@@ -82,10 +76,8 @@ pub extern "C" fn panel_date_new(
     date_month: &mut u16,
     date_day: &mut u16,
 ) -> u16
-    ensures code { λ r. ⌜ r ≡ code (newDate year month day) ⌝ }
-    ensures year { λ r. ⌜ now («date_year» .exit) ≡ left (newDate year month day) (λ x. x .year) (now («date_year» .entry)) ⌝ }
-    ensures month { λ r. ⌜ now («date_month» .exit) ≡ left (newDate year month day) (λ x. x .month) (now («date_month» .entry)) ⌝ }
-    ensures day { λ r. ⌜ now («date_day» .exit) ≡ left (newDate year month day) (λ x. x .day) (now («date_day» .entry)) ⌝ }
+    ensures { λ r. ⌜ (r, (now («date_year» .exit), now («date_month» .exit), now («date_day» .exit)))
+        ≡ gives (newDate year month day) numbers (now («date_year» .entry), now («date_month» .entry), now («date_day» .entry)) ⌝ }
 {
     give_date(Date::new(year, month, day), date_year, date_month, date_day)
 }
@@ -93,8 +85,7 @@ pub extern "C" fn panel_date_new(
 // The Julian day number of a date's noon: 3.
 #[no_mangle]
 pub extern "C" fn panel_date_day_number(year: u16, month: u16, day: u16, number: &mut u32) -> u16
-    ensures code { λ r. ⌜ r ≡ code (numberAnswer (date year month day)) ⌝ }
-    ensures number { λ r. ⌜ now (number .exit) ≡ left (numberAnswer (date year month day)) (λ n. n) (now (number .entry)) ⌝ }
+    ensures { λ r. ⌜ (r, now (number .exit)) ≡ gives (numberAnswer (date year month day)) (λ x. x) (now (number .entry)) ⌝ }
 {
     give_number((Date { year, month, day }).day_number(), number)
 }
@@ -102,8 +93,7 @@ pub extern "C" fn panel_date_day_number(year: u16, month: u16, day: u16, number:
 // The day of the week of a date, 0 for Sunday: 3.
 #[no_mangle]
 pub extern "C" fn panel_date_weekday(year: u16, month: u16, day: u16, weekday: &mut u32) -> u16
-    ensures code { λ r. ⌜ r ≡ code (weekdayAnswer (date year month day)) ⌝ }
-    ensures weekday { λ r. ⌜ now (weekday .exit) ≡ left (weekdayAnswer (date year month day)) (λ n. n) (now (weekday .entry)) ⌝ }
+    ensures { λ r. ⌜ (r, now (weekday .exit)) ≡ gives (weekdayAnswer (date year month day)) (λ x. x) (now (weekday .entry)) ⌝ }
 {
     give_number((Date { year, month, day }).weekday(), weekday)
 }
@@ -118,10 +108,8 @@ pub extern "C" fn panel_date_next(
     next_month: &mut u16,
     next_day: &mut u16,
 ) -> u16
-    ensures code { λ r. ⌜ r ≡ code (nextAnswer (date year month day)) ⌝ }
-    ensures year { λ r. ⌜ now («next_year» .exit) ≡ left (nextAnswer (date year month day)) (λ x. x .year) (now («next_year» .entry)) ⌝ }
-    ensures month { λ r. ⌜ now («next_month» .exit) ≡ left (nextAnswer (date year month day)) (λ x. x .month) (now («next_month» .entry)) ⌝ }
-    ensures day { λ r. ⌜ now («next_day» .exit) ≡ left (nextAnswer (date year month day)) (λ x. x .day) (now («next_day» .entry)) ⌝ }
+    ensures { λ r. ⌜ (r, (now («next_year» .exit), now («next_month» .exit), now («next_day» .exit)))
+        ≡ gives (nextAnswer (date year month day)) numbers (now («next_year» .entry), now («next_month» .entry), now («next_day» .entry)) ⌝ }
 {
     give_date(
         (Date { year, month, day }).next(),
@@ -139,10 +127,8 @@ pub extern "C" fn panel_date_from_day_number(
     month: &mut u16,
     day: &mut u16,
 ) -> u16
-    ensures code { λ r. ⌜ r ≡ code (dateAnswer number) ⌝ }
-    ensures year { λ r. ⌜ now (year .exit) ≡ left (dateAnswer number) (λ x. x .year) (now (year .entry)) ⌝ }
-    ensures month { λ r. ⌜ now (month .exit) ≡ left (dateAnswer number) (λ x. x .month) (now (month .entry)) ⌝ }
-    ensures day { λ r. ⌜ now (day .exit) ≡ left (dateAnswer number) (λ x. x .day) (now (day .entry)) ⌝ }
+    ensures { λ r. ⌜ (r, (now (year .exit), now (month .exit), now (day .exit)))
+        ≡ gives (dateAnswer number) numbers (now (year .entry), now (month .entry), now (day .entry)) ⌝ }
 {
     give_date(Date::from_day_number(number), year, month, day)
 }
@@ -156,8 +142,7 @@ pub extern "C" fn panel_julian_day(
     fraction: f64,
     ut: &mut f64,
 ) -> u16
-    ensures code { λ r. ⌜ r ≡ code (julianAnswer (date year month day) fraction) ⌝ }
-    ensures ut { λ r. ⌜ now (ut .exit) ≡ left (julianAnswer (date year month day) fraction) (λ x. x) (now (ut .entry)) ⌝ }
+    ensures { λ r. ⌜ (r, now (ut .exit)) ≡ gives (julianAnswer (date year month day) fraction) (λ x. x) (now (ut .entry)) ⌝ }
 {
     give_julian(
         gregorian::julian_day(Date { year, month, day }, fraction),
@@ -168,10 +153,8 @@ pub extern "C" fn panel_julian_day(
 // The date in Nepal at an instant: 8, 3.
 #[no_mangle]
 pub extern "C" fn panel_npt_date(ut: f64, year: &mut u16, month: &mut u16, day: &mut u16) -> u16
-    ensures code { λ r. ⌜ r ≡ code (nptAnswer ut) ⌝ }
-    ensures year { λ r. ⌜ now (year .exit) ≡ left (nptAnswer ut) (λ x. x .year) (now (year .entry)) ⌝ }
-    ensures month { λ r. ⌜ now (month .exit) ≡ left (nptAnswer ut) (λ x. x .month) (now (month .entry)) ⌝ }
-    ensures day { λ r. ⌜ now (day .exit) ≡ left (nptAnswer ut) (λ x. x .day) (now (day .entry)) ⌝ }
+    ensures { λ r. ⌜ (r, (now (year .exit), now (month .exit), now (day .exit)))
+        ≡ gives (nptAnswer ut) numbers (now (year .entry), now (month .entry), now (day .entry)) ⌝ }
 {
     give_npt(gregorian::npt_date(UtDay(ut)), year, month, day)
 }

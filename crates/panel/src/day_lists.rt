@@ -2,14 +2,13 @@
 ghost use mathlib.Core.Path.{_≡_};
 ghost use Rattle.rules.specs.Rules.{acceptedRules};
 ghost use Rattle.festivals.specs.Answers.{listSays, onBs, onAd};
-ghost use Rattle.panel.specs.Boundary.{code, left, table, accepting};
-use conversion::Table;
+ghost use Rattle.panel.specs.Boundary.{code, gives, givesList, table, accepting};
+use crate::table_of;
 use festivals::ListAnswer;
 
 // The number of festivals where it is asked for.
 fn give_count(answer: ListAnswer, count: &mut usize) -> u16
-    ensures code { λ r. ⌜ r ≡ code (listSays answer) ⌝ }
-    ensures count { λ r. ⌜ now (count .exit) ≡ left (listSays answer) (λ n. n) (now (count .entry)) ⌝ }
+    ensures { λ r. ⌜ (r, now (count .exit)) ≡ gives (listSays answer) (λ x. x) (now (count .entry)) ⌝ }
 {
     match answer {
         ListAnswer::Count(n) => {
@@ -50,16 +49,11 @@ pub extern "C" fn panel_festivals_on(
     festivals: &mut [u16],
     count: &mut usize,
 ) -> u16
-    ensures festivals { λ r. ⌜ now (festivals .exit) ≡ onBs (table «first_year» «first_ad_year» «first_ad_month» «first_ad_day») (now (rows .entry)) (now (rules .entry)) year month day (now (festivals .entry)) .buffer ⌝ }
-    ensures code { λ r. ⌜ r ≡ code (onBs (table «first_year» «first_ad_year» «first_ad_month» «first_ad_day») (now (rows .entry)) (now (rules .entry)) year month day (now (festivals .entry)) .answer) ⌝ }
-    ensures count { λ r. ⌜ now (count .exit) ≡ left (onBs (table «first_year» «first_ad_year» «first_ad_month» «first_ad_day») (now (rows .entry)) (now (rules .entry)) year month day (now (festivals .entry)) .answer) (λ n. n) (now (count .entry)) ⌝ }
+    ensures { λ r. ⌜ ((r, now (count .exit)), now (festivals .exit))
+        ≡ givesList (onBs (table «first_year» «first_ad_year» «first_ad_month» «first_ad_day»)
+        (now (rows .entry)) (now (rules .entry)) year month day (now (festivals .entry))) (now (count .entry)) ⌝ }
 {
-    let table = Table {
-        first_year,
-        year: first_ad_year,
-        month: first_ad_month,
-        day: first_ad_day,
-    };
+    let table = table_of(first_year, first_ad_year, first_ad_month, first_ad_day);
     give_count(
         festivals::festivals_on(table, rows, rules, year, month, day, festivals),
         count,
@@ -81,16 +75,11 @@ pub extern "C" fn panel_festivals_on_ad(
     festivals: &mut [u16],
     count: &mut usize,
 ) -> u16
-    ensures festivals { λ r. ⌜ now (festivals .exit) ≡ onAd (table «first_year» «first_ad_year» «first_ad_month» «first_ad_day») (now (rows .entry)) (now (rules .entry)) year month day (now (festivals .entry)) .buffer ⌝ }
-    ensures code { λ r. ⌜ r ≡ code (onAd (table «first_year» «first_ad_year» «first_ad_month» «first_ad_day») (now (rows .entry)) (now (rules .entry)) year month day (now (festivals .entry)) .answer) ⌝ }
-    ensures count { λ r. ⌜ now (count .exit) ≡ left (onAd (table «first_year» «first_ad_year» «first_ad_month» «first_ad_day») (now (rows .entry)) (now (rules .entry)) year month day (now (festivals .entry)) .answer) (λ n. n) (now (count .entry)) ⌝ }
+    ensures { λ r. ⌜ ((r, now (count .exit)), now (festivals .exit))
+        ≡ givesList (onAd (table «first_year» «first_ad_year» «first_ad_month» «first_ad_day»)
+        (now (rows .entry)) (now (rules .entry)) year month day (now (festivals .entry))) (now (count .entry)) ⌝ }
 {
-    let table = Table {
-        first_year,
-        year: first_ad_year,
-        month: first_ad_month,
-        day: first_ad_day,
-    };
+    let table = table_of(first_year, first_ad_year, first_ad_month, first_ad_day);
     give_count(
         festivals::festivals_on_ad(table, rows, rules, year, month, day, festivals),
         count,

@@ -4,7 +4,7 @@ ghost use lib.ListN.{length};
 ghost use Rattle.sky.specs.Time.{deltaT};
 ghost use Rattle.sky.specs.Tithi.{tithiOf};
 ghost use Rattle.sky.specs.Answers.{ttSays, ttAnswer, degreesSays, sunAnswer, moonAnswer, elongationAnswer, tithiSays, tithiAnswer, startsSays, startsAnswer, startsBuffer, endSays, endAnswer};
-ghost use Rattle.panel.specs.Boundary.{code, left, some?, leftSome};
+ghost use Rattle.panel.specs.Boundary.{gives, givesSome};
 use gregorian::UtDay;
 use sky::DegreesAnswer;
 use sky::EndAnswer;
@@ -15,8 +15,7 @@ use sky::TtDay;
 
 // A day of terrestrial time where it is asked for.
 fn give_tt(answer: TtAnswer, tt: &mut f64) -> u16
-    ensures code { λ r. ⌜ r ≡ code (ttSays answer) ⌝ }
-    ensures tt { λ r. ⌜ now (tt .exit) ≡ left (ttSays answer) (λ x. x) (now (tt .entry)) ⌝ }
+    ensures { λ r. ⌜ (r, now (tt .exit)) ≡ gives (ttSays answer) (λ x. x) (now (tt .entry)) ⌝ }
 {
     let TtAnswer::At(day) = answer else {
         return 8;
@@ -27,8 +26,7 @@ fn give_tt(answer: TtAnswer, tt: &mut f64) -> u16
 
 // An angle where it is asked for.
 fn give_degrees(answer: DegreesAnswer, degrees: &mut f64) -> u16
-    ensures code { λ r. ⌜ r ≡ code (degreesSays answer) ⌝ }
-    ensures degrees { λ r. ⌜ now (degrees .exit) ≡ left (degreesSays answer) (λ x. x) (now (degrees .entry)) ⌝ }
+    ensures { λ r. ⌜ (r, now (degrees .exit)) ≡ gives (degreesSays answer) (λ x. x) (now (degrees .entry)) ⌝ }
 {
     let DegreesAnswer::Is(angle) = answer else {
         return 8;
@@ -39,8 +37,7 @@ fn give_degrees(answer: DegreesAnswer, degrees: &mut f64) -> u16
 
 // A tithi's number where it is asked for.
 fn give_tithi(answer: TithiAnswer, tithi: &mut u16) -> u16
-    ensures code { λ r. ⌜ r ≡ code (tithiSays answer) ⌝ }
-    ensures tithi { λ r. ⌜ now (tithi .exit) ≡ left (tithiSays answer) (λ n. n) (now (tithi .entry)) ⌝ }
+    ensures { λ r. ⌜ (r, now (tithi .exit)) ≡ gives (tithiSays answer) (λ x. x) (now (tithi .entry)) ⌝ }
 {
     let TithiAnswer::Is(n) = answer else {
         return 8;
@@ -51,9 +48,7 @@ fn give_tithi(answer: TithiAnswer, tithi: &mut u16) -> u16
 
 // The numbers of starts and of steps where they are asked for.
 fn give_starts(answer: StartsAnswer, count: &mut usize, steps: &mut usize) -> u16
-    ensures code { λ r. ⌜ r ≡ code (startsSays answer) ⌝ }
-    ensures count { λ r. ⌜ now (count .exit) ≡ left (startsSays answer) (λ x. x .0) (now (count .entry)) ⌝ }
-    ensures steps { λ r. ⌜ now (steps .exit) ≡ left (startsSays answer) (λ x. x .1) (now (steps .entry)) ⌝ }
+    ensures { λ r. ⌜ (r, (now (count .exit), now (steps .exit))) ≡ gives (startsSays answer) (λ x. x) (now (count .entry), now (steps .entry)) ⌝ }
 {
     match answer {
         StartsAnswer::Found { count: n, steps: k } => {
@@ -69,9 +64,7 @@ fn give_starts(answer: StartsAnswer, count: &mut usize, steps: &mut usize) -> u1
 
 // An instant where it is asked for, if there is one, and whether there is.
 fn give_end(answer: EndAnswer, found: &mut u16, end: &mut f64) -> u16
-    ensures code { λ r. ⌜ r ≡ code (endSays answer) ⌝ }
-    ensures found { λ r. ⌜ now (found .exit) ≡ left (endSays answer) some? (now (found .entry)) ⌝ }
-    ensures end { λ r. ⌜ now (end .exit) ≡ leftSome (endSays answer) (λ x. x) (now (end .entry)) ⌝ }
+    ensures { λ r. ⌜ (r, (now (found .exit), now (end .exit))) ≡ givesSome (endSays answer) (λ x. x) (now (found .entry), now (end .entry)) ⌝ }
 {
     match answer {
         EndAnswer::At(at) => {
@@ -100,8 +93,7 @@ pub extern "C" fn panel_delta_t(year: f64, seconds: &mut f64) -> u16
 // The day of terrestrial time at an instant: 8.
 #[no_mangle]
 pub extern "C" fn panel_tt_from_ut(ut: f64, tt: &mut f64) -> u16
-    ensures code { λ r. ⌜ r ≡ code (ttAnswer ut) ⌝ }
-    ensures tt { λ r. ⌜ now (tt .exit) ≡ left (ttAnswer ut) (λ x. x) (now (tt .entry)) ⌝ }
+    ensures { λ r. ⌜ (r, now (tt .exit)) ≡ gives (ttAnswer ut) (λ x. x) (now (tt .entry)) ⌝ }
 {
     give_tt(sky::tt_from_ut(UtDay(ut)), tt)
 }
@@ -109,8 +101,7 @@ pub extern "C" fn panel_tt_from_ut(ut: f64, tt: &mut f64) -> u16
 // The longitude of the sun on a day of terrestrial time: 8.
 #[no_mangle]
 pub extern "C" fn panel_sun_longitude(tt: f64, degrees: &mut f64) -> u16
-    ensures code { λ r. ⌜ r ≡ code (sunAnswer tt) ⌝ }
-    ensures degrees { λ r. ⌜ now (degrees .exit) ≡ left (sunAnswer tt) (λ x. x) (now (degrees .entry)) ⌝ }
+    ensures { λ r. ⌜ (r, now (degrees .exit)) ≡ gives (sunAnswer tt) (λ x. x) (now (degrees .entry)) ⌝ }
 {
     give_degrees(sky::sun_longitude(TtDay(tt)), degrees)
 }
@@ -118,8 +109,7 @@ pub extern "C" fn panel_sun_longitude(tt: f64, degrees: &mut f64) -> u16
 // The longitude of the moon on a day of terrestrial time: 8.
 #[no_mangle]
 pub extern "C" fn panel_moon_longitude(tt: f64, degrees: &mut f64) -> u16
-    ensures code { λ r. ⌜ r ≡ code (moonAnswer tt) ⌝ }
-    ensures degrees { λ r. ⌜ now (degrees .exit) ≡ left (moonAnswer tt) (λ x. x) (now (degrees .entry)) ⌝ }
+    ensures { λ r. ⌜ (r, now (degrees .exit)) ≡ gives (moonAnswer tt) (λ x. x) (now (degrees .entry)) ⌝ }
 {
     give_degrees(sky::moon_longitude(TtDay(tt)), degrees)
 }
@@ -127,8 +117,7 @@ pub extern "C" fn panel_moon_longitude(tt: f64, degrees: &mut f64) -> u16
 // The moon's elongation from the sun at an instant: 8.
 #[no_mangle]
 pub extern "C" fn panel_elongation(ut: f64, degrees: &mut f64) -> u16
-    ensures code { λ r. ⌜ r ≡ code (elongationAnswer ut) ⌝ }
-    ensures degrees { λ r. ⌜ now (degrees .exit) ≡ left (elongationAnswer ut) (λ x. x) (now (degrees .entry)) ⌝ }
+    ensures { λ r. ⌜ (r, now (degrees .exit)) ≡ gives (elongationAnswer ut) (λ x. x) (now (degrees .entry)) ⌝ }
 {
     give_degrees(sky::elongation(UtDay(ut)), degrees)
 }
@@ -146,8 +135,7 @@ pub extern "C" fn panel_tithi_of(degrees: f64, tithi: &mut u16) -> u16
 // The tithi running at an instant: 8.
 #[no_mangle]
 pub extern "C" fn panel_tithi_at(ut: f64, tithi: &mut u16) -> u16
-    ensures code { λ r. ⌜ r ≡ code (tithiAnswer ut) ⌝ }
-    ensures tithi { λ r. ⌜ now (tithi .exit) ≡ left (tithiAnswer ut) (λ n. n) (now (tithi .entry)) ⌝ }
+    ensures { λ r. ⌜ (r, now (tithi .exit)) ≡ gives (tithiAnswer ut) (λ x. x) (now (tithi .entry)) ⌝ }
 {
     give_tithi(sky::tithi_at(UtDay(ut)), tithi)
 }
@@ -163,9 +151,8 @@ pub extern "C" fn panel_tithi_starts_between(
     steps: &mut usize,
 ) -> u16
     ensures starts { λ r. ⌜ now (starts .exit) ≡ startsBuffer tithi from to (now (starts .entry)) ⌝ }
-    ensures code { λ r. ⌜ r ≡ code (startsAnswer tithi from to (length (now (starts .entry)))) ⌝ }
-    ensures count { λ r. ⌜ now (count .exit) ≡ left (startsAnswer tithi from to (length (now (starts .entry)))) (λ x. x .0) (now (count .entry)) ⌝ }
-    ensures steps { λ r. ⌜ now (steps .exit) ≡ left (startsAnswer tithi from to (length (now (starts .entry)))) (λ x. x .1) (now (steps .entry)) ⌝ }
+    ensures found { λ r. ⌜ (r, (now (count .exit), now (steps .exit)))
+        ≡ gives (startsAnswer tithi from to (length (now (starts .entry)))) (λ x. x) (now (count .entry), now (steps .entry)) ⌝ }
 {
     give_starts(
         sky::tithi_starts_between(tithi, UtDay(from), UtDay(to), starts),
@@ -177,9 +164,7 @@ pub extern "C" fn panel_tithi_starts_between(
 // Where the tithi that runs at an instant ends, if it does in two and a half days: 8.
 #[no_mangle]
 pub extern "C" fn panel_tithi_end(ut: f64, found: &mut u16, end: &mut f64) -> u16
-    ensures code { λ r. ⌜ r ≡ code (endAnswer ut) ⌝ }
-    ensures found { λ r. ⌜ now (found .exit) ≡ left (endAnswer ut) some? (now (found .entry)) ⌝ }
-    ensures end { λ r. ⌜ now (end .exit) ≡ leftSome (endAnswer ut) (λ x. x) (now (end .entry)) ⌝ }
+    ensures { λ r. ⌜ (r, (now (found .exit), now (end .exit))) ≡ givesSome (endAnswer ut) (λ x. x) (now (found .entry), now (end .entry)) ⌝ }
 {
     give_end(sky::tithi_end(UtDay(ut)), found, end)
 }

@@ -1,5 +1,9 @@
 // The engine for C: numbers, lent slices and lent places alone. Each function answers 0 or the number of a refusal of document 01; a refusal changes
 // no lent place. Each promises what the engine's function of that name promises, by the same definition.
+ghost use mathlib.Core.Path.{_≡_};
+ghost use Rattle.panel.specs.Boundary.{table};
+use conversion::Table;
+
 mod almanac;
 mod conversions;
 mod dates;
@@ -7,3 +11,15 @@ mod day_lists;
 mod heavens;
 mod months;
 mod trigonometry;
+
+// The year table of its four numbers: its first year, and the Gregorian date of its first day.
+fn table_of(first_year: u16, year: u16, month: u16, day: u16) -> Table
+    ensures { λ r. ⌜ r ≡ table «first_year» year month day ⌝ }
+{
+    Table {
+        first_year,
+        year,
+        month,
+        day,
+    }
+}

@@ -3,17 +3,16 @@ ghost use mathlib.Core.Path.{_≡_};
 ghost use Rattle.grid.specs.Step.{stepMonth, stepSays};
 ghost use Rattle.grid.specs.Month.{gridSays};
 ghost use Rattle.grid.specs.Kathmandu.{monthShown};
-ghost use Rattle.panel.specs.Boundary.{code, left, date, table, lent};
-use conversion::Table;
+ghost use Rattle.panel.specs.Boundary.{gives, monthOf, monthNumbers, givesMonth, date, table, lent};
+use crate::table_of;
 use gregorian::Date;
 use grid::GridAnswer;
 use grid::StepAnswer;
 
 // A month's two numbers where they are asked for.
 fn give_month(answer: StepAnswer, year: &mut u16, month: &mut u8) -> u16
-    ensures code { λ r. ⌜ r ≡ code (stepSays answer) ⌝ }
-    ensures year { λ r. ⌜ now (year .exit) ≡ left (stepSays answer) (λ x. x .year) (now (year .entry)) ⌝ }
-    ensures month { λ r. ⌜ now (month .exit) ≡ left (stepSays answer) (λ x. x .month) (now (month .entry)) ⌝ }
+    ensures { λ r. ⌜ (r, (now (year .exit), now (month .exit)))
+        ≡ gives (stepSays answer) monthOf (now (year .entry), now (month .entry)) ⌝ }
 {
     match answer {
         StepAnswer::Month(stepped) => {
@@ -39,16 +38,23 @@ fn give_grid(
     cell_count: &mut usize,
     festival_count: &mut usize,
 ) -> u16
-    ensures code { λ r. ⌜ r ≡ code (gridSays answer) ⌝ }
-    ensures days { λ r. ⌜ now (days .exit) ≡ left (gridSays answer) (λ x. x .days) (now (days .entry)) ⌝ }
-    ensures from_year { λ r. ⌜ now («from_year» .exit) ≡ left (gridSays answer) (λ x. x .first .year) (now («from_year» .entry)) ⌝ }
-    ensures from_month { λ r. ⌜ now («from_month» .exit) ≡ left (gridSays answer) (λ x. x .first .month) (now («from_month» .entry)) ⌝ }
-    ensures from_day { λ r. ⌜ now («from_day» .exit) ≡ left (gridSays answer) (λ x. x .first .day) (now («from_day» .entry)) ⌝ }
-    ensures to_year { λ r. ⌜ now («to_year» .exit) ≡ left (gridSays answer) (λ x. x .last .year) (now («to_year» .entry)) ⌝ }
-    ensures to_month { λ r. ⌜ now («to_month» .exit) ≡ left (gridSays answer) (λ x. x .last .month) (now («to_month» .entry)) ⌝ }
-    ensures to_day { λ r. ⌜ now («to_day» .exit) ≡ left (gridSays answer) (λ x. x .last .day) (now («to_day» .entry)) ⌝ }
-    ensures cell_count { λ r. ⌜ now («cell_count» .exit) ≡ left (gridSays answer) (λ x. x .cells) (now («cell_count» .entry)) ⌝ }
-    ensures festival_count { λ r. ⌜ now («festival_count» .exit) ≡ left (gridSays answer) (λ x. x .festivals) (now («festival_count» .entry)) ⌝ }
+    ensures { λ r. ⌜ (
+      r,
+      (
+        now (days .exit),
+        (now («from_year» .exit), now («from_month» .exit), now («from_day» .exit)),
+        (now («to_year» .exit), now («to_month» .exit), now («to_day» .exit)),
+        now («cell_count» .exit),
+        now («festival_count» .exit),
+      ),
+    )
+        ≡ gives (gridSays answer) monthNumbers (
+          now (days .entry),
+          (now («from_year» .entry), now («from_month» .entry), now («from_day» .entry)),
+          (now («to_year» .entry), now («to_month» .entry), now («to_day» .entry)),
+          now («cell_count» .entry),
+          now («festival_count» .entry),
+        ) ⌝ }
 {
     match answer {
         GridAnswer::Is(shown) => {
@@ -86,16 +92,11 @@ pub extern "C" fn panel_step_month(
     to_year: &mut u16,
     to_month: &mut u8,
 ) -> u16
-    ensures code { λ r. ⌜ r ≡ code (stepMonth (lent «first_year» «first_ad_year» «first_ad_month» «first_ad_day» (now (rows .entry))) year month step) ⌝ }
-    ensures year { λ r. ⌜ now («to_year» .exit) ≡ left (stepMonth (lent «first_year» «first_ad_year» «first_ad_month» «first_ad_day» (now (rows .entry))) year month step) (λ x. x .year) (now («to_year» .entry)) ⌝ }
-    ensures month { λ r. ⌜ now («to_month» .exit) ≡ left (stepMonth (lent «first_year» «first_ad_year» «first_ad_month» «first_ad_day» (now (rows .entry))) year month step) (λ x. x .month) (now («to_month» .entry)) ⌝ }
+    ensures { λ r. ⌜ (r, (now («to_year» .exit), now («to_month» .exit)))
+        ≡ gives (stepMonth (lent «first_year» «first_ad_year» «first_ad_month» «first_ad_day» (now (rows .entry))) year month step) monthOf
+        (now («to_year» .entry), now («to_month» .entry)) ⌝ }
 {
-    let table = Table {
-        first_year,
-        year: first_ad_year,
-        month: first_ad_month,
-        day: first_ad_day,
-    };
+    let table = table_of(first_year, first_ad_year, first_ad_month, first_ad_day);
     give_month(
         grid::step_month(table, rows, year, month, step),
         to_year,
@@ -130,25 +131,30 @@ pub extern "C" fn panel_month_grid(
     cell_count: &mut usize,
     festival_count: &mut usize,
 ) -> u16
-    ensures cells { λ r. ⌜ now (cells .exit) ≡ monthShown (table «first_year» «first_ad_year» «first_ad_month» «first_ad_day») (now (rows .entry)) (now (rules .entry)) (date «today_year» «today_month» «today_day») year month (now (cells .entry)) (now (festivals .entry)) .cells ⌝ }
-    ensures festivals { λ r. ⌜ now (festivals .exit) ≡ monthShown (table «first_year» «first_ad_year» «first_ad_month» «first_ad_day») (now (rows .entry)) (now (rules .entry)) (date «today_year» «today_month» «today_day») year month (now (cells .entry)) (now (festivals .entry)) .festivals ⌝ }
-    ensures code { λ r. ⌜ r ≡ code (monthShown (table «first_year» «first_ad_year» «first_ad_month» «first_ad_day») (now (rows .entry)) (now (rules .entry)) (date «today_year» «today_month» «today_day») year month (now (cells .entry)) (now (festivals .entry)) .answer) ⌝ }
-    ensures days { λ r. ⌜ now (days .exit) ≡ left (monthShown (table «first_year» «first_ad_year» «first_ad_month» «first_ad_day») (now (rows .entry)) (now (rules .entry)) (date «today_year» «today_month» «today_day») year month (now (cells .entry)) (now (festivals .entry)) .answer) (λ x. x .days) (now (days .entry)) ⌝ }
-    ensures from_year { λ r. ⌜ now («from_year» .exit) ≡ left (monthShown (table «first_year» «first_ad_year» «first_ad_month» «first_ad_day») (now (rows .entry)) (now (rules .entry)) (date «today_year» «today_month» «today_day») year month (now (cells .entry)) (now (festivals .entry)) .answer) (λ x. x .first .year) (now («from_year» .entry)) ⌝ }
-    ensures from_month { λ r. ⌜ now («from_month» .exit) ≡ left (monthShown (table «first_year» «first_ad_year» «first_ad_month» «first_ad_day») (now (rows .entry)) (now (rules .entry)) (date «today_year» «today_month» «today_day») year month (now (cells .entry)) (now (festivals .entry)) .answer) (λ x. x .first .month) (now («from_month» .entry)) ⌝ }
-    ensures from_day { λ r. ⌜ now («from_day» .exit) ≡ left (monthShown (table «first_year» «first_ad_year» «first_ad_month» «first_ad_day») (now (rows .entry)) (now (rules .entry)) (date «today_year» «today_month» «today_day») year month (now (cells .entry)) (now (festivals .entry)) .answer) (λ x. x .first .day) (now («from_day» .entry)) ⌝ }
-    ensures to_year { λ r. ⌜ now («to_year» .exit) ≡ left (monthShown (table «first_year» «first_ad_year» «first_ad_month» «first_ad_day») (now (rows .entry)) (now (rules .entry)) (date «today_year» «today_month» «today_day») year month (now (cells .entry)) (now (festivals .entry)) .answer) (λ x. x .last .year) (now («to_year» .entry)) ⌝ }
-    ensures to_month { λ r. ⌜ now («to_month» .exit) ≡ left (monthShown (table «first_year» «first_ad_year» «first_ad_month» «first_ad_day») (now (rows .entry)) (now (rules .entry)) (date «today_year» «today_month» «today_day») year month (now (cells .entry)) (now (festivals .entry)) .answer) (λ x. x .last .month) (now («to_month» .entry)) ⌝ }
-    ensures to_day { λ r. ⌜ now («to_day» .exit) ≡ left (monthShown (table «first_year» «first_ad_year» «first_ad_month» «first_ad_day») (now (rows .entry)) (now (rules .entry)) (date «today_year» «today_month» «today_day») year month (now (cells .entry)) (now (festivals .entry)) .answer) (λ x. x .last .day) (now («to_day» .entry)) ⌝ }
-    ensures cell_count { λ r. ⌜ now («cell_count» .exit) ≡ left (monthShown (table «first_year» «first_ad_year» «first_ad_month» «first_ad_day») (now (rows .entry)) (now (rules .entry)) (date «today_year» «today_month» «today_day») year month (now (cells .entry)) (now (festivals .entry)) .answer) (λ x. x .cells) (now («cell_count» .entry)) ⌝ }
-    ensures festival_count { λ r. ⌜ now («festival_count» .exit) ≡ left (monthShown (table «first_year» «first_ad_year» «first_ad_month» «first_ad_day») (now (rows .entry)) (now (rules .entry)) (date «today_year» «today_month» «today_day») year month (now (cells .entry)) (now (festivals .entry)) .answer) (λ x. x .festivals) (now («festival_count» .entry)) ⌝ }
+    ensures { λ r. ⌜ (
+      (
+        r,
+        (
+          now (days .exit),
+          (now («from_year» .exit), now («from_month» .exit), now («from_day» .exit)),
+          (now («to_year» .exit), now («to_month» .exit), now («to_day» .exit)),
+          now («cell_count» .exit),
+          now («festival_count» .exit),
+        ),
+      ),
+      now (cells .exit),
+      now (festivals .exit),
+    )
+        ≡ givesMonth (monthShown (table «first_year» «first_ad_year» «first_ad_month» «first_ad_day») (now (rows .entry)) (now (rules .entry))
+        (date «today_year» «today_month» «today_day») year month (now (cells .entry)) (now (festivals .entry))) (
+          now (days .entry),
+          (now («from_year» .entry), now («from_month» .entry), now («from_day» .entry)),
+          (now («to_year» .entry), now («to_month» .entry), now («to_day» .entry)),
+          now («cell_count» .entry),
+          now («festival_count» .entry),
+        ) ⌝ }
 {
-    let table = Table {
-        first_year,
-        year: first_ad_year,
-        month: first_ad_month,
-        day: first_ad_day,
-    };
+    let table = table_of(first_year, first_ad_year, first_ad_month, first_ad_day);
     let today = Date {
         year: today_year,
         month: today_month,

@@ -13,7 +13,8 @@ use Rattle.asked.specs.Tags.{LISTBS}
 use Rattle.asked.specs.declared.words.Words.{Words}
 use Rattle.replies.specs.declared.Reply.{Reply}
 use Rattle.replies.specs.declared.Reply.the-variants as R
-use Rattle.replies.specs.Replies.{said, formed, small, replyWords, barred}
+use Rattle.asked.specs.Line.{small}
+use Rattle.replies.specs.Replies.{said, formed, replyWords, barred}
 
 -- `checkrules`: whether the rules are accepted, or refusal 2
 abbrev pub rulesReply : List ℕ → Words → Reply

@@ -19,7 +19,8 @@ use Rattle.asked.specs.declared.words.Whole.the-variants.{Is, TooLarge}
 use Rattle.asked.specs.declared.words.Words.{Words}
 use Rattle.replies.specs.declared.Reply.{Reply}
 use Rattle.replies.specs.declared.Reply.the-variants as R
-use Rattle.replies.specs.Replies.{said, formed, small, dateIn, dateWords, replyWords, barred}
+use Rattle.asked.specs.Line.{small}
+use Rattle.replies.specs.Replies.{said, formed, dateIn, dateWords, replyWords, barred}
 
 -- a month's year and number
 abbrev pub monthly : BsMonth → Reply

@@ -8,11 +8,12 @@ use asked::Words;
 use gregorian::Date;
 use output::Out;
 use panchanga::lunar::Reading;
+use paper::Refusal;
 
 // A question mark for a line out of form, the number of a refusal alone, or 0 and values.
 pub enum Reply {
     Unformed,
-    Refused(u16),
+    Refused(Refusal),
     Good,
     Nothing,
     Number(u64),
@@ -56,7 +57,7 @@ impl Reply {
     {
         match self {
             Reply::Unformed => o.word(out, b"?"),
-            Reply::Refused(k) => o.number(out, k as u64),
+            Reply::Refused(k) => o.number(out, k.number() as u64),
             Reply::Good => o.number(out, 0),
             Reply::Nothing => o.number(out, 0).word(out, b"none"),
             Reply::Number(n) => o.number(out, 0).number(out, n),

@@ -1,91 +1,26 @@
-use mathlib.Core.Path.{refl}
-use Rattle.panel.specs.Boundary.{code, left}
 use borrow.Author.Needs.{needs}
 use Rattle.panel.proofs.day_lists.give_count.Statement.{statement}
 use Rattle.panel.proofs.day_lists.give_count.Tie as tie
-
-enum-known-answer : tie.Need-enum-known-answer
-enum-known-answer c = search needs
-
-enum-told : tie.Need-enum-told
-enum-told c = search needs
-
-enum-told-2 : tie.Need-enum-told-2
-enum-told-2 c = search needs
-
-enum-told-3 : tie.Need-enum-told-3
-enum-told-3 c = search needs
-
-enum-told-4 : tie.Need-enum-told-4
-enum-told-4 c = search needs
-
-enum-told-5 : tie.Need-enum-told-5
-enum-told-5 c = search needs
-
-enum-told-6 : tie.Need-enum-told-6
-enum-told-6 c = search needs
-
-enum-told-7 : tie.Need-enum-told-7
-enum-told-7 c = search needs
-
-enum-told-8 : tie.Need-enum-told-8
-enum-told-8 c = search needs
-
-returns : tie.Need-returns
-unfolding code left
-returns c = rw (c .before .answer .given .1) (refl, refl)
-
-returns-2 : tie.Need-returns-2
-unfolding code left
-returns-2 c = rw (c .enum-told .given .1) (refl, refl)
-
-returns-3 : tie.Need-returns-3
-unfolding code left
-returns-3 c = rw (c .enum-told2 .given .1) (refl, refl)
-
-returns-4 : tie.Need-returns-4
-unfolding code left
-returns-4 c = rw (c .enum-told3 .given .1) (refl, refl)
-
-returns-5 : tie.Need-returns-5
-unfolding code left
-returns-5 c = rw (c .enum-told4 .given .1) (refl, refl)
-
-returns-6 : tie.Need-returns-6
-unfolding code left
-returns-6 c = rw (c .enum-told5 .given .1) (refl, refl)
-
-returns-7 : tie.Need-returns-7
-unfolding code left
-returns-7 c = rw (c .enum-told6 .given .1) (refl, refl)
-
-returns-8 : tie.Need-returns-8
-unfolding code left
-returns-8 c = rw (c .enum-told7 .given .1) (refl, refl)
-
-returns-9 : tie.Need-returns-9
-unfolding code left
-returns-9 c = rw (c .enum-told8 .given .1) (refl, refl)
 
 pub give-count-spec : {M : Type 1} → statement M
 give-count-spec =
     tie.close
     (tie.spec
-    enum-known-answer
-    enum-told
-    enum-told-2
-    enum-told-3
-    enum-told-4
-    enum-told-5
-    enum-told-6
-    enum-told-7
-    enum-told-8
-    returns
-    returns-2
-    returns-3
-    returns-4
-    returns-5
-    returns-6
-    returns-7
-    returns-8
-    returns-9)
+    (λ c. search needs)
+    (λ c. search needs)
+    (λ c. search needs)
+    (λ c. search needs)
+    (λ c. search needs)
+    (λ c. search needs)
+    (λ c. search needs)
+    (λ c. search needs)
+    (λ c. search needs)
+    (λ c. search needs)
+    (λ c. cc)
+    (λ c. cc)
+    (λ c. cc)
+    (λ c. cc)
+    (λ c. cc)
+    (λ c. cc)
+    (λ c. cc)
+    (λ c. cc))
