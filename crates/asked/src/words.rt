@@ -2,11 +2,10 @@
 ghost use mathlib.Core.Path.{_≡_};
 ghost use Prim.Native.Nat.{_<_, _≤_};
 ghost use mathlib.Core.Bool.{true, false};
-ghost use lib.Ieee.{binary64, ofBits};
 ghost use lib.ListN.{take, drop, getD};
 ghost use Rattle.text.specs.Reading.{Says, readSays, readEnd};
 ghost use Rattle.asked.specs.Line as Line;
-ghost use Rattle.asked.specs.Line.{letter, letters, kindOf, kinded, foundSays, foundEnd, foundKind, unformed, wordsOf, fitting, wholeOf};
+ghost use Rattle.asked.specs.Line.{letter, letters, kindOf, kinded, foundSays, foundEnd, foundKind, unformed, wordsOf, wholeOf};
 use crate::floats;
 use text::Cursor;
 use text::Passed;

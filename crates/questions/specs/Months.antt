@@ -46,7 +46,7 @@ monthWords (answered m) =
     ++ (dateWords (m .first .year) (m .first .month) (m .first .day)
     ++ (dateWords (m .last .year) (m .last .month) (m .last .day)
     ++ (digits (m .cells) ∷ digits (m .festivals) ∷ [])))
-monthWords (refused k) = digits k ∷ []
+monthWords (refused k) = replyWords (R.Refused k)
 
 -- the month, and both buffers after the call
 abbrev pub shownWords : Shown → List (List ℕ)

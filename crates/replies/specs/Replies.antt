@@ -4,8 +4,7 @@ use mathlib.Core.Bool.{Bool, cond}
 use mathlib.Core.List.{List, [], _∷_, map}
 use mathlib.Core.Option.{Option, some, none}
 use lib.Dec.{eqb}
-use lib.Ieee.{Float, binary64, ofBits}
-use lib.ListN.{getD}
+use lib.Ieee.{Float}
 use Rattle.paper.specs.Answers.{Answer, answered, refused}
 use Rattle.paper.specs.Refusals.{number}
 use Rattle.text.specs.Digits.{digits}

@@ -27,7 +27,7 @@ pub enum Reply {
 }
 
 // A date as three words.
-pub fn put_date(o: Out, out: &mut [u8], year: u16, month: u16, day: u16) -> Out
+pub fn put_date_words(o: Out, out: &mut [u8], year: u16, month: u16, day: u16) -> Out
     ensures { λ r. ⌜ Gathers (now (out .entry)) o (dateWords year month day) (now (out .exit)) r ⌝ }
 {
     o.number(out, year as u64)
@@ -47,7 +47,7 @@ fn put_reading(o: Out, out: &mut [u8], x: Reading) -> Out
     ensures { λ r. ⌜ Gathers (now (out .entry)) o (replyWords (R.Reading x)) (now (out .exit)) r ⌝ }
 {
     let named = o.number(out, 0).number(out, x.tithi as u64);
-    put_date(named, out, x.end, x.sunrise, x.sunset)
+    put_date_words(named, out, x.end, x.sunrise, x.sunset)
 }
 
 impl Reply {
@@ -62,10 +62,10 @@ impl Reply {
             Reply::Nothing => o.number(out, 0).word(out, b"none"),
             Reply::Number(n) => o.number(out, 0).number(out, n),
             Reply::Pair(n, k) => put_pair(o, out, n, k),
-            Reply::Date(y, m, d) => put_date(o.number(out, 0), out, y, m, d),
+            Reply::Date(y, m, d) => put_date_words(o.number(out, 0), out, y, m, d),
             Reply::Float(x) => o.number(out, 0).float(out, x),
             Reply::Span(x, y) => o.number(out, 0).float(out, x).float(out, y),
-            Reply::Day(n, k, x) => put_date(
+            Reply::Day(n, k, x) => put_date_words(
                 put_pair(o, out, n as u64, k as u64),
                 out,
                 x.year,

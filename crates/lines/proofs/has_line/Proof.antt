@@ -12,9 +12,6 @@ slice-aggregate-has-feed : tie.Need-slice-aggregate-has-feed
 slice-aggregate-has-feed c = let a = c .before .before .before .args in
     sym (length-take-le (a .input .to) (a .piece .now) (c .before .if1 .taken))
 
-has-feed-requires : tie.Need-has-feed-requires
-has-feed-requires c κs = search needs
-
 returns : tie.Need-returns
 returns c = rw (le-leb _ _ (c .before .before .if1 .taken)) (c .has-feed .ensures)
 
@@ -22,4 +19,4 @@ returns-2 : tie.Need-returns-2
 returns-2 c = rw (lt-leb _ _ (c .if1 .left)) (feed-over [] (c .before .before .args .input .from) (search needs))
 
 pub has-line-spec : {M : Type 1} → statement M
-has-line-spec = tie.close (tie.spec slice-aggregate-has-feed has-feed-requires returns returns-2)
+has-line-spec = tie.close (tie.spec slice-aggregate-has-feed (λ c κs. search needs) returns returns-2)

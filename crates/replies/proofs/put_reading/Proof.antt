@@ -7,7 +7,7 @@ use Rattle.replies.proofs.put_reading.Tie as tie
 
 returns : tie.Need-returns
 unfolding replyWords
-returns c = then (c .before .before .before .before .before .before .before .before .before .before .before .number .ensures) (then (c .before .before .before .before .before .before .number2 .ensures) (c .before .before .put-date .ensures))
+returns c = then (c .before .before .before .before .before .before .before .before .before .before .before .number .ensures) (then (c .before .before .before .before .before .before .number2 .ensures) (c .before .before .put-date-words .ensures))
 
 pub put-reading-spec : {M : Type 1} → statement M
 put-reading-spec =

@@ -31,7 +31,7 @@ returns-6 c = rw (c .before .before .before .before .before .self3 .given .1) (c
 
 returns-7 : tie.Need-returns-7
 unfolding replyWords
-returns-7 c = rw (c .before .before .before .before .before .before .before .before .before .self4 .given .1) (then (c .before .before .before .before .before .before .number7 .ensures) (c .before .before .put-date .ensures))
+returns-7 c = rw (c .before .before .before .before .before .before .before .before .before .self4 .given .1) (then (c .before .before .before .before .before .before .number7 .ensures) (c .before .before .put-date-words .ensures))
 
 returns-8 : tie.Need-returns-8
 unfolding replyWords
@@ -43,7 +43,7 @@ returns-9 c = rw (c .before .before .before .before .before .before .before .bef
 
 returns-10 : tie.Need-returns-10
 unfolding replyWords
-returns-10 c = rw (c .before .before .before .before .before .before .before .before .before .self7 .given .1) (then (c .before .before .before .before .before .before .put-pair2 .ensures) (c .before .before .put-date2 .ensures))
+returns-10 c = rw (c .before .before .before .before .before .before .before .before .before .self7 .given .1) (then (c .before .before .before .before .before .before .put-pair2 .ensures) (c .before .before .put-date-words2 .ensures))
 
 returns-11 : tie.Need-returns-11
 unfolding replyWords
