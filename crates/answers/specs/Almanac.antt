@@ -13,15 +13,13 @@ use Rattle.asked.specs.Tags.{EVENTS, RISE, SET, NISHITA, READ, KALA}
 use Rattle.asked.specs.declared.words.Words.{Words}
 use Rattle.replies.specs.declared.Reply.{Reply}
 use Rattle.replies.specs.declared.Reply.the-variants as R
-use Rattle.replies.specs.Replies.{said, perhaps, formed, among, small, dateIn}
+use Rattle.asked.specs.Line.{small}
+use Rattle.replies.specs.Replies.{said, perhaps, formed, among, dateIn}
+use Rattle.answers.specs.Heavens.{instantReply}
 
 -- two instants or none
 abbrev pub spanReply : Answer (Option (Float × Float)) → Reply
 spanReply = said (perhaps (λ s. R.Span (s .0) (s .1)))
-
--- an instant or none
-abbrev pub instantReply : Answer (Option Float) → Reply
-instantReply = said (perhaps R.Float)
 
 -- by tag
 abbrev pub dateRows : Date → List (ℕ × Reply)

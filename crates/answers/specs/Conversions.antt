@@ -3,17 +3,19 @@ use Prim.Native.Nat.{ℕ}
 use mathlib.Core.Bool.{Bool, cond}
 use mathlib.Core.List.{List, [], _∷_}
 use lib.Dec.{eqb}
+use Rattle.paper.specs.declared.Refusal.the-variants.{BadTable}
 use Rattle.conversion.specs.Calendar.{Calendar, toAd, fromAd, monthLen, validBs}
 use Rattle.conversion.specs.declared.BsDate.{BsDate}
 use Rattle.asked.specs.Tags.{CHECK, BS, AD, LEN, VALID}
 use Rattle.asked.specs.declared.words.Words.{Words}
 use Rattle.replies.specs.declared.Reply.{Reply}
 use Rattle.replies.specs.declared.Reply.the-variants as R
-use Rattle.replies.specs.Replies.{said, dated, formed, among, small}
+use Rattle.asked.specs.Line.{small}
+use Rattle.replies.specs.Replies.{said, dated, formed, among}
 
--- whether the table is accepted: nothing more, or refusal 1
+-- whether the table is accepted: nothing more, or the refusal
 abbrev pub checked : Bool → Reply
-checked good = cond good R.Good (R.Refused 1)
+checked good = cond good R.Good (R.Refused BadTable)
 
 -- a BS date
 abbrev pub bsDated : BsDate → Reply

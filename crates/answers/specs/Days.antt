@@ -11,7 +11,8 @@ use Rattle.asked.specs.Tags.{DAY, DATE, JD, NPT}
 use Rattle.asked.specs.declared.words.Words.{Words}
 use Rattle.replies.specs.declared.Reply.{Reply}
 use Rattle.replies.specs.declared.Reply.the-variants as R
-use Rattle.replies.specs.Replies.{said, dated, formed, among, large, float, dateIn}
+use Rattle.asked.specs.Line.{large, float}
+use Rattle.replies.specs.Replies.{said, dated, formed, among, dateIn}
 
 -- a day number, a weekday, and the next date or none
 abbrev pub dayOf : Answer ℕ → Answer ℕ → Answer Date → Reply

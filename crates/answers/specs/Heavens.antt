@@ -1,8 +1,10 @@
 -- What the questions about an instant, a day of terrestrial time, a year, an elongation or a fraction of a day are answered. Assumes nothing.
 use Prim.Native.Nat.{ℕ}
 use mathlib.Core.List.{List, [], _∷_}
+use mathlib.Core.Option.{Option}
 use lib.Dec.{eqb}
 use lib.Ieee.{Float}
+use Rattle.paper.specs.Answers.{Answer}
 use Rattle.sky.specs.Time.{deltaT}
 use Rattle.sky.specs.Tithi.{tithiOf}
 use Rattle.sky.specs.Answers.{ttAnswer, sunAnswer, moonAnswer, elongationAnswer, tithiAnswer, endAnswer}
@@ -12,7 +14,12 @@ use Rattle.asked.specs.Tags.{DELTAT, TT, SUN, MOON, ELONG, TITHI, TITHIOF, END,
 use Rattle.asked.specs.declared.words.Words.{Words}
 use Rattle.replies.specs.declared.Reply.{Reply}
 use Rattle.replies.specs.declared.Reply.the-variants as R
-use Rattle.replies.specs.Replies.{said, perhaps, formed, among, float}
+use Rattle.asked.specs.Line.{float}
+use Rattle.replies.specs.Replies.{said, perhaps, formed, among}
+
+-- an instant or none
+abbrev pub instantReply : Answer (Option Float) → Reply
+instantReply = said (perhaps R.Float)
 
 -- by tag
 abbrev pub floatRows : Float → List (ℕ × Reply)
@@ -24,7 +31,7 @@ floatRows x =
     ∷ (ELONG, said R.Float (elongationAnswer x))
     ∷ (TITHI, said R.Number (tithiAnswer x))
     ∷ (TITHIOF, R.Number (tithiOf x))
-    ∷ (END, said (perhaps R.Float) (endAnswer x))
+    ∷ (END, instantReply (endAnswer x))
     ∷ (CLOCK, said R.Number (clockAnswer x))
     ∷ (MINUTES, R.Number (minutesOf x))
     ∷ []

@@ -9,7 +9,8 @@ use Rattle.paper.specs.Floats.{dec}
 use Rattle.output.specs.Floats.{floatText}
 use Rattle.asked.specs.declared.words.Words.{Words}
 use Rattle.sky.specs.Answers.{startsAnswer, startsBuffer}
-use Rattle.replies.specs.Replies.{said, small, float, replyWords, barred}
+use Rattle.asked.specs.Line.{small, float}
+use Rattle.replies.specs.Replies.{said, replyWords, barred}
 use Rattle.replies.specs.declared.Reply.the-variants as R
 
 -- what is answered of the starts of tithi n from a to b, and the buffer after the call

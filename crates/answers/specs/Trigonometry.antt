@@ -8,7 +8,8 @@ use Rattle.asked.specs.Tags.{SIN, COS, ASIN, ACOS, TAN}
 use Rattle.asked.specs.declared.words.Words.{Words}
 use Rattle.replies.specs.declared.Reply.{Reply}
 use Rattle.replies.specs.declared.Reply.the-variants as R
-use Rattle.replies.specs.Replies.{formed, among, float}
+use Rattle.asked.specs.Line.{float}
+use Rattle.replies.specs.Replies.{formed, among}
 
 -- by tag
 abbrev pub angleRows : Float → List (ℕ × Reply)

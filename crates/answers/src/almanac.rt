@@ -1,13 +1,14 @@
 // Questions about a date's sun, kalas and reading: `events`, `rise`, `set`, `kala`, `nishita` and `read`.
 ghost use mathlib.Core.Path.{_≡_};
-ghost use Rattle.panchanga.specs.Answers.{spanSays, instantSays, readingSays, kalaAnswer};
+ghost use Rattle.panchanga.specs.Answers.{spanSays, readingSays, kalaAnswer};
 ghost use Rattle.replies.specs.Replies.{said, among};
-ghost use Rattle.answers.specs.Almanac.{spanReply, instantReply, dateRows, kalaRows, almanacReply};
+ghost use Rattle.answers.specs.Heavens.{instantReply};
+ghost use Rattle.answers.specs.Almanac.{spanReply, dateRows, kalaRows, almanacReply};
 ghost use Rattle.replies.specs.declared.Reply.the-variants as R;
+use crate::heavens;
 use asked::Words;
 use asked::tags;
 use gregorian::Date;
-use panchanga::InstantAnswer;
 use panchanga::Kala;
 use panchanga::ReadingAnswer;
 use panchanga::SpanAnswer;
@@ -20,18 +21,7 @@ fn span(a: SpanAnswer) -> Reply
     match a {
         SpanAnswer::Is { from, to } => Reply::Span(from.0, to.0),
         SpanAnswer::Nothing => Reply::Nothing,
-        SpanAnswer::NoSuchDate => Reply::Refused(3),
-    }
-}
-
-// The reply of an instant, or of none.
-fn instant(a: InstantAnswer) -> Reply
-    ensures { λ r. ⌜ r ≡ instantReply (instantSays a) ⌝ }
-{
-    match a {
-        InstantAnswer::At(t) => Reply::Float(t.0),
-        InstantAnswer::Nothing => Reply::Nothing,
-        InstantAnswer::NoSuchDate => Reply::Refused(3),
+        SpanAnswer::Refused(e) => Reply::Refused(e),
     }
 }
 
@@ -41,7 +31,7 @@ fn reading(a: ReadingAnswer) -> Reply
 {
     match a {
         ReadingAnswer::Is(r) => Reply::Reading(r),
-        ReadingAnswer::NoSuchDate => Reply::Refused(3),
+        ReadingAnswer::Refused(e) => Reply::Refused(e),
     }
 }
 
@@ -51,8 +41,8 @@ fn of_date(tag: u64, d: Date) -> Reply
 {
     match tag {
         tags::EVENTS => span(panchanga::sun_events(d)),
-        tags::RISE => instant(panchanga::sunrise(d)),
-        tags::SET => instant(panchanga::sunset(d)),
+        tags::RISE => heavens::instant(panchanga::sunrise(d)),
+        tags::SET => heavens::instant(panchanga::sunset(d)),
         tags::NISHITA => span(panchanga::nishita_window(d)),
         tags::READ => reading(panchanga::reading(d)),
         _ => Reply::Unformed,
@@ -63,7 +53,7 @@ fn of_date(tag: u64, d: Date) -> Reply
 fn at(d: Date, kala: Kala) -> Reply
     ensures { λ r. ⌜ r ≡ instantReply (kalaAnswer kala d) ⌝ }
 {
-    instant(panchanga::kala_instant(d, kala))
+    heavens::instant(panchanga::kala_instant(d, kala))
 }
 
 // The reply of a kala's instant, by the kala's number.

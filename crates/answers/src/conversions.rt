@@ -1,18 +1,19 @@
 // Questions about the lent table: `check`, `bs`, `ad`, `len` and `valid`.
 ghost use mathlib.Core.Path.{_≡_};
-ghost use Rattle.conversion.specs.Answers.{adSays, bsSays, monthLenSays, validSays};
+ghost use Rattle.conversion.specs.Answers.{bsSays, daysSays, validSays};
 ghost use Rattle.conversion.specs.Flat.{flat};
-ghost use Rattle.replies.specs.Replies.{said, dated};
+ghost use Rattle.replies.specs.Replies.{said};
 ghost use Rattle.answers.specs.Conversions.{checked, bsDated, bsIn, conversionsReply};
 ghost use Rattle.replies.specs.declared.Reply.the-variants as R;
+use crate::days;
 use asked::Words;
 use asked::tags;
-use conversion::AdAnswer;
 use conversion::BsAnswer;
 use conversion::BsDate;
-use conversion::MonthLen;
+use conversion::MonthDays;
 use conversion::Table;
 use conversion::Validity;
+use paper::Refusal;
 use replies::Reply;
 
 // A BS date from a line's first three words.
@@ -33,20 +34,7 @@ fn check(accepted: bool) -> Reply
     if accepted {
         Reply::Good
     } else {
-        Reply::Refused(1)
-    }
-}
-
-// The reply of a Gregorian date.
-fn ad(a: AdAnswer) -> Reply
-    ensures { λ r. ⌜ r ≡ said dated (adSays a) ⌝ }
-{
-    match a {
-        AdAnswer::Is(d) => Reply::Date(d.year, d.month, d.day),
-        AdAnswer::BadTable => Reply::Refused(1),
-        AdAnswer::NoYear => Reply::Refused(4),
-        AdAnswer::NoMonth => Reply::Refused(5),
-        AdAnswer::NoDay => Reply::Refused(6),
+        Reply::Refused(Refusal::BadTable)
     }
 }
 
@@ -56,21 +44,17 @@ fn bs(a: BsAnswer) -> Reply
 {
     match a {
         BsAnswer::Is(b) => Reply::Date(b.year, b.month, b.day),
-        BsAnswer::BadTable => Reply::Refused(1),
-        BsAnswer::NoSuchDate => Reply::Refused(3),
-        BsAnswer::Outside => Reply::Refused(7),
+        BsAnswer::Refused(e) => Reply::Refused(e),
     }
 }
 
 // The reply of a month's days.
-fn len(a: MonthLen) -> Reply
-    ensures { λ r. ⌜ r ≡ said R.Number (monthLenSays a) ⌝ }
+fn len(a: MonthDays) -> Reply
+    ensures { λ r. ⌜ r ≡ said R.Number (daysSays a) ⌝ }
 {
     match a {
-        MonthLen::Days(n) => Reply::Number(n as u64),
-        MonthLen::BadTable => Reply::Refused(1),
-        MonthLen::NoYear => Reply::Refused(4),
-        MonthLen::NoMonth => Reply::Refused(5),
+        MonthDays::Days(n) => Reply::Number(n as u64),
+        MonthDays::Refused(e) => Reply::Refused(e),
     }
 }
 
@@ -80,10 +64,7 @@ fn valid(a: Validity) -> Reply
 {
     match a {
         Validity::Valid => Reply::Good,
-        Validity::BadTable => Reply::Refused(1),
-        Validity::NoYear => Reply::Refused(4),
-        Validity::NoMonth => Reply::Refused(5),
-        Validity::NoDay => Reply::Refused(6),
+        Validity::Refused(e) => Reply::Refused(e),
     }
 }
 
@@ -101,7 +82,7 @@ pub fn reply(w: Words, table: Table, rows: &[u16]) -> Reply
         }
         tags::BS => {
             if form == 111 {
-                return ad(conversion::bs_to_ad(table, rows, bs_date(w)));
+                return days::date(conversion::bs_to_ad(table, rows, bs_date(w)));
             }
         }
         tags::AD => {

@@ -2,7 +2,7 @@
 ghost use mathlib.Core.Path.{_≡_};
 ghost use Rattle.paper.specs.Answers.{answered};
 ghost use Rattle.gregorian.specs.Answers.{dateSays, numberSays, numberAnswer, weekdayAnswer, nextAnswer};
-ghost use Rattle.gregorian.specs.Instants.{julianSays, nptSays};
+ghost use Rattle.gregorian.specs.Instants.{julianSays};
 ghost use Rattle.replies.specs.Replies.{said, dated};
 ghost use Rattle.answers.specs.Days.{dayOf, daysReply};
 ghost use Rattle.replies.specs.declared.Reply.the-variants as R;
@@ -11,7 +11,6 @@ use asked::tags;
 use gregorian::Date;
 use gregorian::DateAnswer;
 use gregorian::JulianAnswer;
-use gregorian::NptAnswer;
 use gregorian::NumberAnswer;
 use gregorian::UtDay;
 use replies::Reply;
@@ -22,7 +21,7 @@ fn followed(n: u32, k: u32, next: DateAnswer) -> Reply
 {
     match next {
         DateAnswer::Is(d) => Reply::Day(n, k, d),
-        DateAnswer::NoSuchDate => Reply::LastDay(n, k),
+        DateAnswer::Refused(_) => Reply::LastDay(n, k),
     }
 }
 
@@ -32,7 +31,7 @@ fn with_weekday(n: u32, weekday: NumberAnswer, next: DateAnswer) -> Reply
 {
     match weekday {
         NumberAnswer::Number(k) => followed(n, k, next),
-        NumberAnswer::NoSuchDate => Reply::Refused(3),
+        NumberAnswer::Refused(e) => Reply::Refused(e),
     }
 }
 
@@ -43,17 +42,17 @@ fn day(d: Date) -> Reply
     let a = d.day_number();
     match a {
         NumberAnswer::Number(n) => with_weekday(n, d.weekday(), d.next()),
-        NumberAnswer::NoSuchDate => Reply::Refused(3),
+        NumberAnswer::Refused(e) => Reply::Refused(e),
     }
 }
 
-// The reply of a date.
-fn date(a: DateAnswer) -> Reply
+// The reply of a Gregorian date.
+pub fn date(a: DateAnswer) -> Reply
     ensures { λ r. ⌜ r ≡ said dated (dateSays a) ⌝ }
 {
     match a {
         DateAnswer::Is(d) => Reply::Date(d.year, d.month, d.day),
-        DateAnswer::NoSuchDate => Reply::Refused(3),
+        DateAnswer::Refused(e) => Reply::Refused(e),
     }
 }
 
@@ -63,19 +62,7 @@ fn julian(a: JulianAnswer) -> Reply
 {
     match a {
         JulianAnswer::At(t) => Reply::Float(t.0),
-        JulianAnswer::NoSuchDate => Reply::Refused(3),
-        JulianAnswer::OutOfRange => Reply::Refused(8),
-    }
-}
-
-// The reply of a date in Nepal.
-fn npt(a: NptAnswer) -> Reply
-    ensures { λ r. ⌜ r ≡ said dated (nptSays a) ⌝ }
-{
-    match a {
-        NptAnswer::Is(d) => Reply::Date(d.year, d.month, d.day),
-        NptAnswer::NoSuchDate => Reply::Refused(3),
-        NptAnswer::OutOfRange => Reply::Refused(8),
+        JulianAnswer::Refused(e) => Reply::Refused(e),
     }
 }
 
@@ -103,7 +90,7 @@ pub fn reply(w: Words) -> Reply
         }
         tags::NPT => {
             if form == 4 {
-                return npt(gregorian::npt_date(UtDay(w.float(1))));
+                return date(gregorian::npt_date(UtDay(w.float(1))));
             }
         }
         _ => {}

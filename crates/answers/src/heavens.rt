@@ -1,18 +1,16 @@
 // Questions about an instant, a day of terrestrial time, a year, an elongation or a fraction of a day.
 ghost use mathlib.Core.Path.{_≡_};
-ghost use Rattle.sky.specs.Answers.{ttSays, degreesSays, tithiSays, endSays};
-ghost use Rattle.panchanga.specs.Answers.{minutesSays};
-ghost use Rattle.replies.specs.Replies.{said, perhaps, among};
-ghost use Rattle.answers.specs.Heavens.{floatRows, heavensReply};
+ghost use Rattle.sky.specs.Answers.{ttSays, degreesSays, smallSays, instantSays};
+ghost use Rattle.replies.specs.Replies.{said, among};
+ghost use Rattle.answers.specs.Heavens.{instantReply, floatRows, heavensReply};
 ghost use Rattle.replies.specs.declared.Reply.the-variants as R;
 use asked::Words;
 use asked::tags;
 use gregorian::UtDay;
-use panchanga::MinutesAnswer;
 use replies::Reply;
 use sky::DegreesAnswer;
-use sky::EndAnswer;
-use sky::TithiAnswer;
+use sky::InstantAnswer;
+use sky::SmallAnswer;
 use sky::TtAnswer;
 use sky::TtDay;
 
@@ -22,7 +20,7 @@ fn tt(a: TtAnswer) -> Reply
 {
     match a {
         TtAnswer::At(t) => Reply::Float(t.0),
-        TtAnswer::OutOfRange => Reply::Refused(8),
+        TtAnswer::Refused(e) => Reply::Refused(e),
     }
 }
 
@@ -32,38 +30,28 @@ fn degrees(a: DegreesAnswer) -> Reply
 {
     match a {
         DegreesAnswer::Is(x) => Reply::Float(x),
-        DegreesAnswer::OutOfRange => Reply::Refused(8),
+        DegreesAnswer::Refused(e) => Reply::Refused(e),
     }
 }
 
-// The reply of a tithi.
-fn tithi(a: TithiAnswer) -> Reply
-    ensures { λ r. ⌜ r ≡ said R.Number (tithiSays a) ⌝ }
+// The reply of a number up to 65,535.
+fn small(a: SmallAnswer) -> Reply
+    ensures { λ r. ⌜ r ≡ said R.Number (smallSays a) ⌝ }
 {
     match a {
-        TithiAnswer::Is(n) => Reply::Number(n as u64),
-        TithiAnswer::OutOfRange => Reply::Refused(8),
+        SmallAnswer::Is(n) => Reply::Number(n as u64),
+        SmallAnswer::Refused(e) => Reply::Refused(e),
     }
 }
 
-// The reply of a tithi's end, or of none.
-fn end(a: EndAnswer) -> Reply
-    ensures { λ r. ⌜ r ≡ said (perhaps R.Float) (endSays a) ⌝ }
+// The reply of an instant, or of none.
+pub fn instant(a: InstantAnswer) -> Reply
+    ensures { λ r. ⌜ r ≡ instantReply (instantSays a) ⌝ }
 {
     match a {
-        EndAnswer::At(t) => Reply::Float(t.0),
-        EndAnswer::Nothing => Reply::Nothing,
-        EndAnswer::OutOfRange => Reply::Refused(8),
-    }
-}
-
-// The reply of a clock's minute.
-fn minutes(a: MinutesAnswer) -> Reply
-    ensures { λ r. ⌜ r ≡ said R.Number (minutesSays a) ⌝ }
-{
-    match a {
-        MinutesAnswer::Is(n) => Reply::Number(n as u64),
-        MinutesAnswer::OutOfRange => Reply::Refused(8),
+        InstantAnswer::At(t) => Reply::Float(t.0),
+        InstantAnswer::Nothing => Reply::Nothing,
+        InstantAnswer::Refused(e) => Reply::Refused(e),
     }
 }
 
@@ -77,10 +65,10 @@ fn of_float(tag: u64, x: f64) -> Reply
         tags::SUN => degrees(sky::sun_longitude(TtDay(x))),
         tags::MOON => degrees(sky::moon_longitude(TtDay(x))),
         tags::ELONG => degrees(sky::elongation(UtDay(x))),
-        tags::TITHI => tithi(sky::tithi_at(UtDay(x))),
+        tags::TITHI => small(sky::tithi_at(UtDay(x))),
         tags::TITHIOF => Reply::Number(sky::tithi_of(x) as u64),
-        tags::END => end(sky::tithi_end(UtDay(x))),
-        tags::CLOCK => minutes(panchanga::npt_clock(UtDay(x))),
+        tags::END => instant(sky::tithi_end(UtDay(x))),
+        tags::CLOCK => small(panchanga::npt_clock(UtDay(x))),
         tags::MINUTES => Reply::Number(panchanga::minutes_of(x) as u64),
         _ => Reply::Unformed,
     }

@@ -4,7 +4,8 @@ ghost use lib.ListN.{replicate};
 ghost use Rattle.paper.specs.Floats.{dec};
 ghost use Rattle.sky.specs.Answers.{startsSays};
 ghost use Rattle.output.specs.Gathered.{Gathers};
-ghost use Rattle.replies.specs.Replies.{said, small, float, barred};
+ghost use Rattle.asked.specs.Line.{small, float};
+ghost use Rattle.replies.specs.Replies.{said, barred};
 ghost use Rattle.output.specs.Floats.{floatText};
 ghost use Rattle.answers.specs.Searches.{startsWords, searchWords};
 ghost use Rattle.replies.specs.declared.Reply.the-variants as R;
@@ -20,9 +21,7 @@ fn counted(a: StartsAnswer) -> Reply
 {
     match a {
         StartsAnswer::Found { count, steps } => Reply::Pair(count as u64, steps as u64),
-        StartsAnswer::OutOfRange => Reply::Refused(8),
-        StartsAnswer::NotEnded => Reply::Refused(11),
-        StartsAnswer::NoRoom => Reply::Refused(9),
+        StartsAnswer::Refused(e) => Reply::Refused(e),
     }
 }
 

@@ -2,7 +2,7 @@
 use Prim.Native.Nat.{ℕ, zero, suc, _+_, _-_, _*_, _^_, _≤_, _<_}
 use mathlib.Core.Path.{_≡_, refl, sym, ap, _∙_, subst}
 use mathlib.Core.Bool.{Bool, true, false, cond}
-use mathlib.Core.List.{List, [], _∷_}
+use mathlib.Core.List.{List, []}
 use mathlib.Core.Logic.{⊎-elim}
 use native.Mathlib.Nat.{pow-suc, pow-le-pow-right}
 use native.Mathlib.Omega.{arith}
@@ -12,6 +12,7 @@ use lib.IntN.{pos, negsuc}
 use lib.ListN.{length, getD, drop, set}
 use Rattle.paper.proofs.Tests.{and-left, and-right, split}
 use Rattle.text.specs.Digits.{Got, got, no, past, fixed, decimal, isEnd}
+use Rattle.text.specs.Quoted.{bytes}
 use Rattle.text.specs.Reading.{Says, readSays, readEnd}
 use Rattle.text.specs.declared.reading.Cursor.{Cursor}
 use Rattle.text.specs.declared.reading.Read.{Read}
@@ -46,16 +47,16 @@ module _ (s : List ℕ) (i v : ℕ) where
 -- ---- a word
 
 module _ (s : List ℕ) where
-  pub word-bits : {t : List ℕ} → past (48 ∷ 120 ∷ []) s ≡ got tt t → word s ≡ item (λ n. 4) (fixed 16 16 0 t)
+  pub word-bits : {t : List ℕ} → past (bytes "0x") s ≡ got tt t → word s ≡ item (λ n. 4) (fixed 16 16 0 t)
   unfolding word
   word-bits e = rw e
 
-  module _ (e : past (48 ∷ 120 ∷ []) s ≡ no) where
-    pub word-minus : {t : List ℕ} → past (45 ∷ []) s ≡ got tt t → word s ≡ item (λ n. 3) (decimal 2147483648 t)
+  module _ (e : past (bytes "0x") s ≡ no) where
+    pub word-minus : {t : List ℕ} → past (bytes "-") s ≡ got tt t → word s ≡ item (λ n. 3) (decimal 2147483648 t)
     unfolding word
     word-minus f = rw (e, f)
 
-    pub word-number : past (45 ∷ []) s ≡ no → word s ≡ item kindOf (decimal 4294967295 s)
+    pub word-number : past (bytes "-") s ≡ no → word s ≡ item kindOf (decimal 4294967295 s)
     unfolding word
     word-number f = rw (e, f)
 
@@ -118,15 +119,15 @@ module _ (s : List ℕ) where
     unfolding others
     others-full = rw e
 
-    others-gap : (most : ℕ) → past (32 ∷ []) s ≡ no → others (suc most) s ≡ no
+    others-gap : (most : ℕ) → past (bytes " ") s ≡ no → others (suc most) s ≡ no
     unfolding others
     others-gap most f = rw (e, f)
 
-    others-bad : (most : ℕ) (t : List ℕ) → past (32 ∷ []) s ≡ got tt t → word t ≡ no → others (suc most) s ≡ no
+    others-bad : (most : ℕ) (t : List ℕ) → past (bytes " ") s ≡ got tt t → word t ≡ no → others (suc most) s ≡ no
     unfolding others
     others-bad most t f w = rw (e, f, w)
 
-    others-word : (most : ℕ) (t : List ℕ) (x : Item) (r : List ℕ) → past (32 ∷ []) s ≡ got tt t → word t ≡ got x r → others (suc most) s ≡ cons x (others most r)
+    others-word : (most : ℕ) (t : List ℕ) (x : Item) (r : List ℕ) → past (bytes " ") s ≡ got tt t → word t ≡ got x r → others (suc most) s ≡ cons x (others most r)
     unfolding others
     others-word most t x r f w = rw (e, f, w)
 
@@ -151,17 +152,17 @@ module _ (s values : List ℕ) (tag before k at : ℕ) where
     left-full e = rw (e, others-full (drop at s) (at-place s at h))
 
     module _ (l : k < 16) where
-      pub left-gap : past (32 ∷ []) (drop at s) ≡ no → unformed ≡ Left s tag before values k at
+      pub left-gap : past (bytes " ") (drop at s) ≡ no → unformed ≡ Left s tag before values k at
       left-gap f =
           let m : 16 - k ≡ suc (15 - k) = omega arith in
           rw (m, others-gap (drop at s) (at-place s at h) (15 - k) f)
 
-      pub left-bad : {t : List ℕ} → past (32 ∷ []) (drop at s) ≡ got tt t → word t ≡ no → unformed ≡ Left s tag before values k at
+      pub left-bad : {t : List ℕ} → past (bytes " ") (drop at s) ≡ got tt t → word t ≡ no → unformed ≡ Left s tag before values k at
       left-bad {t} f w =
           let m : 16 - k ≡ suc (15 - k) = omega arith in
           rw (m, others-bad (drop at s) (at-place s at h) (15 - k) t f w)
 
-      pub left-turn : {t : List ℕ} (x : Item) (next : ℕ) → past (32 ∷ []) (drop at s) ≡ got tt t → word t ≡ got x (drop next s)
+      pub left-turn : {t : List ℕ} (x : Item) (next : ℕ) → past (bytes " ") (drop at s) ≡ got tt t → word t ≡ got x (drop next s)
           → Left s tag (before * 10 + x .kind) (set values k (x .value)) (k + 1) next ≡ Left s tag before values k at
       left-turn {t} x next f w =
           let m : 16 - k ≡ suc (15 - k) = omega arith in

@@ -1,6 +1,6 @@
 -- The turn of a line, or the end. Assumes nothing.
 use Prim.Native.Nat.{ℕ, _≤_, _<_}
-use mathlib.Core.Path.{_≡_, ap}
+use mathlib.Core.Path.{_≡_, ap, _∙_}
 use mathlib.Core.Bool.{Bool, true, false, cond, _||_}
 use mathlib.Core.List.{List}
 use native.Mathlib.Omega.{arith}
@@ -11,7 +11,7 @@ use Rattle.lines.specs.Lines.{NextLine}
 use Rattle.output.specs.declared.Out.{Out}
 use Rattle.asked.specs.declared.input.Turn.{Turn}
 use Rattle.output.specs.Gathered.{Gathered, gathered}
-use Rattle.asked.specs.Turns.{noTurn, turnOf, TurnAfter}
+use Rattle.asked.specs.Turns.{noTurn, turnOf, heard, TurnAfter}
 
 -- what was gathered, once it is written out
 written : (at : ℕ) (begun failed b : Bool) → at ≡ 0 → begun ≡ b → _≡_ {A = Out} (record { at = at; begun = begun; failed = failed }) (record { at = 0; begun = b; failed = failed })
@@ -39,6 +39,10 @@ turn-left input o failed {r} e = go (o .failed || eqb (input .left) 0) e
         → r .left ≤ input .left
     go true h = omega (arith, ap (λ (x : Turn). x .left) h)
     go false h = omega (arith, ap (λ (x : Turn). x .left) h)
+
+-- what was answered, written out where a read comes
+pub told-after : (out : List ℕ) (o p : Out) (more feed : Bool) (g : Gathered) → gathered out p ≡ heard more (gathered out o) → more ≡ feed → gathered out o ≡ g → gathered out p ≡ heard feed g
+told-after out o p more feed g w m e = w ∙ (ap (λ (b : Bool). heard b (gathered out o)) m ∙ ap (heard feed) e)
 
 -- the turn after a line was read and what was answered is gathered
 pub turn-after : {before input : Input} {piece line piece' line' : List ℕ} (out : List ℕ) {g : Gathered} (o : Out) {r : Turn} → NextLine before piece line piece' line' input → gathered out o ≡ g

@@ -3,10 +3,12 @@ use Prim.Native.Nat.{ℕ, zero, suc, _+_, _-_, _*_}
 use mathlib.Core.Bool.{Bool, true, false, cond, _&&_}
 use mathlib.Core.List.{List, [], _∷_}
 use lib.Dec.{leb}
+use lib.Ieee.{Float, binary64, ofBits}
 use lib.IntN.{pos, negsuc}
-use lib.ListN.{drop, replicate}
+use lib.ListN.{drop, replicate, getD}
 use lib.Seq.{sets}
 use Rattle.text.specs.Digits.{Got, got, no, found, past, fixed, decimal, isEnd}
+use Rattle.text.specs.Quoted.{bytes}
 use Rattle.text.specs.declared.reading.Read.{Read}
 use Rattle.text.specs.declared.reading.Read.the-variants.{Number, NotOne}
 use Rattle.asked.specs.declared.words.Found.{Found}
@@ -41,11 +43,11 @@ abbrev pub item : (ℕ → ℕ) → Got ℕ → Got Item
 item kind (got n t) = got (record { kind = kind n; value = n }) t
 item kind no = no
 
--- 0x (48, 120) and sixteen hexadecimal digits; a minus sign (45) and a number; or a number
+-- 0x and sixteen hexadecimal digits; a minus sign and a number; or a number
 unfoldable pub word : List ℕ → Got Item
 word s =
-    found (past (48 ∷ 120 ∷ []) s) (λ u t. item (λ n. 4) (fixed 16 16 0 t))
-    (found (past (45 ∷ []) s) (λ u t. item (λ n. 3) (decimal 2147483648 t))
+    found (past (bytes "0x") s) (λ u t. item (λ n. 4) (fixed 16 16 0 t))
+    (found (past (bytes "-") s) (λ u t. item (λ n. 3) (decimal 2147483648 t))
     (item kindOf (decimal 4294967295 s)))
 
 -- ---- a line
@@ -54,12 +56,12 @@ abbrev pub cons : Item → Got (List Item) → Got (List Item)
 cons w (got ws t) = got (w ∷ ws) t
 cons w no = no
 
--- at most so many words to the line's end, a space (32) before each
+-- at most so many words to the line's end, a space before each
 unfoldable pub others : ℕ → List ℕ → Got (List Item)
 others zero s = cond (isEnd s) (got [] []) no
 others (suc most) s =
     cond (isEnd s) (got [] [])
-    (found (past (32 ∷ []) s) (λ u t. found (word t) (λ w r. cons w (others most r)) no) no)
+    (found (past (bytes " ") s) (λ u t. found (word t) (λ w r. cons w (others most r)) no) no)
 
 -- the kinds as decimal digits, the first first, after those before them
 abbrev pub form : ℕ → List Item → ℕ
@@ -106,6 +108,16 @@ foundKind Not = 0
 -- a word's value, and 0 where it is larger than asked
 unfoldable pub fitting : ℕ → ℕ → ℕ
 fitting most v = cond (leb v most) v 0
+
+-- a line's word: a number up to 65,535, one that a u32 holds, a float
+abbrev pub small : Words → ℕ → ℕ
+small w i = fitting 65535 (getD (w .values) i 0)
+
+abbrev pub large : Words → ℕ → ℕ
+large w i = fitting 4294967295 (getD (w .values) i 0)
+
+abbrev pub float : Words → ℕ → Float
+float w i = ofBits binary64 (getD (w .values) i 0)
 
 -- a whole number of an i32, behind a minus sign or not
 unfoldable pub wholeOf : Bool → ℕ → Whole

@@ -1,122 +1,133 @@
 -- The tags of the line language: two decimal digits for each letter, 01 for a to 26 for z. Assumes nothing.
-use Prim.Native.Nat.{ℕ}
+use Prim.Native.Nat.{ℕ, _+_, _-_, _*_}
+use Prim.Native.String.{String}
+use mathlib.Core.List.{List, [], _∷_}
+use Rattle.text.specs.Quoted.{bytes}
+
+-- the letters that follow a code
+abbrev pub coded : ℕ → List ℕ → ℕ
+coded v [] = v
+coded v (b ∷ s) = coded (v * 100 + (b - 96)) s
+
+abbrev pub tag : String → ℕ
+tag letters = coded 0 (bytes letters)
 
 abbrev pub TABLE : ℕ
-TABLE = 2001021205
+TABLE = tag "table"
 
 abbrev pub CELLS : ℕ
-CELLS = 305121219
+CELLS = tag "cells"
 
 abbrev pub RULES : ℕ
-RULES = 1821120519
+RULES = tag "rules"
 
 abbrev pub RULE : ℕ
-RULE = 18211205
+RULE = tag "rule"
 
 abbrev pub CHECK : ℕ
-CHECK = 308050311
+CHECK = tag "check"
 
 abbrev pub CHECKRULES : ℕ
-CHECKRULES = 3080503111821120519
+CHECKRULES = tag "checkrules"
 
 abbrev pub BS : ℕ
-BS = 219
+BS = tag "bs"
 
 abbrev pub AD : ℕ
-AD = 104
+AD = tag "ad"
 
 abbrev pub LEN : ℕ
-LEN = 120514
+LEN = tag "len"
 
 abbrev pub VALID : ℕ
-VALID = 2201120904
+VALID = tag "valid"
 
 abbrev pub STEP : ℕ
-STEP = 19200516
+STEP = tag "step"
 
 abbrev pub DAY : ℕ
-DAY = 40125
+DAY = tag "day"
 
 abbrev pub DATE : ℕ
-DATE = 4012005
+DATE = tag "date"
 
 abbrev pub JD : ℕ
-JD = 1004
+JD = tag "jd"
 
 abbrev pub DELTAT : ℕ
-DELTAT = 40512200120
+DELTAT = tag "deltat"
 
 abbrev pub TT : ℕ
-TT = 2020
+TT = tag "tt"
 
 abbrev pub SUN : ℕ
-SUN = 192114
+SUN = tag "sun"
 
 abbrev pub MOON : ℕ
-MOON = 13151514
+MOON = tag "moon"
 
 abbrev pub ELONG : ℕ
-ELONG = 512151407
+ELONG = tag "elong"
 
 abbrev pub TITHI : ℕ
-TITHI = 2009200809
+TITHI = tag "tithi"
 
 abbrev pub TITHIOF : ℕ
-TITHIOF = 20092008091506
+TITHIOF = tag "tithiof"
 
 abbrev pub STARTS : ℕ
-STARTS = 192001182019
+STARTS = tag "starts"
 
 abbrev pub END : ℕ
-END = 51404
+END = tag "end"
 
 abbrev pub EVENTS : ℕ
-EVENTS = 52205142019
+EVENTS = tag "events"
 
 abbrev pub RISE : ℕ
-RISE = 18091905
+RISE = tag "rise"
 
 abbrev pub SET : ℕ
-SET = 190520
+SET = tag "set"
 
 abbrev pub KALA : ℕ
-KALA = 11011201
+KALA = tag "kala"
 
 abbrev pub NISHITA : ℕ
-NISHITA = 14091908092001
+NISHITA = tag "nishita"
 
 abbrev pub NPT : ℕ
-NPT = 141620
+NPT = tag "npt"
 
 abbrev pub CLOCK : ℕ
-CLOCK = 312150311
+CLOCK = tag "clock"
 
 abbrev pub MINUTES : ℕ
-MINUTES = 13091421200519
+MINUTES = tag "minutes"
 
 abbrev pub READ : ℕ
-READ = 18050104
+READ = tag "read"
 
 abbrev pub LISTBS : ℕ
-LISTBS = 120919200219
+LISTBS = tag "listbs"
 
 abbrev pub LISTAD : ℕ
-LISTAD = 120919200104
+LISTAD = tag "listad"
 
 abbrev pub GRID : ℕ
-GRID = 7180904
+GRID = tag "grid"
 
 abbrev pub SIN : ℕ
-SIN = 190914
+SIN = tag "sin"
 
 abbrev pub COS : ℕ
-COS = 31519
+COS = tag "cos"
 
 abbrev pub ASIN : ℕ
-ASIN = 1190914
+ASIN = tag "asin"
 
 abbrev pub ACOS : ℕ
-ACOS = 1031519
+ACOS = tag "acos"
 
 abbrev pub TAN : ℕ
-TAN = 200114
+TAN = tag "tan"

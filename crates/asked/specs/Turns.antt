@@ -8,7 +8,7 @@ use Rattle.lines.specs.declared.Input.{Input}
 use Rattle.lines.specs.Lines.{NextLine}
 use Rattle.output.specs.declared.Out.{Out}
 use Rattle.asked.specs.declared.input.Turn.{Turn}
-use Rattle.output.specs.Gathered.{Gathered, gathered}
+use Rattle.output.specs.Gathered.{Gathered, gathered, writtenOut}
 
 -- the input as a turn left it
 abbrev pub inputOf : Turn → Input
@@ -23,6 +23,10 @@ abbrev pub turnOf : Input → Out → Bool → Turn
 turnOf input o failed =
     cond (o .failed || eqb (input .left) 0) (noTurn (record { at = 0; begun = o .begun; failed = failed }))
     (record { left = input .left; len = input .len; from = input .from; to = input .to; out = o })
+
+-- what was answered is written out before a read: whoever asks may wait for it
+abbrev pub heard : Bool → Gathered → Gathered
+heard more g = cond more g (writtenOut g)
 
 -- the turn after an input stood so, with so much gathered
 pub record TurnAfter (before : Input) (piece line piece' line' out : List ℕ) (g : Gathered) (r : Turn) : Type 0 where

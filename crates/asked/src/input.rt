@@ -1,10 +1,10 @@
 // Standard input, a line at a time, and the turns of a program that answers each line.
 ghost use mathlib.Core.Path.{_≡_};
 ghost use mathlib.Core.Bool.{false};
-ghost use Rattle.lines.specs.Lines.{started};
+ghost use Rattle.lines.specs.Lines.{started, waiting, hasFeed};
 ghost use Rattle.output.specs.Gathered as Gathered;
 ghost use Rattle.output.specs.Gathered.{gathered};
-ghost use Rattle.asked.specs.Turns.{noTurn, turnOf, inputOf, TurnAfter};
+ghost use Rattle.asked.specs.Turns.{noTurn, turnOf, inputOf, heard, TurnAfter};
 use libc::STDERR_FILENO;
 use libc::STDIN_FILENO;
 use lines::Input;
@@ -64,9 +64,19 @@ pub fn first_turn(piece: &mut [u8], line: &mut [u8], out: &[u8]) -> Turn
     turn_of(input, output::empty(), out)
 }
 
-// The turn of the next line, after this one was answered.
+// What was answered, written out where the next line takes a read.
+fn told(o: Out, more: bool, out: &[u8]) -> Out
+    ensures { λ r. ⌜ gathered (now (out .entry)) r ≡ heard more (gathered (now (out .entry)) o) ⌝ }
+{
+    if more {
+        return o;
+    }
+    o.flush(out)
+}
+
+// The turn of the next line, after this one was answered. The answers are written out before more input is waited for.
 pub fn next_turn(t: Turn, o: Out, piece: &mut [u8], line: &mut [u8], out: &mut [u8]) -> Turn
-    ensures { λ r. ⌜ TurnAfter (inputOf t) (now (piece .entry)) (now (line .entry)) (now (piece .exit)) (now (line .exit)) (now (out .exit)) (Gathered.ended (gathered (now (out .entry)) o)) r ⌝ }
+    ensures { λ r. ⌜ TurnAfter (inputOf t) (now (piece .entry)) (now (line .entry)) (now (piece .exit)) (now (line .exit)) (now (out .exit)) (heard (hasFeed (waiting (now (piece .entry)) (inputOf t))) (Gathered.ended (gathered (now (out .entry)) o))) r ⌝ }
 {
     let input = Input {
         left: t.left,
@@ -76,7 +86,7 @@ pub fn next_turn(t: Turn, o: Out, piece: &mut [u8], line: &mut [u8], out: &mut [
         from: t.from,
         to: t.to,
     };
-    let answered = o.end(out);
+    let answered = told(o.end(out), lines::has_line(input, piece), out);
     turn_of(
         lines::next_line(STDIN_FILENO, input, piece, line),
         answered,

@@ -2,11 +2,10 @@
 ghost use mathlib.Core.Path.{_≡_};
 ghost use Prim.Native.Nat.{_<_, _≤_};
 ghost use mathlib.Core.Bool.{true, false};
-ghost use lib.Ieee.{binary64, ofBits};
 ghost use lib.ListN.{take, drop, getD};
 ghost use Rattle.text.specs.Reading.{Says, readSays, readEnd};
 ghost use Rattle.asked.specs.Line as Line;
-ghost use Rattle.asked.specs.Line.{letter, letters, kindOf, kinded, foundSays, foundEnd, foundKind, unformed, wordsOf, fitting, wholeOf};
+ghost use Rattle.asked.specs.Line.{letter, letters, kindOf, kinded, foundSays, foundEnd, foundKind, unformed, wordsOf, wholeOf};
 use crate::floats;
 use text::Cursor;
 use text::Passed;
@@ -145,7 +144,7 @@ pub fn split(line: &[u8], n: usize) -> Words
 impl Words {
     // The word at a place, if it is a number up to 65,535.
     pub fn small(self, i: usize) -> u16
-        ensures { λ r. ⌜ (i < 16 → r ≡ fitting 65535 (getD (self .values) i 0)) ⌝ }
+        ensures { λ r. ⌜ (i < 16 → r ≡ Line.small self i) ⌝ }
     {
         if i < 16 {
             let v = self.values[i];
@@ -158,7 +157,7 @@ impl Words {
 
     // The word at a place, if it is a number that a u32 holds.
     pub fn large(self, i: usize) -> u32
-        ensures { λ r. ⌜ (i < 16 → r ≡ fitting 4294967295 (getD (self .values) i 0)) ⌝ }
+        ensures { λ r. ⌜ (i < 16 → r ≡ Line.large self i) ⌝ }
     {
         if i < 16 {
             let v = self.values[i];
@@ -171,7 +170,7 @@ impl Words {
 
     // The word at a place, as the bits of a float.
     pub fn float(self, i: usize) -> f64
-        ensures { λ r. ⌜ (i < 16 → r ≡ ofBits binary64 (getD (self .values) i 0)) ⌝ }
+        ensures { λ r. ⌜ (i < 16 → r ≡ Line.float self i) ⌝ }
     {
         if i < 16 {
             floats::float_of(self.values[i])

@@ -1,14 +1,14 @@
 -- What `convert` writes for a line. Assumes nothing.
 use Prim.Native.Nat.{ℕ}
-use mathlib.Core.List.{List, [], _∷_, _++_}
+use mathlib.Core.List.{List, [], _++_}
+use Rattle.paper.specs.Refusals.{number}
 use Rattle.paper.specs.Answers.{Answer, answered, refused}
 use Rattle.text.specs.Digits.{digits}
 use Rattle.text.specs.Quoted.{bytes}
 use Rattle.gregorian.specs.declared.Date.{Date}
-use Rattle.conversion.specs.Calendar.{Calendar, toAd, fromAd}
-use Rattle.conversion.specs.Flat.{flat}
+use Rattle.conversion.specs.Calendar.{toAd, fromAd}
+use Rattle.conversion.specs.Own.{own}
 use Rattle.conversion.specs.declared.BsDate.{BsDate}
-use Rattle.conversion.specs.declared.Table.{Table}
 use Rattle.convert.specs.declared.line.Line.{Line}
 use Rattle.convert.specs.declared.line.Line.the-variants.{Bs, Ad, Other}
 use Rattle.convert.specs.declared.reply.Shown.{Shown}
@@ -16,35 +16,22 @@ use Rattle.convert.specs.declared.reply.Shown.the-variants as shown
 use Rattle.convert.specs.declared.reply.Reply.{Reply}
 use Rattle.convert.specs.Lines.{numbersText, lineForm}
 
--- ---- the own table of document 01
-
-abbrev pub ownTable : Table
-ownTable = record { «first_year» = 100; year = 1950; month = 1; day = 1 }
-
-abbrev pub ownRows : List ℕ
-ownRows =
-    31 ∷ 31 ∷ 32 ∷ 31 ∷ 31 ∷ 31 ∷ 30 ∷ 29 ∷ 30 ∷ 29 ∷ 30 ∷ 30 ∷ 365
-    ∷ 31 ∷ 31 ∷ 32 ∷ 32 ∷ 31 ∷ 30 ∷ 30 ∷ 29 ∷ 30 ∷ 29 ∷ 30 ∷ 31 ∷ 366 ∷ []
-
-abbrev pub calendar : Calendar
-calendar = flat ownTable ownRows
-
 -- ---- a reply
 
 -- the date as read beside the one found; a refused date as read beside none
 abbrev pub fromBs : ℕ → ℕ → ℕ → Answer Date → Reply
 fromBs y m d (answered x) = record { bs = shown.Date y m d; ad = shown.Date (x .year) (x .month) (x .day); refusal = 0 }
-fromBs y m d (refused k) = record { bs = shown.Date y m d; ad = shown.Nothing; refusal = k }
+fromBs y m d (refused k) = record { bs = shown.Date y m d; ad = shown.Nothing; refusal = number k }
 
 abbrev pub fromAdDate : ℕ → ℕ → ℕ → Answer BsDate → Reply
 fromAdDate y m d (answered x) = record { bs = shown.Date (x .year) (x .month) (x .day); ad = shown.Date y m d; refusal = 0 }
-fromAdDate y m d (refused k) = record { bs = shown.Nothing; ad = shown.Date y m d; refusal = k }
+fromAdDate y m d (refused k) = record { bs = shown.Nothing; ad = shown.Date y m d; refusal = number k }
 
 unfoldable pub bsReply : ℕ → ℕ → ℕ → Reply
-bsReply y m d = fromBs y m d (toAd calendar y m d)
+bsReply y m d = fromBs y m d (toAd own y m d)
 
 unfoldable pub adReply : ℕ → ℕ → ℕ → Reply
-adReply y m d = fromAdDate y m d (fromAd calendar y m d)
+adReply y m d = fromAdDate y m d (fromAd own y m d)
 
 -- ---- its text
 

@@ -22,19 +22,14 @@ fn answer(o: Out, out: &mut [u8], s: &[u8]) -> Out
     }
 }
 
-// The same of the line that is the first n bytes of a buffer.
-fn answer_first(o: Out, out: &mut [u8], line: &[u8], n: usize) -> Out {
-    if n <= line.len() {
-        return answer(o, out, &line[..n]);
-    }
-    o
-}
-
+// Answers the line, and reads the next one.
 fn turn(t: Turn, piece: &mut [u8], line: &mut [u8], out: &mut [u8]) -> Turn
-    ensures { λ r. ⌜ r .left ≤ t .left - 1 ⌝ }
+    requires { ⌜ t .len ≤ length (now line) ⌝ }
+    ensures { λ r. ⌜ (r .left ≤ t .left - 1) × (r .len ≤ length (now (line .exit))) ⌝ }
 {
     let o = t.out;
-    let answered = answer_first(o, out, line, t.len);
+    let n = t.len;
+    let answered = answer(o, out, &line[..n]);
     asked::next_turn(t, answered, piece, line, out)
 }
 

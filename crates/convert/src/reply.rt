@@ -2,18 +2,19 @@
 ghost use mathlib.Core.Path.{_≡_};
 ghost use mathlib.Core.List.{_++_};
 ghost use Prim.Native.Nat.{_≤_};
-ghost use Rattle.conversion.specs.Answers.{adSays, bsSays};
-ghost use Rattle.paper.specs.Answers.{refused};
+ghost use Rattle.gregorian.specs.Answers.{dateSays};
+ghost use Rattle.conversion.specs.Answers.{bsSays};
+ghost use Rattle.conversion.specs.Own.{ownTable};
 ghost use Rattle.text.specs.Dashed.{dash};
 ghost use Rattle.convert.specs.Lines.{numberText};
-ghost use Rattle.convert.specs.Replies.{ownTable, fromBs, fromAdDate, bsReply, adReply, shownText, replyText, replyTo};
+ghost use Rattle.convert.specs.Replies.{fromBs, fromAdDate, bsReply, adReply, shownText, replyText, replyTo};
 ghost use Rattle.convert.specs.Inner.{Put};
 use crate::line;
 use crate::line::Line;
-use conversion::AdAnswer;
 use conversion::BsAnswer;
 use conversion::BsDate;
 use conversion::Table;
+use gregorian::DateAnswer;
 
 // A date as it is shown, or none.
 pub enum Shown {
@@ -58,6 +59,7 @@ const ROWS: [u16; 26] = [
     366,
 ];
 
+// The own table besides its rows.
 fn table() -> Table
     ensures { λ r. ⌜ r ≡ ownTable ⌝ }
 {
@@ -69,46 +71,25 @@ fn table() -> Table
     }
 }
 
-// A refused BS date as read, and no other.
-fn refused_bs(y: u16, m: u16, d: u16, k: u16) -> Reply
-    ensures { λ r. ⌜ r ≡ fromBs y m d (refused k) ⌝ }
-{
-    Reply {
-        bs: Shown::Date(y, m, d),
-        ad: Shown::Nothing,
-        refusal: k,
-    }
-}
-
-// A refused Gregorian date as read, and no other.
-fn refused_ad(y: u16, m: u16, d: u16, k: u16) -> Reply
-    ensures { λ r. ⌜ r ≡ fromAdDate y m d (refused k) ⌝ }
-{
-    Reply {
-        bs: Shown::Nothing,
-        ad: Shown::Date(y, m, d),
-        refusal: k,
-    }
-}
-
-// A BS date beside its Gregorian date.
-fn beside_ad(y: u16, m: u16, d: u16, a: AdAnswer) -> Reply
-    ensures { λ r. ⌜ r ≡ fromBs y m d (adSays a) ⌝ }
+// A BS date as read beside its Gregorian date, or beside none where it is refused.
+fn beside_ad(y: u16, m: u16, d: u16, a: DateAnswer) -> Reply
+    ensures { λ r. ⌜ r ≡ fromBs y m d (dateSays a) ⌝ }
 {
     match a {
-        AdAnswer::Is(x) => Reply {
+        DateAnswer::Is(x) => Reply {
             bs: Shown::Date(y, m, d),
             ad: Shown::Date(x.year, x.month, x.day),
             refusal: 0,
         },
-        AdAnswer::BadTable => refused_bs(y, m, d, 1),
-        AdAnswer::NoYear => refused_bs(y, m, d, 4),
-        AdAnswer::NoMonth => refused_bs(y, m, d, 5),
-        AdAnswer::NoDay => refused_bs(y, m, d, 6),
+        DateAnswer::Refused(k) => Reply {
+            bs: Shown::Date(y, m, d),
+            ad: Shown::Nothing,
+            refusal: k.number(),
+        },
     }
 }
 
-// A Gregorian date beside its BS date.
+// A Gregorian date as read beside its BS date, or beside none where it is refused.
 fn beside_bs(y: u16, m: u16, d: u16, a: BsAnswer) -> Reply
     ensures { λ r. ⌜ r ≡ fromAdDate y m d (bsSays a) ⌝ }
 {
@@ -118,9 +99,11 @@ fn beside_bs(y: u16, m: u16, d: u16, a: BsAnswer) -> Reply
             ad: Shown::Date(y, m, d),
             refusal: 0,
         },
-        BsAnswer::BadTable => refused_ad(y, m, d, 1),
-        BsAnswer::NoSuchDate => refused_ad(y, m, d, 3),
-        BsAnswer::Outside => refused_ad(y, m, d, 7),
+        BsAnswer::Refused(k) => Reply {
+            bs: Shown::Nothing,
+            ad: Shown::Date(y, m, d),
+            refusal: k.number(),
+        },
     }
 }
 

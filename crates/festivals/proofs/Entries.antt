@@ -9,6 +9,7 @@ use native.Mathlib.Omega.{arith}
 use borrow.Author.Tests.{eq-eqb, ne-eqb, le-leb, lt-leb}
 use lib.ListN.{getD, set, replicate}
 use lib.Ieee.{Float, nan}
+use Rattle.paper.specs.declared.Refusal.{Refusal}
 use Rattle.paper.specs.Answers.{answered, refused}
 use Rattle.conversion.specs.declared.BsDate.{BsDate}
 use Rattle.conversion.specs.Calendar.{Calendar, fromDay}
@@ -67,7 +68,7 @@ module _ {I : Type 0} (s : Sky I) (c : Calendar) (y : ℕ) (r : Rule) (d : List 
   unfolding putEntry entry next
   entry-nothing e = rw e
 
-  pub entry-outside : (n k : ℕ) → ruleDay s c y r ≡ some n → fromDay c n ≡ refused k → d ≡ putEntry d j (entry s c y r)
+  pub entry-outside : (n : ℕ) (k : Refusal) → ruleDay s c y r ≡ some n → fromDay c n ≡ refused k → d ≡ putEntry d j (entry s c y r)
   unfolding putEntry entry next inTable dated
   entry-outside n k e q = rw (e, q)
 

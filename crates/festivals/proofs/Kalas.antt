@@ -8,12 +8,11 @@ use lib.Dec.{eqb}
 use lib.Ieee.{Float}
 use Rattle.panchanga.specs.declared.Kala.{Kala}
 use Rattle.panchanga.specs.declared.Kala.the-variants.{Udaya, Madhyanna, Aparahna, Pradosh, Nishita, Begins}
-use Rattle.panchanga.specs.Noaa.{eventsOn}
 use Rattle.panchanga.specs.Kalas.{kalaAt, isNishita, nishitaBetween}
 use Rattle.panchanga.specs.Answers.{mapped}
 use Rattle.rules.specs.Sky.{Sky}
 use Rattle.rules.specs.Days.{begins, rank, askedDay}
-use Rattle.festivals.specs.Kathmandu.{kalaNumber, kalaNamed, isBegins, kalaOf, nightOf}
+use Rattle.festivals.specs.Kathmandu.{kalaNumber, kalaNamed, isBegins, sunOn, kalaOf, nightOf}
 
 pub named-number : (k : Kala) → kalaNamed (kalaNumber k) ≡ k
 named-number Udaya = refl
@@ -66,10 +65,10 @@ pub asked-named : {I : Type 0} (s : Sky I) (k : ℕ) (n : Kala) (b e : I) (d : �
 asked-named s k n b e d h q = ap (λ (z : ℕ). askedDay s (rank z) b e z d) (ap kalaNumber q ∙ number-named k h)
 
 -- ---- the instants of a day, by the sun's events
-pub kala-on : (k : Kala) (n : ℕ) (o : Option (Float × Float)) → o ≡ eventsOn n → mapped (λ z. kalaAt k (z .0) (z .1)) o ≡ kalaOf (kalaNumber k) n
+pub kala-on : (k : Kala) (n : ℕ) (o : Option (Float × Float)) → o ≡ sunOn n → mapped (λ z. kalaAt k (z .0) (z .1)) o ≡ kalaOf (kalaNumber k) n
 unfolding kalaOf
 kala-on k n o q = rw (q, named-number k)
 
-pub night-on : (n : ℕ) (o p w : Option (Float × Float)) → o ≡ eventsOn n → p ≡ eventsOn (n + 1) → w ≡ nishitaBetween o p → w ≡ nightOf n
+pub night-on : (n : ℕ) (o p w : Option (Float × Float)) → o ≡ sunOn n → p ≡ sunOn (n + 1) → w ≡ nishitaBetween o p → w ≡ nightOf n
 unfolding nightOf
 night-on n o p w h q r = rw (r, h, q)

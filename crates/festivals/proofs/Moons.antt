@@ -8,10 +8,13 @@ use native.Mathlib.Numerals.{add-one}
 use native.Mathlib.Omega.{arith}
 use borrow.Author.Tests.{eq-eqb, ne-eqb, eqb-true, eqb-false}
 use lib.Dec.{eqb}
-use lib.ListN.{length, getD, take, drop, replicate, length-set, getD-replicate}
+use lib.ListN.{length, getD, set, take, drop, replicate, length-set, getD-replicate}
 use lib.Seq.{slice, slice-cons, slice-empty, getD-set-same, getD-set-other}
 use lib.Ieee.{Float, nan}
+use Rattle.paper.specs.declared.Refusal.{Refusal}
 use Rattle.paper.specs.Answers.{Answer, answered, refused}
+use Rattle.paper.specs.Floats.{_⊕_, _⊖_, dec}
+use Rattle.gregorian.specs.Instants.{zeroOf}
 use Rattle.conversion.specs.declared.BsDate.{BsDate}
 use Rattle.conversion.specs.Calendar.{Calendar, fromDay}
 use Rattle.festivals.proofs.Placed.{month-of}
@@ -23,8 +26,31 @@ use Rattle.rules.specs.Sky.{Sky}
 use Rattle.rules.specs.Days.{holds}
 use Rattle.rules.specs.Festivals.{dated, lastOf, inMonth}
 use Rattle.festivals.specs.declared.months.Months.{Months}
-use Rattle.festivals.specs.Months.{monthAt, put, placeDate, placeDay, place, placed}
+use Rattle.festivals.specs.Kathmandu.{moonsAround}
+use Rattle.festivals.specs.Months.{monthAt}
 
+-- ---- the loop's shape
+unfoldable pub put : Months → ℕ → Float → Months
+put m j x = record { moon = set (m .moon) j x; has = set (m .has) j true }
+
+-- a new moon takes its month's place, over an earlier one
+unfoldable pub placeDate : ℕ → Months → Float → Answer BsDate → Months
+placeDate y m x (answered t) = cond (eqb (t .year) y) (put m (t .month - 1) x) m
+placeDate y m x (refused k) = m
+
+unfoldable pub placeDay : Calendar → ℕ → Months → Float → Option ℕ → Months
+placeDay c y m x (some n) = placeDate y m x (fromDay c n)
+placeDay c y m x none = m
+
+module _ (s : Sky Float) (c : Calendar) (y : ℕ) where
+  unfoldable pub place : Months → Float → Months
+  place m x = placeDay c y m x (s .dayOf x)
+
+  unfoldable pub placed : List Float → Months → Months
+  placed [] m = m
+  placed (x ∷ xs) m = placed xs (place m x)
+
+-- ---- a turn
 module _ (s : Sky Float) (c : Calendar) (y : ℕ) where
   pub placed-none : (l : List Float) (n : ℕ) (m : Months) → placed s c y (slice n n l) m ≡ m
   unfolding placed
@@ -49,7 +75,7 @@ module _ (s : Sky Float) (c : Calendar) (y : ℕ) where
     place-nothing e = rw (← e)
 
     module _ (k : ℕ) (e : some k ≡ s .dayOf x) where
-      pub place-outside : (j : ℕ) → fromDay c k ≡ refused j → m ≡ place s c y m x
+      pub place-outside : (j : Refusal) → fromDay c k ≡ refused j → m ≡ place s c y m x
       unfolding place placeDay placeDate
       place-outside j f = rw (← e, f)
 
@@ -140,3 +166,8 @@ pub moons-front : (a b : Float) (d x : List Float) (n : ℕ) → n ≡ length (s
 moons-front a b d x n en ex l =
     let few : n ≤ 1024 = omega (arith, en, starts-bounded (offset elongationOf (targetOf 1)) a b) in
     ((few, over-length (startsOf 1 a b .starts) d ex en (omega arith) ∙ l), over-front (startsOf 1 a b .starts) d ex en)
+
+-- they are those around two days, by 0h of each
+pub moons-from : (first last : ℕ) (a b : Float) → a ≡ zeroOf first → b ≡ zeroOf last → startsOf 1 (a ⊖ dec 35 0) (b ⊕ dec 5 0) .starts ≡ moonsAround first last
+unfolding moonsAround
+moons-from first last a b p q = rw (p, q)

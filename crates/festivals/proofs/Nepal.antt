@@ -6,6 +6,8 @@ use mathlib.Core.Option.{some, none}
 use lib.Ieee.{Float}
 use native.Mathlib.Omega.{arith}
 use lib.Dec.{T}
+use Rattle.paper.specs.declared.Refusal.{Refusal}
+use Rattle.paper.specs.declared.Refusal.the-variants.{NoSuchDate}
 use Rattle.paper.specs.Answers.{Answer, answered, refused, then}
 use Rattle.paper.proofs.Answers.{answered-same, given-answered}
 use Rattle.gregorian.specs.declared.Date.{Date}
@@ -19,7 +21,7 @@ pub nepal-date : (x : Float) (d : Date) (a : Answer ℕ) → answered d ≡ nptA
 unfolding nepalDay then
 nepal-date x d a e q = rw (← e, q)
 
-pub nepal-none : (x : Float) (k : ℕ) → refused k ≡ nptAnswer x → none ≡ nepalDay x
+pub nepal-none : (x : Float) (k : Refusal) → refused k ≡ nptAnswer x → none ≡ nepalDay x
 unfolding nepalDay then known
 nepal-none x k e = rw (← e)
 
@@ -27,7 +29,7 @@ pub known-some : (n : ℕ) → some n ≡ known (answered n)
 unfolding known
 known-some n = refl
 
-pub known-none : (k : ℕ) → none ≡ known {A = ℕ} (refused k)
+pub known-none : (k : Refusal) → none ≡ known {A = ℕ} (refused k)
 unfolding known
 known-none k = refl
 
@@ -43,7 +45,7 @@ real-told b e = rw e tt
 
 number-range : (d : Date) (n : ℕ) → numberAnswer d ≡ answered n → (firstNumber ≤ n) × (n < firstNumber + allDays)
 number-range d n e =
-    let g = given-answered (real d) 3 (answered (dayNumber d)) e in
+    let g = given-answered (real d) NoSuchDate (answered (dayNumber d)) e in
     let q : dayNumber d ≡ n = answered-same (g .1) in
     rw (← q) (number-above d, number-below d (real-of d (real-told (real d) (g .0))))
 

@@ -1,12 +1,14 @@
 -- The numbers of a table's days and of dates, as the calls on dates know them. Assumes nothing.
 use Prim.Native.Nat.{ℕ, _≤_}
-use mathlib.Core.Path.{_≡_, refl, sym, _∙_}
-use mathlib.Core.Bool.{Bool, true, false}
+use mathlib.Core.Path.{_≡_, sym, _∙_}
+use mathlib.Core.Bool.{true}
 use mathlib.Core.List.{List}
 use native.Mathlib.Omega.{arith}
 use borrow.Author.Tests.{leb-true}
 use lib.Dec.{leb}
-use Rattle.paper.specs.Answers.{answered, refused, given}
+use Rattle.paper.specs.declared.Refusal.{Refusal}
+use Rattle.paper.specs.declared.Refusal.the-variants.{NoSuchDate}
+use Rattle.paper.specs.Answers.{answered, refused}
 use Rattle.paper.proofs.Answers.{answered-same, refused-answered, given-answered, given-on}
 use Rattle.paper.proofs.Tests.{and-left}
 use Rattle.gregorian.specs.declared.Date.{Date}
@@ -22,25 +24,17 @@ use Rattle.festivals.proofs.Nepal.{real-told}
 
 -- ---- a day number that is a date's
 pub is-date : (n : ℕ) (d : Date) → numbered n ≡ true → answered d ≡ dateAnswer n → d ≡ dateOf n
-is-date n d h e = answered-same (e ∙ given-on (numbered n) 3 _ h)
+is-date n d h e = answered-same (e ∙ given-on (numbered n) NoSuchDate _ h)
 
-pub always-date : {A : Type 0} (n k : ℕ) → numbered n ≡ true → refused k ≡ dateAnswer n → A
-always-date n k h e = absurd (refused-answered (sym e) (given-on (numbered n) 3 _ h))
+pub always-date : {A : Type 0} (n : ℕ) (k : Refusal) → numbered n ≡ true → refused k ≡ dateAnswer n → A
+always-date n k h e = absurd (refused-answered (sym e) (given-on (numbered n) NoSuchDate _ h))
 
 pub numbered-from : (n : ℕ) → numbered n ≡ true → 1 ≤ n
 numbered-from n h = omega (arith, leb-true firstNumber n (and-left (leb firstNumber n) _ h))
 
 -- ---- a date's day number
-pub no-number : (x : Date) → refused 3 ≡ numberAnswer x → real x ≡ false
-unfolding given
-no-number x e = go (real x) e
-  where
-    go : (b : Bool) → refused 3 ≡ given b 3 (answered (dayNumber x)) → b ≡ false
-    go true f = absurd (let z : _≡_ {A = ℕ} 0 1 = cc in omega arith)
-    go false f = refl
-
 pub its-number : (x : Date) (n : ℕ) → answered n ≡ numberAnswer x → (real x ≡ true) × (n ≡ dayNumber x)
-its-number x n e = let g = given-answered (real x) 3 (answered (dayNumber x)) (sym e) in (g .0, sym (answered-same (g .1)))
+its-number x n e = let g = given-answered (real x) NoSuchDate (answered (dayNumber x)) (sym e) in (g .0, sym (answered-same (g .1)))
 
 pub real-numbered : (x : Date) (n : ℕ) → real x ≡ true → n ≡ dayNumber x → numbered n ≡ true
 real-numbered x n h e = rw e (in-range (dayNumber x) (number-above x) (number-below x (real-of x (real-told (real x) h))))

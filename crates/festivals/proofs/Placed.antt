@@ -7,6 +7,7 @@ use mathlib.Core.Logic.{⊎-elim}
 use native.Mathlib.Omega.{arith}
 use denote.Enum.Declared.{tagOf}
 use types.Run.{OneOf}
+use Rattle.paper.specs.declared.Refusal.the-variants.{Outside}
 use Rattle.paper.specs.Answers.{answered, refused}
 use Rattle.paper.specs.Sums.{sum}
 use Rattle.paper.proofs.Answers.{answered-same}
@@ -22,17 +23,17 @@ module _ (c : Calendar) (g : c .good ≡ true) (n : ℕ) (p : Placed) (e : p ≡
   pub inside : (t : BsDate) → p ≡ P.Inside t → fromDay c n ≡ answered t
   inside t q = from-placed c n g ∙ ap insideOnly (sym e ∙ q)
 
-  pub before-first : (k : ℕ) → p ≡ P.Before k → fromDay c n ≡ refused 7
+  pub before-first : (k : ℕ) → p ≡ P.Before k → fromDay c n ≡ refused Outside
   before-first k q = from-placed c n g ∙ ap insideOnly (sym e ∙ q)
 
-  pub after-last : (k : ℕ) → p ≡ P.After k → fromDay c n ≡ refused 7
+  pub after-last : (k : ℕ) → p ≡ P.After k → fromDay c n ≡ refused Outside
   after-last k q = from-placed c n g ∙ ap insideOnly (sym e ∙ q)
 
   -- the else of a `let Placed::Inside(..)`
-  pub outside : OneOf (1 ∷ 2 ∷ []) (tagOf the-type p) → fromDay c n ≡ refused 7
+  pub outside : OneOf (1 ∷ 2 ∷ []) (tagOf the-type p) → fromDay c n ≡ refused Outside
   outside h = from-placed c n g ∙ ap insideOnly (sym e) ∙ go p h
     where
-      go : (q : Placed) → OneOf (1 ∷ 2 ∷ []) (tagOf the-type q) → insideOnly q ≡ refused 7
+      go : (q : Placed) → OneOf (1 ∷ 2 ∷ []) (tagOf the-type q) → insideOnly q ≡ refused Outside
       go (P.Inside t) h = absurd (⊎-elim (λ e. omega arith) (λ e. omega arith) h)
       go (P.Before k) h = refl
       go (P.After k) h = refl

@@ -2,45 +2,24 @@
 use Prim.Native.Nat.{ℕ, _+_, _-_, _≤_, _<_}
 use mathlib.Core.Path.{_≡_, refl, sym, ap, _∙_}
 use mathlib.Core.Bool.{Bool, true, false, cond, _&&_}
-use mathlib.Core.List.{List, [], _∷_}
-use mathlib.Core.Logic.{⊎-elim}
+use mathlib.Core.List.{List, []}
 use mathlib.Core.Option.{Option, some, none}
 use native.Mathlib.Omega.{arith}
 use borrow.Author.Tests.{leb-true, ltb-true, le-leb, lt-ltb}
-use denote.Enum.Declared.{tagOf}
-use types.Run.{OneOf}
 use lib.Dec.{leb}
+use Rattle.paper.specs.declared.Refusal.{Refusal}
 use Rattle.paper.specs.Answers.{answered, refused}
 use Rattle.paper.proofs.Answers.{answered-same, refused-answered}
 use Rattle.paper.proofs.Tests.{and-left, and-right}
 use Rattle.conversion.specs.declared.Table.{Table}
-use Rattle.conversion.specs.declared.DayAnswer.{DayAnswer}
-use Rattle.conversion.specs.declared.DayAnswer.the-variants as DA
-use Rattle.conversion.specs.declared.MonthDays.{MonthDays}
-use Rattle.conversion.specs.declared.MonthDays.the-variants as MD
 use Rattle.conversion.specs.Calendar.{Calendar, yearOk, monthLen, toDay}
 use Rattle.conversion.specs.Flat.{accepted, flat}
-use Rattle.conversion.specs.Answers.{daysSays, daySays}
-use Rattle.conversion.proofs.DayAnswer as day-type
-use Rattle.conversion.proofs.MonthDays as month-type
 use Rattle.conversion.proofs.Accepted.{facts}
 use Rattle.conversion.proofs.Rows.{row-lens}
 use Rattle.conversion.proofs.Days.{InTable, of-month, converts, converted}
 use Rattle.rules.specs.Sky.{Sky}
 use Rattle.rules.specs.Festivals.{firstDay, lastDay, lastOf, moons, inMonth, opening}
 use Rattle.festivals.specs.Months.{yearDays}
-
--- the else of a `let DayAnswer::Day(..)` and of a `let MonthDays::Days(..)`
-pub day-else : (r : DayAnswer) → OneOf (1 ∷ 2 ∷ 3 ∷ []) (tagOf day-type.the-type r) → (k : ℕ) × (daySays r ≡ refused k)
-day-else (DA.Day n) h = absurd (⊎-elim (λ e. omega arith) (⊎-elim (λ e. omega arith) (λ e. omega arith)) h)
-day-else DA.NoYear h = (4, refl)
-day-else DA.NoMonth h = (5, refl)
-day-else DA.NoDay h = (6, refl)
-
-pub days-else : (r : MonthDays) → OneOf (1 ∷ 2 ∷ []) (tagOf month-type.the-type r) → (k : ℕ) × (daysSays r ≡ refused k)
-days-else (MD.Days n) h = absurd (⊎-elim (λ e. omega arith) (λ e. omega arith) h)
-days-else MD.NoYear h = (4, refl)
-days-else MD.NoMonth h = (5, refl)
 
 module _ (t : Table) (rows : List ℕ) (g : accepted t rows ≡ true) (y : ℕ) where
   abbrev c : Calendar
@@ -86,13 +65,13 @@ module _ (t : Table) (rows : List ℕ) (g : accepted t rows ≡ true) (y : ℕ) 
       (record { month = month-in v 12 (omega arith) (omega arith); day-from = omega (arith, lens-in v 11 (omega arith)); day-to = omega arith })
 
   -- ---- and so what is known of the year
-  pub no-first : (k : ℕ) → toDay c y 1 1 ≡ refused k → none ≡ yearDays c y
+  pub no-first : (k : Refusal) → toDay c y 1 1 ≡ refused k → none ≡ yearDays c y
   no-first k e = days-out (λ v. refused-answered e (first-is v))
 
-  pub no-length : (k : ℕ) → monthLen c y 12 ≡ refused k → none ≡ yearDays c y
+  pub no-length : (k : Refusal) → monthLen c y 12 ≡ refused k → none ≡ yearDays c y
   no-length k e = days-out (λ v. refused-answered e (len-is v))
 
-  pub no-last : (n k : ℕ) → monthLen c y 12 ≡ answered n → toDay c y 12 n ≡ refused k → none ≡ yearDays c y
+  pub no-last : (n : ℕ) (k : Refusal) → monthLen c y 12 ≡ answered n → toDay c y 12 n ≡ refused k → none ≡ yearDays c y
   no-last n k q e = days-out (λ v. refused-answered {x = lastDay c y} e (rw (answered-same (sym q ∙ len-is v)) (last-is v)))
 
   pub both-days : (a n b : ℕ) → toDay c y 1 1 ≡ answered a → monthLen c y 12 ≡ answered n → toDay c y 12 n ≡ answered b → some (a, b) ≡ yearDays c y

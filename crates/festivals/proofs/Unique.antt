@@ -2,10 +2,8 @@
 -- buffer. Assumes nothing.
 use Prim.Native.Nat.{ℕ}
 use mathlib.Core.Path.{_≡_, refl, sym, _∙_}
-use mathlib.Core.Bool.{cond}
 use mathlib.Core.List.{List}
 use mathlib.Core.Option.{Option, some, none}
-use lib.Dec.{eqb}
 use Rattle.paper.specs.Answers.{Answer, answered, refused}
 use Rattle.paper.proofs.Answers.{told-by}
 use Rattle.rules.specs.Festivals.{Listed}
@@ -17,28 +15,13 @@ use Rattle.festivals.specs.declared.ListAnswer.{ListAnswer}
 use Rattle.festivals.specs.declared.ListAnswer.the-variants as LA
 use Rattle.festivals.specs.Answers.{dayIs, daysAre, listSays}
 
-abbrev listRefused : ℕ → ListAnswer
-listRefused k =
-    cond (eqb k 1) LA.BadTable
-    (cond (eqb k 2) LA.BadRules
-    (cond (eqb k 3) LA.NoSuchDate
-    (cond (eqb k 4) LA.NoYear
-    (cond (eqb k 5) LA.NoMonth (cond (eqb k 6) LA.NoDay (cond (eqb k 7) LA.Outside LA.NoRoom))))))
-
 abbrev listBack : Answer ℕ → ListAnswer
 listBack (answered n) = LA.Count n
-listBack (refused k) = listRefused k
+listBack (refused k) = LA.Refused k
 
 list-back : (r : ListAnswer) → listBack (listSays r) ≡ r
 list-back (LA.Count n) = refl
-list-back LA.BadTable = refl
-list-back LA.BadRules = refl
-list-back LA.NoSuchDate = refl
-list-back LA.NoYear = refl
-list-back LA.NoMonth = refl
-list-back LA.NoDay = refl
-list-back LA.Outside = refl
-list-back LA.NoRoom = refl
+list-back (LA.Refused k) = refl
 
 pub list-only : (r s : ListAnswer) → listSays r ≡ listSays s → r ≡ s
 list-only = told-by listSays listBack list-back

@@ -25,14 +25,7 @@ daysAre YD.Nothing = none
 
 abbrev pub listSays : ListAnswer → Answer ℕ
 listSays (LA.Count n) = answered n
-listSays LA.BadTable = refused 1
-listSays LA.BadRules = refused 2
-listSays LA.NoSuchDate = refused 3
-listSays LA.NoYear = refused 4
-listSays LA.NoMonth = refused 5
-listSays LA.NoDay = refused 6
-listSays LA.Outside = refused 7
-listSays LA.NoRoom = refused 9
+listSays (LA.Refused k) = refused k
 
 -- a day's list asked by BS date, and by Gregorian date: the answer, and the lent buffer
 abbrev pub onBs : Table → List ℕ → List ℕ → ℕ → ℕ → ℕ → List ℕ → Listed

@@ -7,11 +7,12 @@ use lib.Ieee.{Float, le, lt}
 use Rattle.paper.specs.Answers.{Answer, answered, refused, then}
 use Rattle.paper.specs.Floats.{_⊕_, _⊖_, dec}
 use Rattle.gregorian.specs.Answers.{numberAnswer}
-use Rattle.gregorian.specs.Instants.{nptAnswer}
+use Rattle.gregorian.specs.Instants.{zeroOf, nptAnswer}
 use Rattle.sky.specs.Search.{first, startsOf, nextTithi}
 use Rattle.panchanga.specs.declared.Kala.{Kala}
 use Rattle.panchanga.specs.declared.Kala.the-variants.{Udaya, Madhyanna, Aparahna, Pradosh, Nishita, Begins}
-use Rattle.panchanga.specs.Noaa.{zeroOf, eventsOn}
+use Rattle.panchanga.specs.Noaa.{eventsOn}
+use Rattle.panchanga.specs.Noaa as Noaa
 use Rattle.panchanga.specs.Kalas.{kalaAt, nishitaBetween}
 use Rattle.panchanga.specs.Answers.{mapped}
 use Rattle.conversion.specs.declared.BsDate.{BsDate}
@@ -71,13 +72,17 @@ startAfter t x = first (startsOf t (x ⊕ dec 5 1) (x ⊕ dec 30 0) .starts)
 unfoldable pub endAfter : ℕ → Float → Option Float
 endAfter t x = first (startsOf (nextTithi t) (x ⊕ dec 1 1) (x ⊕ dec 25 1) .starts)
 
+-- sunrise and sunset of a day there
+abbrev pub sunOn : ℕ → Option (Float × Float)
+sunOn n = eventsOn Noaa.kathmandu n
+
 -- the instant of a kala on a day, by the sun's events
 unfoldable pub kalaOf : ℕ → ℕ → Option Float
-kalaOf k n = mapped (λ e. kalaAt (kalaNamed k) (e .0) (e .1)) (eventsOn n)
+kalaOf k n = mapped (λ e. kalaAt (kalaNamed k) (e .0) (e .1)) (sunOn n)
 
 -- nishita in the night that follows a day
 unfoldable pub nightOf : ℕ → Option (Float × Float)
-nightOf n = nishitaBetween (eventsOn n) (eventsOn (n + 1))
+nightOf n = nishitaBetween (sunOn n) (sunOn (n + 1))
 
 abbrev pub kathmandu : Sky Float
 kathmandu =

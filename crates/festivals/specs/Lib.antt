@@ -2,3 +2,4 @@
 pub mod Kathmandu
 pub mod Months
 pub mod Answers
+pub mod Inner

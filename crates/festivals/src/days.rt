@@ -1,9 +1,10 @@
 // The day on which a tithi is celebrated.
 use super::DayFound;
-use gregorian::NptAnswer;
+use gregorian::DateAnswer;
 use gregorian::NumberAnswer;
 use gregorian::UtDay;
 use gregorian::npt_date;
+use panchanga::KATHMANDU;
 use panchanga::Kala;
 use panchanga::Span;
 use panchanga::kalas;
@@ -18,25 +19,20 @@ ghost use Rattle.sky.specs.Answers.{firstSays};
 ghost use Rattle.panchanga.specs.Kalas.{kalaAt, isNishita};
 ghost use Rattle.panchanga.specs.Answers.{spanIs, mapped};
 ghost use Rattle.rules.specs.Days.{holds, nishita, rank, claimed, askedDay, festivalDay};
-ghost use Rattle.festivals.specs.Kathmandu.{kalaNumber, kalaNamed, isBegins, nepalDay, endAfter, kathmandu};
+ghost use Rattle.festivals.specs.Kathmandu.{kalaNumber, kalaNamed, isBegins, nepalDay, sunOn, endAfter, kathmandu};
 ghost use Rattle.festivals.specs.Answers.{dayIs};
 
 // The day in Nepal at an instant.
 pub fn nepal_day(instant: UtDay) -> DayFound
     ensures { λ r. ⌜ dayIs r ≡ nepalDay (instant .0) ⌝ }
 {
-    let date = npt_date(instant);
-    match date {
-        NptAnswer::Is(d) => {
-            let number = d.day_number();
-            match number {
-                NumberAnswer::Number(n) => DayFound::Day(n),
-                NumberAnswer::NoSuchDate => DayFound::Nothing,
-            }
-        }
-        NptAnswer::NoSuchDate => DayFound::Nothing,
-        NptAnswer::OutOfRange => DayFound::Nothing,
-    }
+    let DateAnswer::Is(date) = npt_date(instant) else {
+        return DayFound::Nothing;
+    };
+    let NumberAnswer::Number(n) = date.day_number() else {
+        return DayFound::Nothing;
+    };
+    DayFound::Day(n)
 }
 
 // The kala with a number.
@@ -80,6 +76,13 @@ fn is_begins(kala: Kala) -> bool
     }
 }
 
+// Sunrise and sunset of a day over Kathmandu.
+fn sun_on(n: u32) -> Span
+    ensures { λ r. ⌜ spanIs r ≡ sunOn n ⌝ }
+{
+    noaa::events_on(KATHMANDU, n)
+}
+
 // Whether a tithi covers the instant of a kala, which the sun's events of a day give: its end does not count.
 fn covers_kala(start: UtDay, end: UtDay, kala: Kala, today: Span) -> bool
     ensures { λ r. ⌜ r ≡ holds (mapped (λ e. kalaAt kala (e .0) (e .1)) (spanIs today)) (λ x. le (start .0) x && lt x (end .0)) ⌝ }
@@ -111,7 +114,7 @@ fn first_by_kala(start: UtDay, end: UtDay, kala: Kala, begin: u32) -> DayFound
     let mut n = begin - 1;
     let mut left: u8 = 4;
     while left > 0 {
-        if covers_kala(start, end, kala, noaa::events_on(n)) {
+        if covers_kala(start, end, kala, sun_on(n)) {
             return DayFound::Day(n);
         }
         n += 1;
@@ -126,10 +129,10 @@ fn first_by_night(start: UtDay, end: UtDay, begin: u32) -> DayFound
     ensures { λ r. ⌜ dayIs r ≡ claimed kathmandu (start .0) (end .0) nishita begin ⌝ }
 {
     let mut n = begin - 1;
-    let mut today = noaa::events_on(n);
+    let mut today = sun_on(n);
     let mut left: u8 = 4;
     while left > 0 {
-        let tomorrow = noaa::events_on(n + 1);
+        let tomorrow = sun_on(n + 1);
         if covers_night(start, end, kalas::nishita_between(today, tomorrow)) {
             return DayFound::Day(n);
         }

@@ -2,10 +2,10 @@
 use super::DayFound;
 use super::days::nepal_day;
 use conversion::BsDate;
-use conversion::DayAnswer;
 use conversion::MonthDays;
 use conversion::Placed;
 use conversion::Table;
+use gregorian::NumberAnswer;
 use gregorian::UtDay;
 use sky::search;
 ghost use mathlib.Core.Path.{_≡_};
@@ -41,7 +41,7 @@ pub fn year_days(table: Table, rows: &[u16], year: u16) -> YearDays
         month: 1,
         day: 1,
     };
-    let DayAnswer::Day(a) = conversion::day_of(table, rows, first) else {
+    let NumberAnswer::Number(a) = conversion::day_of(table, rows, first) else {
         return YearDays::Nothing;
     };
     let MonthDays::Days(len) = conversion::month_days(table, rows, year, 12) else {
@@ -52,7 +52,7 @@ pub fn year_days(table: Table, rows: &[u16], year: u16) -> YearDays
         month: 12,
         day: len,
     };
-    let DayAnswer::Day(b) = conversion::day_of(table, rows, last) else {
+    let NumberAnswer::Number(b) = conversion::day_of(table, rows, last) else {
         return YearDays::Nothing;
     };
     YearDays::Days(a, b)
@@ -64,8 +64,8 @@ pub fn new_moons(first: u32, last: u32, found: &mut [f64; 1024]) -> usize
     ensures { λ r. ⌜ (r ≤ 1024) × (length (now (found .exit)) ≡ 1024) ⌝ }
     ensures { λ r. ⌜ take r (now (found .exit)) ≡ moonsAround first last ⌝ }
 {
-    let from = UtDay(first as f64 - 0.5 - 35.0);
-    let to = UtDay(last as f64 - 0.5 + 5.0);
+    let from = UtDay(gregorian::zero_hour(first) - 35.0);
+    let to = UtDay(gregorian::zero_hour(last) + 5.0);
     let walked = search::walk(1, from, to, found);
     walked.count
 }

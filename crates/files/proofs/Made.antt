@@ -18,7 +18,9 @@ use Rattle.fields.specs.declared.row.Judged.{Judged}
 use Rattle.fields.specs.declared.row.Judged.the-variants as judged
 use Rattle.fields.specs.Line.{numbersOf, wordsOf, rowOf, judgedAs, named}
 use Rattle.fields.proofs.Rows.{front-numbers}
-use Rattle.files.specs.File.{Came, cameAs, End, over, broken, Made, made, numbered, faulted, begun, counted, fails, stored, taken, wanted, withJudged, withLine, withNext, well, unlessFaulty, after, ended, Makes, shut, holds, begin, width, Reads, tableOf, ReadsTable, rulesOf, ReadsRules}
+use Rattle.files.specs.File.{Came, cameAs, End, over, broken, Made, made, numbered, faulted, begun, counted, fails, stored, taken, wanted, withJudged}
+use Rattle.files.specs.File.{withLine, withNext, well, unlessFaulty, after, ended, shut, holds, begin, width, tableOf, ReadsTable, rulesOf, ReadsRules}
+use Rattle.files.specs.Inner.{Makes, Reads}
 
 -- ---- numbers that are stored
 

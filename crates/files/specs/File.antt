@@ -153,12 +153,6 @@ abbrev pub ended : Made → End → Made
 ended x over = x
 ended x broken = unlessFaulty x (fails fault.NotRead x)
 
--- some lines and how they end make y of x
-pub record Makes (w : ℕ) (x y : Made) : Type 0 where
-  pub lines : List Came
-  pub ends : End
-  pub same : y ≡ ended (after w x lines) ends
-
 -- ---- a whole file
 
 -- the rows of a table have thirteen numbers, rules eight
@@ -169,11 +163,6 @@ width awaits = cond awaits 13 8
 abbrev pub readAll : Bool → List ℕ → List ℕ → File → Made
 readAll awaits rows names shut = fails fault.NotOpened (made (begin awaits) rows names)
 readAll awaits rows names (holds ls e) = ended (after (width awaits) (made (begin awaits) rows names) ls) e
-
--- some file makes y
-pub record Reads (awaits : Bool) (rows names : List ℕ) (y : Made) : Type 0 where
-  pub file : File
-  pub same : y ≡ readAll awaits rows names file
 
 -- a table's first line and how many numbers its rows have; or what is wrong
 abbrev pub tableAs : Reading → Wrong → TableRead

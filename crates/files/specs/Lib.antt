@@ -1,3 +1,4 @@
 -- What the contracts of `files` are written in.
 pub mod Problems
 pub mod File
+pub mod Inner

@@ -5,7 +5,8 @@ ghost use Prim.Native.Nat.{_+_, _≤_};
 ghost use lib.ListN.{length, take};
 ghost use lib.Seq.{sets};
 ghost use Rattle.files.specs.File as File;
-ghost use Rattle.files.specs.File.{made, begin, well, withLine, withNext, cameAs, Makes, Reads};
+ghost use Rattle.files.specs.File.{made, begin, well, withLine, withNext, cameAs};
+ghost use Rattle.files.specs.Inner.{Makes, Reads};
 use conversion::Table;
 use fields::Judged;
 use lines::Input;
@@ -153,7 +154,8 @@ fn stored(
     s: &[u8],
 ) -> Reading
     requires { ⌜ (length values ≡ 13) × (width ≤ 13) ⌝ }
-    ensures { λ q. ⌜ made q (now (rows .exit)) (now (names .exit)) ≡ File.stored (made r (now (rows .entry)) (now (names .entry))) (now (s .entry)) (take width values) ⌝ }
+    ensures { λ q. ⌜ made q (now (rows .exit)) (now (names .exit)) ≡
+        File.stored (made r (now (rows .entry)) (now (names .entry))) (now (s .entry)) (take width values) ⌝ }
 {
     let count = r.count;
     if rows.len() < width {
@@ -205,7 +207,8 @@ fn with_next(
     s: &[u8],
 ) -> Reading
     requires { ⌜ width ≤ 13 ⌝ }
-    ensures { λ q. ⌜ made q (now (rows .exit)) (now (names .exit)) ≡ withNext width (made r (now (rows .entry)) (now (names .entry))) (cameAs long (now (s .entry))) ⌝ }
+    ensures { λ q. ⌜ made q (now (rows .exit)) (now (names .exit)) ≡
+        withNext width (made r (now (rows .entry)) (now (names .entry))) (cameAs long (now (s .entry))) ⌝ }
 {
     if 10000 <= r.line {
         return faulted(r, Fault::TooMany);
@@ -273,7 +276,8 @@ fn width(awaits: bool) -> usize
 
 // The reading of a descriptor from its first line: of a table, where its first line is awaited, or of rules.
 fn read_open(fd: i32, awaits: bool, rows: &mut [u16], names: &mut [u8]) -> Reading
-    ensures { λ q. ⌜ Makes (File.width awaits) (made (begin awaits) (now (rows .entry)) (now (names .entry))) (made q (now (rows .exit)) (now (names .exit))) ⌝ }
+    ensures { λ q. ⌜ Makes (File.width awaits) (made (begin awaits) (now (rows .entry)) (now (names .entry)))
+        (made q (now (rows .exit)) (now (names .exit))) ⌝ }
 {
     let mut piece = [0u8; 4096];
     let mut line = [0u8; 4096];

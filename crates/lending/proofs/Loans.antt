@@ -11,7 +11,7 @@ use Rattle.text.specs.Written.{Wrote}
 use Rattle.text.proofs.Writes.{then}
 use Rattle.asked.specs.Tags.{TABLE, CELLS, RULES, RULE}
 use Rattle.asked.specs.declared.words.Words.{Words}
-use Rattle.replies.specs.Replies.{small}
+use Rattle.asked.specs.Line.{small}
 use Rattle.lending.specs.declared.Lending.{Lending}
 use Rattle.lending.specs.declared.Lending.the-variants as L
 use Rattle.lending.specs.Lending.{ones, lendingOf, numbersOf, longer}

@@ -6,7 +6,7 @@ use lib.Dec.{eqb, ltb}
 use lib.ListN.{length}
 use lib.Seq.{sets}
 use Rattle.conversion.specs.declared.Table.{Table}
-use Rattle.replies.specs.Replies.{small}
+use Rattle.asked.specs.Line.{small}
 use Rattle.asked.specs.Tags.{TABLE, CELLS, RULES, RULE}
 use Rattle.asked.specs.declared.words.Words.{Words}
 use Rattle.lending.specs.declared.Lent.{Lent}

@@ -1,8 +1,8 @@
 -- What a descriptor brings, a line at a time. Which bytes come is outside every contract: they are any. Assumes nothing.
 use Prim.Native.Nat.{ℕ, _-_, _≤_}
 use mathlib.Core.Path.{_≡_}
-use mathlib.Core.Bool.{Bool, true, false, cond}
-use mathlib.Core.List.{List, [], _++_}
+use mathlib.Core.Bool.{Bool, true, false, cond, _||_}
+use mathlib.Core.List.{List, [], _∷_, _++_}
 use lib.Dec.{eqb, leb}
 use lib.ListN.{length, take, drop}
 use Rattle.text.specs.Kept.{Current, short, current, Line, whole, going, line}
@@ -39,6 +39,11 @@ front piece to = cond (leb to (length piece)) (take to piece) []
 -- the bytes that were read and are still to be taken in
 abbrev pub waiting : List ℕ → Input → List ℕ
 waiting piece input = drop (input .from) (front piece (input .to))
+
+-- whether a line feed (10) is among bytes
+unfoldable pub hasFeed : List ℕ → Bool
+hasFeed [] = false
+hasFeed (b ∷ s) = eqb b 10 || hasFeed s
 
 -- the line that stands in the buffer, or that it was too long
 abbrev pub lineIn : List ℕ → Input → Current

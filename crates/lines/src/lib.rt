@@ -1,7 +1,8 @@
 // What a descriptor brings, a line at a time: each line stands at the start of a lent buffer.
 ghost use mathlib.Core.Path.{_≡_};
 ghost use Rattle.text.specs.Kept.{Fills};
-ghost use Rattle.lines.specs.Lines.{started, ended, given, lastOf, front, NextLine};
+ghost use lib.ListN.{drop};
+ghost use Rattle.lines.specs.Lines.{started, ended, given, lastOf, front, waiting, hasFeed, NextLine};
 use text::Filled;
 use text::Held;
 
@@ -111,6 +112,31 @@ fn fill_on(piece: &[u8], from: usize, to: usize, line: &mut [u8], held: Held) ->
         return text::fill(&piece[..to], from, line, held);
     }
     Filled::Open(held)
+}
+
+// Whether a line feed stands in a text from a place on.
+fn has_feed(s: &[u8], from: usize) -> bool
+    ensures { λ r. ⌜ r ≡ hasFeed (drop from (now (s .entry))) ⌝ }
+{
+    let mut i = from;
+    while i < s.len() {
+        if s[i] == 10 {
+            return true;
+        }
+        i += 1;
+    }
+    false
+}
+
+// Whether the piece has a whole line more, so that it is handed over without a read.
+pub fn has_line(input: Input, piece: &[u8]) -> bool
+    ensures { λ r. ⌜ r ≡ hasFeed (waiting (now (piece .entry)) input) ⌝ }
+{
+    let to = input.to;
+    if to <= piece.len() {
+        return has_feed(&piece[..to], input.from);
+    }
+    false
 }
 
 // The next line of the input. Pieces and line are kept in the lent buffers. A read that fails ends the input.

@@ -1,8 +1,8 @@
 // Notes on a new moon beside the beginning of a solar month, line by line: when it is, what it opens, and the rules that hang on it.
 use conversion::BsDate;
 use gregorian::UtDay;
-use panchanga::clock;
 use output::Out;
+use panchanga::clock;
 ghost use mathlib.Core.Path.{_≡_};
 ghost use mathlib.Core.Bool.{false, _||_};
 ghost use mathlib.Core.List.{[], _∷_};

@@ -6,13 +6,15 @@ use lib.Dec.{T}
 use lib.Ieee.{Float, neg, div, le, ofBits}
 use lib.Ieee.Fits.{and-l, and-r}
 use Rattle.paper.specs.Floats.{_⊗_, _⊘_, near, dec}
+use Rattle.gregorian.specs.Instants.{zeroOf}
 use Rattle.trig.specs.Trig.{one, limit, inRange, withinOne, sine}
 use Rattle.sky.specs.Angles.{deg}
 use Rattle.sky.specs.Sun.{meanLongitude, anomaly, sunLongitude}
 use Rattle.sky.proofs.Norms.{upto-within}
 use Rattle.sky.proofs.Numbers.{sine-number, tt-between, centuries-number, sun-upto}
 use Rattle.sky.proofs.Served as Sky
-use Rattle.panchanga.specs.Noaa.{zeroOf, centuriesAt, obliquity, declination, kathmandu}
+use Rattle.panchanga.specs.declared.Place.{Place}
+use Rattle.panchanga.specs.Noaa.{centuriesAt, obliquity, declination, kathmandu}
 use Rattle.paper.proofs.Within.{Within, refined, clamped, inside, lit, got, _⊞_, _⊟_, _⊠_, by, _⧄_, within}
 use Rattle.panchanga.proofs.Small.{tilt-sine, small-arc}
 use Rattle.panchanga.proofs.Noon.{Dated, noon-instant}
@@ -84,13 +86,13 @@ module _ {t : Float} (p : Within 20 1680000 t) where
       declination-angle = served (within far (got (small-arc product-number)) tt);
     }
 
--- on every date, at every latitude and longitude
+-- on every date, at every place
 abbrev pub upTo : ℕ → Float → Bool
 upTo k x = le (neg (dec k 0)) x && le x (dec k 0)
 
-pub events-served : (lat lon : Float) (n : ℕ) → T (upTo 90 lat) → T (upTo 180 lon) → Dated n → Served (centuriesAt lon (zeroOf n)) lat
+pub events-served : (p : Place) (n : ℕ) → T (upTo 90 (p .latitude)) → T (upTo 180 (p .longitude)) → Dated n → Served (centuriesAt (p .longitude) (zeroOf n)) (p .latitude)
 unfolding centuriesAt
-events-served lat lon n l t h = all-served (centuries-number (tt-between _ (noon-instant lon n t h))) l
+events-served p n l t h = all-served (centuries-number (tt-between _ (noon-instant (p .longitude) n t h))) l
 
 -- those of the sun's longitude are sky's
 pub sun-served : (lon : Float) (n : ℕ) → T (upTo 180 lon) → Dated n → Sky.Served (centuriesAt lon (zeroOf n))
@@ -100,4 +102,4 @@ sun-served lon n t h = Sky.instant-angles _ (noon-instant lon n t h)
 -- over Kathmandu
 pub kathmandu-served : (n : ℕ) → Dated n → Served (centuriesAt (kathmandu .longitude) (zeroOf n)) (kathmandu .latitude)
 unfolding near le neg
-kathmandu-served n h = events-served (kathmandu .latitude) (kathmandu .longitude) n tt tt h
+kathmandu-served n h = events-served kathmandu n tt tt h

@@ -12,7 +12,7 @@ use Rattle.paper.specs.Answers.{answered, given}
 use Rattle.paper.specs.Floats.{_⊕_, _⊖_, dec}
 use Rattle.paper.proofs.Tests.{T-true}
 use Rattle.gregorian.specs.declared.Date.{Date}
-use Rattle.gregorian.specs.Instants.{instant, nptAnswer}
+use Rattle.gregorian.specs.Instants.{instant, zeroOf, nptAnswer}
 use Rattle.trig.specs.Trig.{withinOne}
 use Rattle.sky.specs.Sun.{meanLongitude, anomaly, sunLongitude}
 use Rattle.sky.specs.Tithi.{elongationOf}
@@ -21,7 +21,7 @@ use Rattle.sky.proofs.Twelves.{tithi-range}
 use Rattle.panchanga.specs.declared.Place.{Place}
 use Rattle.panchanga.specs.declared.lunar.Reading.{Reading}
 use Rattle.panchanga.specs.Clock.{clockOf}
-use Rattle.panchanga.specs.Noaa.{zeroOf, centuriesAt, declination, equationOfTime, cosHourAngle, solarNoon, halfDay, eventsAround, sunEvents, eventsOn}
+use Rattle.panchanga.specs.Noaa.{centuriesAt, declination, equationOfTime, cosHourAngle, solarNoon, halfDay, eventsAround, sunEvents, eventsOn}
 use Rattle.panchanga.specs.Reading.{sameDate, endOn, morning, readingAt, readingBy, readingOf}
 use Rattle.panchanga.proofs.Minutes.{clock-below}
 use Rattle.panchanga.proofs.Noon.{Dated, morning-instant}

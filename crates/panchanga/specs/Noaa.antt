@@ -2,19 +2,14 @@
 use mathlib.Core.Bool.{cond, _&&_}
 use mathlib.Core.Option.{Option, some, none}
 use Prim.Native.Nat.{ℕ}
-use lib.IntN.{pos}
 use lib.Ieee.{Float}
-use Rattle.paper.specs.Floats.{_⊕_, _⊖_, _⊗_, _⊘_, dec, whole}
-use Rattle.gregorian.specs.Instants.{instant}
+use Rattle.paper.specs.Floats.{_⊕_, _⊖_, _⊗_, _⊘_, dec}
+use Rattle.gregorian.specs.Instants.{instant, zeroOf}
 use Rattle.trig.specs.Trig.{sine, cosine, tangent, arcsine, arccosine, withinOne}
 use Rattle.sky.specs.Angles.{deg}
 use Rattle.sky.specs.Time.{square, ttOf, julianCenturies}
 use Rattle.sky.specs.Sun.{meanLongitude, anomaly, sunLongitude}
 use Rattle.panchanga.specs.declared.Place.{Place}
-
--- 0h of the day whose number is n, half a day before its noon
-unfoldable pub zeroOf : ℕ → Float
-zeroOf n = whole (pos n) ⊖ dec 5 1
 
 -- noon at a longitude, `julian_day` at 0.5 less the longitude's part of a turn, and its centuries since J2000.0
 unfoldable pub noonAt : Float → Float → Float

@@ -7,13 +7,13 @@ use lib.Ieee.{Float}
 use Rattle.paper.specs.Answers.{Answer, answered, refused}
 use Rattle.paper.specs.Floats.{_⊕_, _⊖_, dec}
 use Rattle.gregorian.specs.declared.Date.{Date}
-use Rattle.gregorian.specs.Instants.{nptOffset, nptAnswer}
+use Rattle.gregorian.specs.Instants.{zeroOf, nptOffset, nptAnswer}
 use Rattle.sky.specs.Tithi.{elongationOf, tithiOf}
 use Rattle.sky.specs.Search.{endOf}
 use Rattle.panchanga.specs.declared.Place.{Place}
 use Rattle.panchanga.specs.declared.lunar.Reading.{Reading}
 use Rattle.panchanga.specs.Clock.{clockOf}
-use Rattle.panchanga.specs.Noaa.{zeroOf, eventsOn}
+use Rattle.panchanga.specs.Noaa.{eventsOn}
 
 -- whether an answered date is x
 abbrev pub sameDate : Date → Answer Date → Bool
@@ -27,7 +27,9 @@ endOn x (some e) = cond (sameDate x (nptAnswer e)) (clockOf e) 1440
 
 -- the tithi at an instant that names the day, its end, and the minutes of sunrise and sunset
 abbrev pub readingAt : Date → Float → ℕ → ℕ → Reading
-readingAt x at rise set = record { tithi = tithiOf (elongationOf at); end = endOn x (endOf at); sunrise = rise; sunset = set }
+readingAt x at rise set =
+    let n = tithiOf (elongationOf at) in
+    record { tithi = n; end = endOn x (endOf n at); sunrise = rise; sunset = set }
 
 -- a quarter of the day in Nepal, on the day with number n
 unfoldable pub morning : ℕ → Float

@@ -2,9 +2,6 @@
 ghost use mathlib.Core.Path.{_≡_};
 ghost use Rattle.panchanga.specs.Clock.{rounded, minutesOf, fraction, clockOf};
 
-// Nepal time, 5 hours and 45 minutes east, as a fraction of a day.
-const NPT_OFFSET: f64 = 5.75 / 24.0;
-
 // The nearest whole number, half upward; 0 below 0.0 or for no number.
 pub fn rounded(x: f64) -> u32
     ensures { λ r. ⌜ r ≡ rounded x ⌝ }
@@ -41,5 +38,5 @@ fn fraction(x: f64) -> f64
 pub fn clock_of(x: f64) -> u16
     ensures { λ r. ⌜ r ≡ clockOf x ⌝ }
 {
-    minutes_of(fraction(x + NPT_OFFSET + 0.5))
+    minutes_of(fraction(gregorian::local_day(x)))
 }

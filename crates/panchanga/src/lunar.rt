@@ -9,11 +9,12 @@ use super::clock::clock_of;
 use super::noaa::events_on;
 use gregorian::Date;
 use gregorian::DateAnswer;
+use gregorian::NPT_OFFSET;
 use gregorian::UtDay;
 use gregorian::npt_date;
+use gregorian::zero_hour;
 use sky::search::FirstStart;
-use sky::search::first_start;
-use sky::search::next_tithi;
+use sky::search::end_of;
 use sky::tithi::elongation_of;
 use sky::tithi::tithi_of;
 
@@ -24,9 +25,6 @@ pub struct Reading {
     pub sunrise: u16,
     pub sunset: u16,
 }
-
-// Nepal time, 5 hours and 45 minutes east, as a fraction of a day.
-const NPT_OFFSET: f64 = 5.75 / 24.0;
 
 // The minute of what does not happen.
 const NONE: u16 = 1440;
@@ -63,7 +61,7 @@ fn end_on(date: Date, end: FirstStart) -> u16
 fn morning(n: u32) -> f64
     ensures { λ r. ⌜ r ≡ morning n ⌝ }
 {
-    n as f64 - 0.5 + (0.25 - NPT_OFFSET)
+    zero_hour(n) + (0.25 - NPT_OFFSET)
 }
 
 // The reading of a date by the instant that names the day.
@@ -71,10 +69,9 @@ fn reading_at(date: Date, at: UtDay, sunrise: u16, sunset: u16) -> Reading
     ensures { λ r. ⌜ r ≡ readingAt date (at .0) sunrise sunset ⌝ }
 {
     let tithi = tithi_of(elongation_of(at));
-    let end = first_start(next_tithi(tithi), at, UtDay(at.0 + 2.5));
     Reading {
         tithi,
-        end: end_on(date, end),
+        end: end_on(date, end_of(tithi, at)),
         sunrise,
         sunset,
     }

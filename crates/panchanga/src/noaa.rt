@@ -1,6 +1,7 @@
 // Sunrise and sunset after NOAA's solar calculator. Each function serves every f64.
 ghost use mathlib.Core.Path.{_≡_};
-ghost use Rattle.panchanga.specs.Noaa.{centuriesAt, obliquity, eccentricity, declination, timeEquation, equationOfTime, cosHourAngle, solarNoon, halfDay, eventsAround, sunEvents, eventsOn};
+ghost use Rattle.panchanga.specs.Noaa.{centuriesAt, obliquity, eccentricity, declination, timeEquation, equationOfTime};
+ghost use Rattle.panchanga.specs.Noaa.{cosHourAngle, solarNoon, halfDay, eventsAround, sunEvents, eventsOn};
 ghost use Rattle.panchanga.specs.Answers.{spanIs};
 use super::Place;
 use super::Span;
@@ -116,5 +117,5 @@ pub fn events_at(place: Place, zero: f64) -> Span
 pub fn events_on(place: Place, n: u32) -> Span
     ensures { λ r. ⌜ spanIs r ≡ eventsOn place n ⌝ }
 {
-    events_at(place, n as f64 - 0.5)
+    events_at(place, gregorian::zero_hour(n))
 }

@@ -6,7 +6,8 @@ use mathlib.Core.List.{List, [], _∷_, _++_}
 use lib.ListN.{take}
 use Rattle.asked.specs.Line.{wordsOf}
 use Rattle.output.specs.Gathered.{Gathered, gathered, puts, ended, Gathers}
-use Rattle.asked.specs.Turns.{inputOf, TurnAfter}
+use Rattle.lines.specs.Lines.{waiting, hasFeed}
+use Rattle.asked.specs.Turns.{inputOf, heard, TurnAfter}
 use Rattle.output.specs.declared.Out.{Out}
 use Rattle.asked.specs.declared.words.Words.{Words}
 use Rattle.asked.specs.declared.input.Turn.{Turn}
@@ -15,39 +16,39 @@ use Rattle.questions.specs.declared.Stepped.{Stepped}
 use Rattle.lending.specs.declared.Lent.{Lent}
 use Rattle.lending.specs.Lending.{Loan, loanAfter}
 use Rattle.questions.specs.Questions.{answerWords}
-use Rattle.questions.specs.Runs.{lendLine, answerLine, lendLines, answerLines, Answers, TurnDone}
+use Rattle.questions.specs.Runs.{Came, lineOf, lendLine, answerLine, lendLines, answerLines, Answers, TurnDone}
 
 -- one line more
-lend-more : (x : Loan) (lines : List (List ℕ)) (l : List ℕ) → lendLines x (lines ++ (l ∷ [])) ≡ lendLine (lendLines x lines) l
+lend-more : (x : Loan) (lines : List Came) (l : Came) → lendLines x (lines ++ (l ∷ [])) ≡ lendLine (lendLines x lines) l
 lend-more x [] l = refl
 lend-more x (k ∷ lines) l = lend-more (lendLine x k) lines l
 
-answer-more : (x : Loan) (g : Gathered) (lines : List (List ℕ)) (l : List ℕ) → answerLines x g (lines ++ (l ∷ [])) ≡ answerLine (lendLines x lines) (answerLines x g lines) l
+answer-more : (x : Loan) (g : Gathered) (lines : List Came) (l : Came) → answerLines x g (lines ++ (l ∷ [])) ≡ answerLine (lendLines x lines) (answerLines x g lines) l
 answer-more x g [] l = refl
 answer-more x g (k ∷ lines) l = answer-more (lendLine x k) (answerLine x g k) lines l
 
 -- ---- a turn
 
-loan-is : (x : Loan) (l : List ℕ) (w : Words) (lent : Lent) (rows rules : List ℕ) → w ≡ wordsOf l
+loan-is : (x : Loan) (l : Came) (w : Words) (lent : Lent) (rows rules : List ℕ) → w ≡ wordsOf (l .line)
     → lent ≡ loanAfter (x .lent) (x .rows) (x .rules) w .lent → rows ≡ loanAfter (x .lent) (x .rows) (x .rules) w .rows → rules ≡ loanAfter (x .lent) (x .rows) (x .rules) w .rules
     → record { lent = lent; rows = rows; rules = rules } ≡ lendLine x l
 unfolding lendLine
 loan-is x l w lent rows rules e p q s = rw (← e, p, q, s)
 
-answer-is : (x : Loan) (g : Gathered) (l : List ℕ) (w : Words) (lent : Lent) (rows rules : List ℕ) → w ≡ wordsOf l → record { lent = lent; rows = rows; rules = rules } ≡ lendLine x l
-    → ended (puts g (answerWords lent rows rules w)) ≡ answerLine x g l
+answer-is : (x : Loan) (g : Gathered) (l : Came) (w : Words) (lent : Lent) (rows rules : List ℕ) → w ≡ wordsOf (l .line) → record { lent = lent; rows = rows; rules = rules } ≡ lendLine x l
+    → heard (l .more) (ended (puts g (answerWords lent rows rules w))) ≡ answerLine x g l
 unfolding answerLine
 answer-is x g l w lent rows rules e k = rw (← k, ← e)
 
 -- the line lends, is answered, and the next one is read
 pub turn-done : {t r : Turn} {x : Loan} {piece line out rows rules piece' line' out₁ out' : List ℕ} {w : Words} {lent : Lent} {answered : Out} → w ≡ wordsOf (take (t .len) line)
     → lent ≡ loanAfter (x .lent) (x .rows) (x .rules) w .lent → rows ≡ loanAfter (x .lent) (x .rows) (x .rules) w .rows → rules ≡ loanAfter (x .lent) (x .rows) (x .rules) w .rules
-    → Gathers out (t .out) (answerWords lent rows rules w) out₁ answered → TurnAfter (inputOf t) piece line piece' line' out' (ended (gathered out₁ answered)) r
+    → Gathers out (t .out) (answerWords lent rows rules w) out₁ answered → TurnAfter (inputOf t) piece line piece' line' out' (heard (hasFeed (waiting piece (inputOf t))) (ended (gathered out₁ answered))) r
     → TurnDone t x piece line out rows rules piece' line' out' (record { turn = r; lent = lent })
-turn-done {t} {x = x} {line = line} {out = out} {rows = rows} {rules = rules} {w = w} {lent = lent} e p q s g n =
-    let l = take (t .len) line in
+turn-done {t} {x = x} {piece = piece} {line = line} {out = out} {rows = rows} {rules = rules} {w = w} {lent = lent} e p q s g n =
+    let l = lineOf t piece line in
     let loan : record { lent = lent; rows = rows; rules = rules } ≡ lendLine x l = loan-is x l w lent rows rules e p q s in
-    record { loan = loan; turn = rw (ap ended (g .same) ∙ answer-is x (gathered out (t .out)) l w lent rows rules e loan) at n }
+    record { loan = loan; turn = rw (ap (λ (y : Gathered). heard (l .more) (ended y)) (g .same) ∙ answer-is x (gathered out (t .out)) l w lent rows rules e loan) at n }
 
 -- ---- turns
 
@@ -57,7 +58,7 @@ fresh out = record { buffer = out; at = 0; begun = false }
 
 -- where a run stands after some lines
 pub record Runs (first : Loan) (out₀ rows rules out : List ℕ) (t : Turn) (lent : Lent) : Type 0 where
-  pub lines : List (List ℕ)
+  pub lines : List Came
   pub loan : record { lent = lent; rows = rows; rules = rules } ≡ lendLines first lines
   pub buffer : out ≡ answerLines first (fresh out₀) lines .buffer
   pub goes : 0 < t .left → gathered out (t .out) ≡ answerLines first (fresh out₀) lines
@@ -70,8 +71,8 @@ module _ {first : Loan} {out₀ rows rules out : List ℕ} {t : Turn} {lent : Le
   pub runs-turn : 0 < t .left → {piece line rows' rules' piece' line' out' : List ℕ} {r : Stepped}
       → TurnDone t (record { lent = lent; rows = rows; rules = rules }) piece line out rows' rules' piece' line' out' r
       → Runs first out₀ rows' rules' out' (r .turn) (r .lent)
-  runs-turn h {line = line} d =
-      let l = take (t .len) line in
+  runs-turn h {piece = piece} {line = line} d =
+      let l = lineOf t piece line in
       let all : answerLine (record { lent = lent; rows = rows; rules = rules }) (gathered out (t .out)) l ≡ answerLines first (fresh out₀) (a .lines ++ (l ∷ [])) =
       ap (λ (x : Loan). answerLine x (gathered out (t .out)) l) (a .loan)
       ∙ (ap (λ (g : Gathered). answerLine (lendLines first (a .lines)) g l) (a .goes h) ∙ sym (answer-more first (fresh out₀) (a .lines) l)) in

@@ -4,6 +4,7 @@ use mathlib.Core.Bool.{cond}
 use mathlib.Core.List.{List, _++_}
 use lib.Dec.{eqb}
 use lib.ListN.{replicate}
+use Rattle.paper.specs.declared.Refusal.the-variants.{BadRules}
 use Rattle.text.specs.Digits.{digits}
 use Rattle.conversion.specs.declared.Table.{Table}
 use Rattle.rules.specs.Rules.{acceptedRules}
@@ -13,11 +14,12 @@ use Rattle.asked.specs.Tags.{LISTBS}
 use Rattle.asked.specs.declared.words.Words.{Words}
 use Rattle.replies.specs.declared.Reply.{Reply}
 use Rattle.replies.specs.declared.Reply.the-variants as R
-use Rattle.replies.specs.Replies.{said, formed, small, replyWords, barred}
+use Rattle.asked.specs.Line.{small}
+use Rattle.replies.specs.Replies.{said, formed, replyWords, barred}
 
--- `checkrules`: whether the rules are accepted, or refusal 2
+-- `checkrules`: whether the rules are accepted, or the refusal
 abbrev pub rulesReply : List ℕ → Words → Reply
-rulesReply rules w = formed (eqb (w .form) 0) (cond (acceptedRules rules) R.Good (R.Refused 2))
+rulesReply rules w = formed (eqb (w .form) 0) (cond (acceptedRules rules) R.Good (R.Refused BadRules))
 
 -- `listbs` asks by BS date, `listad` by Gregorian date
 unfoldable pub listAsked : Table → List ℕ → List ℕ → Words → List ℕ → Listed

@@ -19,7 +19,8 @@ use Rattle.asked.specs.declared.words.Whole.the-variants.{Is, TooLarge}
 use Rattle.asked.specs.declared.words.Words.{Words}
 use Rattle.replies.specs.declared.Reply.{Reply}
 use Rattle.replies.specs.declared.Reply.the-variants as R
-use Rattle.replies.specs.Replies.{said, formed, small, dateIn, dateWords, replyWords, barred}
+use Rattle.asked.specs.Line.{small}
+use Rattle.replies.specs.Replies.{said, formed, dateIn, dateWords, replyWords, barred}
 
 -- a month's year and number
 abbrev pub monthly : BsMonth → Reply
@@ -45,7 +46,7 @@ monthWords (answered m) =
     ++ (dateWords (m .first .year) (m .first .month) (m .first .day)
     ++ (dateWords (m .last .year) (m .last .month) (m .last .day)
     ++ (digits (m .cells) ∷ digits (m .festivals) ∷ [])))
-monthWords (refused k) = digits k ∷ []
+monthWords (refused k) = replyWords (R.Refused k)
 
 -- the month, and both buffers after the call
 abbrev pub shownWords : Shown → List (List ℕ)

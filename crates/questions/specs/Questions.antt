@@ -1,16 +1,15 @@
 -- What every question is answered, by its tag. Assumes nothing.
 use Prim.Native.Nat.{ℕ}
-use mathlib.Core.Bool.{Bool, false, cond, _&&_, _||_}
+use mathlib.Core.Bool.{Bool, false, cond, _||_}
 use mathlib.Core.List.{List, [], _∷_}
-use lib.Dec.{eqb, leb}
-use lib.ListN.{length, take}
+use lib.Dec.{eqb}
+use lib.ListN.{take}
 use Rattle.conversion.specs.declared.Table.{Table}
 use Rattle.conversion.specs.Calendar.{Calendar}
 use Rattle.conversion.specs.Flat.{flat}
 use Rattle.asked.specs.Tags.{CHECK, CHECKRULES, BS, AD, LEN, VALID, STEP, STARTS, LISTBS, LISTAD, GRID, DAY, DATE, JD, NPT, EVENTS, RISE, SET, KALA, NISHITA, READ, SIN, COS, ASIN, ACOS, TAN}
 use Rattle.asked.specs.declared.words.Words.{Words}
 use Rattle.replies.specs.declared.Reply.{Reply}
-use Rattle.replies.specs.declared.Reply.the-variants as R
 use Rattle.replies.specs.Replies.{replyWords}
 use Rattle.answers.specs.Searches.{searchWords}
 use Rattle.answers.specs.Days.{daysReply}
@@ -50,10 +49,8 @@ wordsBy tag t rows rules w =
     (cond (oneOf (GRID ∷ []) tag) (gridWords t rows rules w)
     (replyWords (replyTo (flat t rows) rules w))))
 
--- nothing to a line that lends; else the answer over what is lent, a question mark where a list is shorter than that
+-- nothing to a line that lends; else the answer over what is lent
 unfoldable pub answerWords : Lent → List ℕ → List ℕ → Words → List (List ℕ)
 answerWords lent rows rules w =
     cond (lends (lendingOf (w .tag) (w .form))) []
-    (cond (leb (lent .cells) (length rows) && leb (lent .numbers) (length rules))
     (wordsBy (w .tag) (lent .table) (take (lent .cells) rows) (take (lent .numbers) rules) w)
-    (replyWords R.Unformed))

@@ -1,5 +1,7 @@
 // The answers to the line language: what lines lend, and what each question is answered over it.
 ghost use mathlib.Core.Path.{_≡_};
+ghost use Prim.Native.Nat.{_≤_};
+ghost use lib.ListN.{length, take};
 ghost use Rattle.conversion.specs.Flat.{flat};
 ghost use Rattle.output.specs.Gathered.{Gathers};
 ghost use Rattle.questions.specs.Questions.{replyTo, wordsBy, answerWords};
@@ -57,20 +59,27 @@ fn answer_over(o: Out, out: &mut [u8], w: Words, table: Table, rows: &[u16], rul
     }
 }
 
-// The answer to a line that asks, nothing to one that lends, or a question mark.
+// How many of a list's first n numbers there are.
+fn front(list: &[u16], n: usize) -> usize
+    ensures { λ r. ⌜ (r ≤ length (now (list .entry))) × (take r (now (list .entry)) ≡ take n (now (list .entry))) ⌝ }
+{
+    if n <= list.len() {
+        return n;
+    }
+    list.len()
+}
+
+// The answer to a line that asks, over what is lent; nothing to one that lends.
 fn answer(o: Out, out: &mut [u8], w: Words, lent: Lent, rows: &[u16], rules: &[u16]) -> Out
     ensures { λ r. ⌜ Gathers (now (out .entry)) o (answerWords lent (now (rows .entry)) (now (rules .entry)) w) (now (out .exit)) r ⌝ }
 {
     if lending::is_lending(w) {
         return o;
     }
-    let cells = lent.cells;
-    let numbers = lent.numbers;
     let table = lent.table;
-    if (cells <= rows.len()) & (numbers <= rules.len()) {
-        return answer_over(o, out, w, table, &rows[..cells], &rules[..numbers]);
-    }
-    Reply::Unformed.put(o, out)
+    let cells = front(rows, lent.cells);
+    let numbers = front(rules, lent.numbers);
+    answer_over(o, out, w, table, &rows[..cells], &rules[..numbers])
 }
 
 // A turn: the line lends or is answered, and the next line is read.

@@ -1,6 +1,7 @@
 // Questions about the lent rules: `checkrules`, `listbs` and `listad`.
 ghost use mathlib.Core.Path.{_≡_};
 ghost use mathlib.Core.Bool.{cond};
+ghost use Rattle.paper.specs.declared.Refusal.the-variants.{BadRules};
 ghost use Rattle.rules.specs.Rules.{acceptedRules};
 ghost use Rattle.festivals.specs.Answers.{listSays};
 ghost use Rattle.output.specs.Gathered.{Gathers};
@@ -12,16 +13,17 @@ use asked::tags;
 use conversion::Table;
 use festivals::ListAnswer;
 use output::Out;
+use paper::Refusal;
 use replies::Reply;
 
-// Whether the rules are accepted, or refusal 2.
+// Whether the rules are accepted, or the refusal.
 fn accepted(numbers: &[u16]) -> Reply
-    ensures { λ r. ⌜ r ≡ cond (acceptedRules (now (numbers .entry))) R.Good (R.Refused 2) ⌝ }
+    ensures { λ r. ⌜ r ≡ cond (acceptedRules (now (numbers .entry))) R.Good (R.Refused BadRules) ⌝ }
 {
     if rules::accepts_rules(numbers) {
         return Reply::Good;
     }
-    Reply::Refused(2)
+    Reply::Refused(Refusal::BadRules)
 }
 
 // The reply to a line `checkrules` in form, or a question mark.
@@ -40,14 +42,7 @@ fn count(answer: ListAnswer) -> Reply
 {
     match answer {
         ListAnswer::Count(n) => Reply::Number(n as u64),
-        ListAnswer::BadTable => Reply::Refused(1),
-        ListAnswer::BadRules => Reply::Refused(2),
-        ListAnswer::NoSuchDate => Reply::Refused(3),
-        ListAnswer::NoYear => Reply::Refused(4),
-        ListAnswer::NoMonth => Reply::Refused(5),
-        ListAnswer::NoDay => Reply::Refused(6),
-        ListAnswer::Outside => Reply::Refused(7),
-        ListAnswer::NoRoom => Reply::Refused(9),
+        ListAnswer::Refused(e) => Reply::Refused(e),
     }
 }
 

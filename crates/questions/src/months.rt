@@ -6,7 +6,8 @@ ghost use Rattle.grid.specs.Step.{stepSays};
 ghost use Rattle.grid.specs.Month.{gridSays};
 ghost use Rattle.grid.specs.Kathmandu.{monthShown};
 ghost use Rattle.output.specs.Gathered.{Gathers};
-ghost use Rattle.replies.specs.Replies.{said, small, dateIn};
+ghost use Rattle.asked.specs.Line.{small};
+ghost use Rattle.replies.specs.Replies.{said, dateIn};
 ghost use Rattle.questions.specs.Months as Months;
 ghost use Rattle.questions.specs.Months.{monthly, stepReply, monthWords, shownWords, gridWords};
 use asked::Whole;
@@ -24,8 +25,7 @@ fn monthly_of(a: StepAnswer) -> Reply
 {
     match a {
         StepAnswer::Month(m) => Reply::Pair(m.year as u64, m.month as u64),
-        StepAnswer::BadTable => Reply::Refused(1),
-        StepAnswer::OffTable => Reply::Refused(10),
+        StepAnswer::Refused(e) => Reply::Refused(e),
     }
 }
 
@@ -64,24 +64,19 @@ fn put_days(o: Out, out: &mut [u8], m: Month) -> Out
     let first = m.first;
     let last = m.last;
     let days = Reply::Number(m.days as u64).put(o, out);
-    let from = replies::put_date(days, out, first.year, first.month, first.day);
-    let to = replies::put_date(from, out, last.year, last.month, last.day);
+    let from = replies::put_date_words(days, out, first.year, first.month, first.day);
+    let to = replies::put_date_words(from, out, last.year, last.month, last.day);
     to.number(out, m.cells as u64)
         .number(out, m.festivals as u64)
 }
 
 // The month or the refusal.
-fn put_month(o: Out, out: &mut [u8], a: GridAnswer) -> Out
+fn put_month_words(o: Out, out: &mut [u8], a: GridAnswer) -> Out
     ensures { λ r. ⌜ Gathers (now (out .entry)) o (monthWords (gridSays a)) (now (out .exit)) r ⌝ }
 {
     match a {
         GridAnswer::Is(m) => put_days(o, out, m),
-        GridAnswer::BadTable => o.number(out, 1),
-        GridAnswer::BadRules => o.number(out, 2),
-        GridAnswer::NoSuchDate => o.number(out, 3),
-        GridAnswer::NoYear => o.number(out, 4),
-        GridAnswer::NoMonth => o.number(out, 5),
-        GridAnswer::NoRoom => o.number(out, 9),
+        GridAnswer::Refused(e) => Reply::Refused(e).put(o, out),
     }
 }
 
@@ -109,7 +104,7 @@ fn put_asked(
         cells,
         list,
     );
-    let told = put_month(o, out, a);
+    let told = put_month_words(o, out, a);
     let shown = replies::put_list(told, out, cells);
     replies::put_list(shown, out, list)
 }

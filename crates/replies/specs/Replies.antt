@@ -4,21 +4,21 @@ use mathlib.Core.Bool.{Bool, cond}
 use mathlib.Core.List.{List, [], _∷_, map}
 use mathlib.Core.Option.{Option, some, none}
 use lib.Dec.{eqb}
-use lib.Ieee.{Float, binary64, ofBits}
-use lib.ListN.{getD}
+use lib.Ieee.{Float}
 use Rattle.paper.specs.Answers.{Answer, answered, refused}
+use Rattle.paper.specs.Refusals.{number}
 use Rattle.text.specs.Digits.{digits}
 use Rattle.text.specs.Quoted.{bytes}
 use Rattle.gregorian.specs.declared.Date.{Date}
 use Rattle.output.specs.Floats.{floatText}
-use Rattle.asked.specs.Line.{fitting}
+use Rattle.asked.specs.Line.{small}
 use Rattle.asked.specs.declared.words.Words.{Words}
 use Rattle.replies.specs.declared.Reply.{Reply}
 use Rattle.replies.specs.declared.Reply.the-variants as R
 
 -- ---- from an answer to a reply
 
--- what is made of the value, or the refusal's number
+-- what is made of the value, or the refusal
 abbrev pub said : {A : Type 0} → (A → Reply) → Answer A → Reply
 said f (answered x) = f x
 said f (refused k) = R.Refused k
@@ -43,16 +43,6 @@ unfoldable pub among : ℕ → List (ℕ × Reply) → Reply
 among tag [] = R.Unformed
 among tag (row ∷ rows) = cond (eqb tag (row .0)) (row .1) (among tag rows)
 
--- a line's word: a number up to 65,535, one that a u32 holds, a float
-abbrev pub small : Words → ℕ → ℕ
-small w i = fitting 65535 (getD (w .values) i 0)
-
-abbrev pub large : Words → ℕ → ℕ
-large w i = fitting 4294967295 (getD (w .values) i 0)
-
-abbrev pub float : Words → ℕ → Float
-float w i = ofBits binary64 (getD (w .values) i 0)
-
 -- a line's first three words
 abbrev pub dateIn : Words → Date
 dateIn w = record { year = small w 1; month = small w 2; day = small w 3 }
@@ -65,7 +55,7 @@ dateWords y m d = digits y ∷ digits m ∷ digits d ∷ []
 -- a question mark, a refusal's number alone, or 0 and the values; "none" where there is none
 unfoldable pub replyWords : Reply → List (List ℕ)
 replyWords R.Unformed = bytes "?" ∷ []
-replyWords (R.Refused k) = digits k ∷ []
+replyWords (R.Refused k) = digits (number k) ∷ []
 replyWords R.Good = digits 0 ∷ []
 replyWords R.Nothing = digits 0 ∷ bytes "none" ∷ []
 replyWords (R.Number n) = digits 0 ∷ digits n ∷ []

@@ -8,11 +8,12 @@ use asked::Words;
 use gregorian::Date;
 use output::Out;
 use panchanga::lunar::Reading;
+use paper::Refusal;
 
 // A question mark for a line out of form, the number of a refusal alone, or 0 and values.
 pub enum Reply {
     Unformed,
-    Refused(u16),
+    Refused(Refusal),
     Good,
     Nothing,
     Number(u64),
@@ -26,7 +27,7 @@ pub enum Reply {
 }
 
 // A date as three words.
-pub fn put_date(o: Out, out: &mut [u8], year: u16, month: u16, day: u16) -> Out
+pub fn put_date_words(o: Out, out: &mut [u8], year: u16, month: u16, day: u16) -> Out
     ensures { λ r. ⌜ Gathers (now (out .entry)) o (dateWords year month day) (now (out .exit)) r ⌝ }
 {
     o.number(out, year as u64)
@@ -46,7 +47,7 @@ fn put_reading(o: Out, out: &mut [u8], x: Reading) -> Out
     ensures { λ r. ⌜ Gathers (now (out .entry)) o (replyWords (R.Reading x)) (now (out .exit)) r ⌝ }
 {
     let named = o.number(out, 0).number(out, x.tithi as u64);
-    put_date(named, out, x.end, x.sunrise, x.sunset)
+    put_date_words(named, out, x.end, x.sunrise, x.sunset)
 }
 
 impl Reply {
@@ -56,15 +57,15 @@ impl Reply {
     {
         match self {
             Reply::Unformed => o.word(out, b"?"),
-            Reply::Refused(k) => o.number(out, k as u64),
+            Reply::Refused(k) => o.number(out, k.number() as u64),
             Reply::Good => o.number(out, 0),
             Reply::Nothing => o.number(out, 0).word(out, b"none"),
             Reply::Number(n) => o.number(out, 0).number(out, n),
             Reply::Pair(n, k) => put_pair(o, out, n, k),
-            Reply::Date(y, m, d) => put_date(o.number(out, 0), out, y, m, d),
+            Reply::Date(y, m, d) => put_date_words(o.number(out, 0), out, y, m, d),
             Reply::Float(x) => o.number(out, 0).float(out, x),
             Reply::Span(x, y) => o.number(out, 0).float(out, x).float(out, y),
-            Reply::Day(n, k, x) => put_date(
+            Reply::Day(n, k, x) => put_date_words(
                 put_pair(o, out, n as u64, k as u64),
                 out,
                 x.year,

@@ -1,7 +1,7 @@
 -- A question that goes on from another's answer. Where the first is steady, and what is made of its answers is the same, so is the whole.
 -- Assumes nothing.
-use Prim.Native.Nat.{ℕ}
 use mathlib.Core.Path.{_≡_, refl, sym, ap, _∙_}
+use Rattle.paper.specs.declared.Refusal.{Refusal}
 use Rattle.paper.specs.Answers.{Answer, answered, refused, then}
 use Rattle.paper.proofs.Answers.{answered-same, refused-answered, then-answered, then-refused}
 use Rattle.conversion.specs.Claims.{RefusedIf}
@@ -20,7 +20,7 @@ module _ {X Y : Type 0} (a b : Answer X) (f g : X → Answer Y) (longer : (x : X
       ap (λ (z : Answer X). then z g) (longer (t .0) (t .1 .0)) ∙ then-answered (t .0) g ∙ sym (same (t .0) (t .1 .0)) ∙ t .1 .1
 
   -- what the longer answers, the shorter refuses exactly if it refuses what that goes on from
-  pub then-added : (k : ℕ) (P : Type 0) (x : X) (v : Y) → b ≡ answered x → RefusedIf a k P → then b g ≡ answered v → RefusedIf (then a f) k P
+  pub then-added : (k : Refusal) (P : Type 0) (x : X) (v : Y) → b ≡ answered x → RefusedIf a k P → then b g ≡ answered v → RefusedIf (then a f) k P
   then-added k P x v q r e =
       record {
         when = λ p. ap (λ (z : Answer X). then z f) (r .when p) ∙ then-refused k f;
@@ -30,7 +30,7 @@ module _ {X Y : Type 0} (a b : Answer X) (f g : X → Answer Y) (longer : (x : X
       made : g x ≡ answered v
       made = sym (then-answered x g) ∙ ap (λ (z : Answer X). then z g) (sym q) ∙ e
 
-      go : (j : ℕ) → then a f ≡ refused j → (c : Answer X) → a ≡ c → P
+      go : (j : Refusal) → then a f ≡ refused j → (c : Answer X) → a ≡ c → P
       go j h (answered z) p =
           let one : z ≡ x = answered-same (sym (longer z p) ∙ q) in
           let o : a ≡ answered x = p ∙ ap answered one in

@@ -4,6 +4,7 @@ pub mod Accepted
 pub mod Most
 pub mod Used
 pub mod Listed
+pub mod Lent
 pub mod Questions
 pub mod Following
 pub mod Longer

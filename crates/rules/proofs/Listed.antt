@@ -6,6 +6,8 @@ use native.Mathlib.Omega.{arith}
 use borrow.Author.Tests.{le-leb, lt-leb}
 use lib.ListN.{length, drop}
 use lib.Seq.{sets}
+use Rattle.paper.specs.declared.Refusal.{Refusal}
+use Rattle.paper.specs.declared.Refusal.the-variants.{NoRoom}
 use Rattle.paper.specs.Answers.{Answer, answered, refused}
 use Rattle.paper.proofs.Stores.{sets-front}
 use Rattle.rules.specs.Festivals.{Pair, numbers, listed}
@@ -23,11 +25,11 @@ pub record Says (a : Answer (List Pair)) (out : List ℕ) (r : Answer ℕ) (afte
   pub answer : r ≡ listed a out .answer
   pub buffer : after ≡ listed a out .buffer
 
-pub says-refused : (k : ℕ) (out : List ℕ) → Says (refused k) out (refused k) out
+pub says-refused : (k : Refusal) (out : List ℕ) → Says (refused k) out (refused k) out
 unfolding listed
 says-refused k out = record { answer = refl; buffer = refl }
 
-pub says-short : (l : List Pair) (out : List ℕ) → length out < length l * 2 → Says (answered l) out (refused 9) out
+pub says-short : (l : List Pair) (out : List ℕ) → length out < length l * 2 → Says (answered l) out (refused NoRoom) out
 unfolding listed
 says-short l out h = let e = lt-leb (length l * 2) (length out) h in record { answer = rw e; buffer = rw e }
 

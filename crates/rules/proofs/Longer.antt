@@ -9,6 +9,8 @@ use mathlib.Core.Option.{Option, some, none}
 use native.Mathlib.Omega.{arith}
 use borrow.Author.Tests.{le-leb, lt-leb, lt-ltb, eqb-true, ne-eqb}
 use lib.Dec.{eqb}
+use Rattle.paper.specs.declared.Refusal.{Refusal}
+use Rattle.paper.specs.declared.Refusal.the-variants.{Outside}
 use Rattle.paper.specs.Answers.{Answer, answered, refused}
 use Rattle.paper.proofs.Answers.{answered-same}
 use Rattle.paper.proofs.Tests.{split}
@@ -24,7 +26,7 @@ use Rattle.rules.specs.Festivals.{dated, firstDay, lastDay, moons, inMon
 use Rattle.rules.specs.Steady.{AddedDay, SameEntry}
 
 -- ---- the tests of a date and of an entry
-same-dated : (p : BsDate → Bool) (a b : Answer BsDate) → ((t : BsDate) → a ≡ answered t → b ≡ answered t) → ((t : BsDate) (k : ℕ) → a ≡ refused k → b ≡ answered t → p t ≡ false) → dated a p ≡ dated b p
+same-dated : (p : BsDate → Bool) (a b : Answer BsDate) → ((t : BsDate) → a ≡ answered t → b ≡ answered t) → ((t : BsDate) (k : Refusal) → a ≡ refused k → b ≡ answered t → p t ≡ false) → dated a p ≡ dated b p
 unfolding dated
 same-dated p (answered t) b h g = rw (h t refl)
 same-dated p (refused k) (answered t) h g = sym (g t k refl refl)
@@ -65,7 +67,7 @@ in-table-answered : (c : Calendar) (n : ℕ) (t : BsDate) → fromDay c n ≡ an
 unfolding inTable dated
 in-table-answered c n t e = rw e
 
-in-table-refused : (c : Calendar) (n k : ℕ) → fromDay c n ≡ refused k → inTable c n ≡ none
+in-table-refused : (c : Calendar) (n : ℕ) (k : Refusal) → fromDay c n ≡ refused k → inTable c n ≡ none
 unfolding inTable dated
 in-table-refused c n k e = rw e
 
@@ -78,7 +80,7 @@ unfolding next
 next-none o f h = rw h
 
 -- a day that the longer answers is refused by the shorter exactly if it lies in an added year
-pub day-refused : (c e : Calendar) → Extends c e → (n : ℕ) (t : BsDate) → fromDay e n ≡ answered t → RefusedIf (fromDay c n) 7 (AddedDay c e n)
+pub day-refused : (c e : Calendar) → Extends c e → (n : ℕ) (t : BsDate) → fromDay e n ≡ answered t → RefusedIf (fromDay c n) Outside (AddedDay c e n)
 day-refused c e x n t q =
     let r = from-day-added c e x n t q in
     record {

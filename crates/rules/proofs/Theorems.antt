@@ -1,11 +1,12 @@
 -- What is proved of day lists, over any sky and any calendar. Asked by BS date and by Gregorian date of the same day the answer is the same. And they are
 -- steady: rows added to a year table change no answered list, and a computed entry only where it lies in an added year. Assumes nothing.
 use Prim.Native.Nat.{ℕ, _+_}
-use mathlib.Core.Path.{_≡_, refl, sym, ap, _∙_}
-use mathlib.Core.Bool.{Bool, true, false}
+use mathlib.Core.Path.{_≡_, sym, ap, _∙_}
+use mathlib.Core.Bool.{Bool, true}
 use mathlib.Core.List.{List, _++_}
 use native.Mathlib.Omega.{arith}
-use Rattle.paper.specs.Answers.{Answer, answered, then}
+use Rattle.paper.specs.declared.Refusal.the-variants.{NoSuchDate, NoYear, Outside}
+use Rattle.paper.specs.Answers.{Answer, answered}
 use Rattle.paper.proofs.Answers.{given-answered, given-on}
 use Rattle.gregorian.specs.declared.Date.{Date}
 use Rattle.gregorian.specs.Calendar.{isDate, dayNumber}
@@ -16,15 +17,17 @@ use Rattle.conversion.specs.Flat.{accepted, flat, date}
 use Rattle.conversion.proofs.Rows.{row-lens}
 use Rattle.conversion.proofs.Accepted.{facts}
 use Rattle.conversion.specs.Claims.{Added, RefusedIf}
-use Rattle.conversion.proofs.Days.{on-table, from-to, to-from}
+use Rattle.conversion.proofs.Days.{from-to, to-from}
 use Rattle.conversion.proofs.Ad.{Served, ad-from}
 use Rattle.conversion.proofs.Longer.{Extends, extends, day-longer, day-added, from-day-longer}
 use Rattle.conversion.proofs.Theorems.{matched}
 use Rattle.rules.specs.declared.Rule.{Rule}
+use Rattle.rules.specs.Lent.{lent}
 use Rattle.rules.specs.Sky.{Sky}
-use Rattle.rules.specs.Festivals.{Pair, dayList, listed, listOnBs, listOnAd}
+use Rattle.rules.specs.Festivals.{Pair, listed, listOnBs, listOnAd}
 use Rattle.rules.specs.Steady.{AddedDay, SameList, Steady}
-use Rattle.rules.proofs.Questions.{bs-bad-rules, bs-list, ad-bad-rules, ad-list}
+use Rattle.rules.proofs.Lent.{lent-told}
+use Rattle.rules.proofs.Questions.{then-by, on-bs, on-ad}
 use Rattle.rules.proofs.Following.{then-told, then-longer, then-added}
 use Rattle.rules.proofs.Longer.{Filled, day-refused, opening-same, entry-same, list-same}
 
@@ -32,20 +35,12 @@ use Rattle.rules.proofs.Longer.{Filled, day-refused, opening-same, entr
 module _ {I : Type 0} (s : Sky I) (c : Calendar) (rs : List Rule) (ok : Bool) (y m d : ℕ) where
   -- the BS date of a Gregorian date
   pub same-day : (t : BsDate) → fromAd c y m d ≡ answered t → listOnAd s c rs ok y m d ≡ listOnBs s c rs ok (t .year) (t .month) (t .day)
-  same-day t e = go ok refl
-    where
-      n : ℕ
-      n = dayNumber (date y m d)
-
-      p : (isDate y m d ≡ true) × (fromDay c n ≡ answered t)
-      p = ad-from c y m d t e
-
-      g : c .good ≡ true
-      g = on-table c n t (p .1) .good
-
-      go : (b : Bool) → ok ≡ b → listOnAd s c rs ok y m d ≡ listOnBs s c rs ok (t .year) (t .month) (t .day)
-      go false o = ad-bad-rules s c rs ok y m d g o ∙ sym (bs-bad-rules s c rs ok (t .year) (t .month) (t .day) g o)
-      go true o = ad-list s c rs ok y m d g o (p .0) n refl t (p .1) ∙ sym (bs-list s c rs ok (t .year) (t .month) (t .day) g o n (to-from c n t (p .1)))
+  unfolding listOnBs listOnAd
+  same-day t e =
+      let n = dayNumber (date y m d) in
+      let p = ad-from c y m d t e in
+      ap (lent c ok)
+      (given-on (isDate y m d) NoSuchDate _ (p .0) ∙ then-by (fromDay c n) _ t (p .1) ∙ sym (then-by (toDay c (t .year) (t .month) (t .day)) _ n (to-from c n t (p .1))))
 
 -- the Gregorian date of a BS date
 pub same-date : {I : Type 0} (s : Sky I) (c : Calendar) (rs : List Rule) (ok : Bool) (y m d : ℕ) (x : Date) → Served c → toAd c y m d ≡ answered x
@@ -54,21 +49,13 @@ same-date s c rs ok y m d x w e = sym (same-day s c rs ok (x .year) (x .month) (
 
 -- ---- past the first tests, which the calendars pass alike
 module _ {I : Type 0} (s : Sky I) (c : Calendar) (rs : List Rule) (ok : Bool) (y m d : ℕ) where
-  on-bs : c .good ≡ true → ok ≡ true → listOnBs s c rs ok y m d ≡ then (toDay c y m d) (λ n. answered (dayList s c rs (bs y m d) n))
-  unfolding listOnBs
-  on-bs g o = given-on (c .good) 1 _ g ∙ given-on ok 2 _ o
-
-  on-ad : c .good ≡ true → ok ≡ true → isDate y m d ≡ true → listOnAd s c rs ok y m d ≡ then (fromDay c (dayNumber (date y m d))) (λ t. answered (dayList s c rs t (dayNumber (date y m d))))
-  unfolding listOnAd
-  on-ad g o h = given-on (c .good) 1 _ g ∙ given-on ok 2 _ o ∙ given-on (isDate y m d) 3 _ h
-
   bs-rules : {l : List Pair} → listOnBs s c rs ok y m d ≡ answered l → ok ≡ true
   unfolding listOnBs
-  bs-rules e = given-answered ok 2 _ (given-answered (c .good) 1 _ e .1) .0
+  bs-rules e = lent-told c ok _ e .1
 
   ad-rules : {l : List Pair} → listOnAd s c rs ok y m d ≡ answered l → (ok ≡ true) × (isDate y m d ≡ true)
   unfolding listOnAd
-  ad-rules e = let a = given-answered ok 2 _ (given-answered (c .good) 1 _ e .1) in (a .0, given-answered (isDate y m d) 3 _ (a .1) .0)
+  ad-rules e = let a = lent-told c ok _ e in (a .1, given-answered (isDate y m d) NoSuchDate _ (a .2) .0)
 
 -- ---- steady
 same-list : {short long : Answer (List Pair)} (out : List ℕ) {l : List Pair} → short ≡ answered l → long ≡ answered l → SameList short long out l
@@ -81,13 +68,13 @@ module _ {I : Type 0} (s : Sky I) (rs : List Rule) (ok : Bool) (c e : Calendar) 
       on-bs s e rs ok y m d (x .good-too) o
       ∙ then-longer (toDay c y m d) (toDay e y m d) _ _ (day-longer c e x y m d) (λ n q. ap answered (list-same s c e x w rs n (bs y m d) (from-to c y m d n q))) l (sym (on-bs s c rs ok y m d (x .good) o) ∙ h)
 
-  bs-added : listOnBs s e rs ok y m d ≡ answered l → RefusedIf (listOnBs s c rs ok y m d) 4 (Added c y)
+  bs-added : listOnBs s e rs ok y m d ≡ answered l → RefusedIf (listOnBs s c rs ok y m d) NoYear (Added c y)
   bs-added h =
       let o = bs-rules s e rs ok y m d h in
       let q = sym (on-bs s e rs ok y m d (x .good-too) o) ∙ h in
       let t = then-told (toDay e y m d) _ q in
       rw (on-bs s c rs ok y m d (x .good) o)
-      (then-added (toDay c y m d) (toDay e y m d) _ _ (day-longer c e x y m d) (λ n q. ap answered (list-same s c e x w rs n (bs y m d) (from-to c y m d n q))) 4 (Added c y) (t .0) l (t .1 .0) (day-added c e x y m d (t .0) (t .1 .0)) q)
+      (then-added (toDay c y m d) (toDay e y m d) _ _ (day-longer c e x y m d) (λ n q. ap answered (list-same s c e x w rs n (bs y m d) (from-to c y m d n q))) NoYear (Added c y) (t .0) l (t .1 .0) (day-added c e x y m d (t .0) (t .1 .0)) q)
 
   ad-longer : listOnAd s c rs ok y m d ≡ answered l → listOnAd s e rs ok y m d ≡ answered l
   ad-longer h =
@@ -96,14 +83,14 @@ module _ {I : Type 0} (s : Sky I) (rs : List Rule) (ok : Bool) (c e : Calendar) 
       on-ad s e rs ok y m d (x .good-too) (o .0) (o .1)
       ∙ then-longer (fromDay c n) (fromDay e n) _ _ (from-day-longer c e x n) (λ t q. ap answered (list-same s c e x w rs n t q)) l (sym (on-ad s c rs ok y m d (x .good) (o .0) (o .1)) ∙ h)
 
-  ad-added : listOnAd s e rs ok y m d ≡ answered l → RefusedIf (listOnAd s c rs ok y m d) 7 (AddedDay c e (dayNumber (date y m d)))
+  ad-added : listOnAd s e rs ok y m d ≡ answered l → RefusedIf (listOnAd s c rs ok y m d) Outside (AddedDay c e (dayNumber (date y m d)))
   ad-added h =
       let o = ad-rules s e rs ok y m d h in
       let n = dayNumber (date y m d) in
       let q = sym (on-ad s e rs ok y m d (x .good-too) (o .0) (o .1)) ∙ h in
       let t = then-told (fromDay e n) _ q in
       rw (on-ad s c rs ok y m d (x .good) (o .0) (o .1))
-      (then-added (fromDay c n) (fromDay e n) _ _ (from-day-longer c e x n) (λ t q. ap answered (list-same s c e x w rs n t q)) 7 (AddedDay c e n) (t .0) l (t .1 .0) (day-refused c e x n (t .0) (t .1 .0)) q)
+      (then-added (fromDay c n) (fromDay e n) _ _ (from-day-longer c e x n) (λ t q. ap answered (list-same s c e x w rs n t q)) Outside (AddedDay c e n) (t .0) l (t .1 .0) (day-refused c e x n (t .0) (t .1 .0)) q)
 
 pub steady-by : {I : Type 0} (s : Sky I) (rs : List Rule) (ok : Bool) (out : List ℕ) (c e : Calendar) → Extends c e → Filled c → Steady s rs ok out c e
 steady-by s rs ok out c e x w =

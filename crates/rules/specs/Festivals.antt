@@ -5,12 +5,14 @@ use mathlib.Core.List.{List, [], _∷_, _++_}
 use mathlib.Core.Option.{Option, some, none}
 use lib.Dec.{leb, eqb}
 use lib.ListN.{length, drop}
+use Rattle.paper.specs.declared.Refusal.the-variants.{NoSuchDate, NoRoom}
 use Rattle.paper.specs.Answers.{Answer, answered, refused, given, then}
 use Rattle.gregorian.specs.declared.Date.{Date}
 use Rattle.gregorian.specs.Calendar.{isDate, dayNumber, dateOf}
 use Rattle.conversion.specs.declared.BsDate.{BsDate}
 use Rattle.conversion.specs.Calendar.{Calendar, yearOk, dayAt, toDay, fromDay}
 use Rattle.rules.specs.declared.Rule.{Rule}
+use Rattle.rules.specs.Lent.{lent}
 use Rattle.rules.specs.Sky.{Sky}
 use Rattle.rules.specs.Days.{next, holds, festivalDay}
 
@@ -130,15 +132,13 @@ module _ {I : Type 0} (s : Sky I) (c : Calendar) (rs : List Rule) where
   module _ (ok : Bool) where
     -- asked by BS date: refusals 1, 2, 4, 5, 6
     unfoldable pub listOnBs : ℕ → ℕ → ℕ → Answer (List Pair)
-    listOnBs y m d =
-        given (c .good) 1
-        (given ok 2 (then (toDay c y m d) (λ n. answered (dayList (record { year = y; month = m; day = d }) n))))
+    listOnBs y m d = lent c ok (then (toDay c y m d) (λ n. answered (dayList (record { year = y; month = m; day = d }) n)))
 
     -- asked by Gregorian date: refusals 1, 2, 3, 7
     unfoldable pub listOnAd : ℕ → ℕ → ℕ → Answer (List Pair)
     listOnAd y m d =
         let n = dayNumber (record { year = y; month = m; day = d }) in
-        given (c .good) 1 (given ok 2 (given (isDate y m d) 3 (then (fromDay c n) (λ t. answered (dayList t n)))))
+        lent c ok (given (isDate y m d) NoSuchDate (then (fromDay c n) (λ t. answered (dayList t n))))
 
 -- ---- what is answered and written
 
@@ -151,10 +151,10 @@ pub record Listed : Type 0 where
   pub answer : Answer ℕ
   pub buffer : List ℕ
 
--- a list that fits is written from the front, its count is answered, and what lies past it stays; 9 where it does not fit. A refusal changes nothing
+-- a list that fits is written from the front, its count is answered, and what lies past it stays; no room where it does not fit. A refusal changes nothing
 unfoldable pub listed : Answer (List Pair) → List ℕ → Listed
 listed (answered l) out =
     cond (leb (length l * 2) (length out))
     (record { answer = answered (length l); buffer = numbers l ++ drop (length l * 2) out })
-    (record { answer = refused 9; buffer = out })
+    (record { answer = refused NoRoom; buffer = out })
 listed (refused k) out = record { answer = refused k; buffer = out }

@@ -1,4 +1,5 @@
 pub mod Rules
+pub mod Lent
 pub mod Sky
 pub mod Days
 pub mod Festivals

@@ -5,6 +5,7 @@ use mathlib.Core.Bool.{Bool}
 use mathlib.Core.List.{List}
 use mathlib.Core.Logic.{_⊎_}
 use mathlib.Core.Option.{Option, some, none}
+use Rattle.paper.specs.declared.Refusal.the-variants.{NoYear, Outside}
 use Rattle.paper.specs.Answers.{Answer, answered}
 use Rattle.gregorian.specs.Calendar.{dayNumber}
 use Rattle.conversion.specs.declared.BsDate.{BsDate}
@@ -39,5 +40,5 @@ module _ {I : Type 0} (s : Sky I) (rs : List Rule) (ok : Bool) (out : List ℕ) 
     pub on-bs : (y m d : ℕ) (l : List Pair) → listOnBs s short rs ok y m d ≡ answered l → SameList (listOnBs s short rs ok y m d) (listOnBs s long rs ok y m d) out l
     pub on-ad : (y m d : ℕ) (l : List Pair) → listOnAd s short rs ok y m d ≡ answered l → SameList (listOnAd s short rs ok y m d) (listOnAd s long rs ok y m d) out l
     -- a list that the longer answers is refused by the shorter exactly if its day lies in an added year
-    pub on-bs-added : (y m d : ℕ) (l : List Pair) → listOnBs s long rs ok y m d ≡ answered l → RefusedIf (listOnBs s short rs ok y m d) 4 (Added short y)
-    pub on-ad-added : (y m d : ℕ) (l : List Pair) → listOnAd s long rs ok y m d ≡ answered l → RefusedIf (listOnAd s short rs ok y m d) 7 (AddedDay short long (dayNumber (date y m d)))
+    pub on-bs-added : (y m d : ℕ) (l : List Pair) → listOnBs s long rs ok y m d ≡ answered l → RefusedIf (listOnBs s short rs ok y m d) NoYear (Added short y)
+    pub on-ad-added : (y m d : ℕ) (l : List Pair) → listOnAd s long rs ok y m d ≡ answered l → RefusedIf (listOnAd s short rs ok y m d) Outside (AddedDay short long (dayNumber (date y m d)))

@@ -1,9 +1,15 @@
 // The lent rules, records of eight numbers, and which lists of numbers are good.
 pub mod lists;
 
+use conversion::Table;
+use conversion::Validity;
+use paper::Refusal;
 ghost use mathlib.Core.Path.{_≡_};
 ghost use Prim.Native.Nat.{_+_, _*_, _/_, _≤_};
 ghost use lib.ListN.{length};
+ghost use Rattle.conversion.specs.Flat.{flat};
+ghost use Rattle.conversion.specs.Answers.{validSays};
+ghost use Rattle.rules.specs.Lent.{accepting};
 ghost use Rattle.rules.specs.Rules.{ruleAt, rulesOf, hasDate, ruleGood, allGood, countKind, acceptedRules};
 
 // A rule: fixed BS date (kind 1), fixed Gregorian date (2), computed (3) or override (4).
@@ -99,4 +105,17 @@ pub fn accepts_rules(rules: &[u16]) -> bool
         & (count_kind(rules, 2) <= 64)
         & (count_kind(rules, 3) <= 64)
         & (count_kind(rules, 4) <= 128)
+}
+
+// Whether what is lent is good: the table first, then the rules. Refusals 1, 2.
+pub fn accept(table: Table, rows: &[u16], rules: &[u16]) -> Validity
+    ensures { λ r. ⌜ validSays r ≡ accepting (flat table (now (rows .entry))) (acceptedRules (now (rules .entry))) ⌝ }
+{
+    if !conversion::accepts(table, rows) {
+        return Validity::Refused(Refusal::BadTable);
+    }
+    if !accepts_rules(rules) {
+        return Validity::Refused(Refusal::BadRules);
+    }
+    Validity::Valid
 }

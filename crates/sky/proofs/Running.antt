@@ -13,16 +13,13 @@ use lib.Ieee.Fits.{down-pos, and-r}
 use lib.Ieee.Exact.{HasValue}
 use lib.Ieee.Order.{le-of-values}
 use Rattle.paper.specs.Floats.{whole}
-use Rattle.paper.proofs.Within.{held-exactly, up-to}
+use Rattle.paper.proofs.Within.{up-to}
 use Rattle.gregorian.specs.Instants.{instant}
+use Rattle.gregorian.proofs.Instants.{whole-value}
 use Rattle.sky.specs.Tithi.{elongationOf, twelves, tithiOf}
 use Rattle.sky.proofs.Numbers.{elongation-number}
 
 -- ---- a whole number against a float
-whole-value : (K : ℕ) → K < 2 ^ 53 → HasValue (whole (pos K)) false K 1
-unfolding ofInt
-whole-value K h = held-exactly 0 K zero-le h
-
 reached : (K m : ℕ) (e : ℤ) → K < 2 ^ 53 → K * down e ≤ m * up e → T (le (whole (pos K)) (fin false m e))
 reached K m e h k = le-of-values (whole (pos K)) (fin false m e) K 1 (m * up e) (down e) (lit< tt) (down-pos e) (whole-value K h) (refl, refl) (le-trans k (le-of-eq (sym (mul-one (m * up e)))))
 

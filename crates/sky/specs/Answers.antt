@@ -98,4 +98,7 @@ instantSays (IA.Refused k) = refused k
 
 -- where the tithi running at an instant ends: refused too where two and a half days on are no instant
 abbrev pub endAnswer : Float → Answer (Option Float)
-endAnswer ut = given (instant ut) OutOfRange (given (instant (ut ⊕ dec 25 1)) OutOfRange (answered (endOf ut)))
+endAnswer ut =
+    given (instant ut) OutOfRange
+    (given (instant (ut ⊕ dec 25 1)) OutOfRange
+    (answered (endOf (tithiOf (elongationOf ut)) ut)))

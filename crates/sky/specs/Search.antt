@@ -8,7 +8,7 @@ use lib.Dec.{eqb}
 use lib.IntN.{pos}
 use lib.Ieee.{Float, lt, le, neg}
 use Rattle.paper.specs.Floats.{_⊕_, _⊖_, _⊗_, _⊘_, dec, whole}
-use Rattle.sky.specs.Tithi.{elongationOf, tithiOf}
+use Rattle.sky.specs.Tithi.{elongationOf}
 
 -- one turn more where at most -180, then one less where above 180
 unfoldable pub turned : Float → Float
@@ -79,6 +79,6 @@ startsOf n a b = searched (offset elongationOf (targetOf n)) a b
 unfoldable pub nextTithi : ℕ → ℕ
 nextTithi n = cond (eqb n 30) 1 (n + 1)
 
--- where the tithi that runs at a day of universal time ends: the next one's first start in two and a half days
-unfoldable pub endOf : Float → Option Float
-endOf ut = first (startsOf (nextTithi (tithiOf (elongationOf ut))) ut (ut ⊕ dec 25 1) .starts)
+-- where tithi n, which runs at a day of universal time, ends: the next one's first start in two and a half days
+unfoldable pub endOf : ℕ → Float → Option Float
+endOf n ut = first (startsOf (nextTithi n) ut (ut ⊕ dec 25 1) .starts)

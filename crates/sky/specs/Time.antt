@@ -31,7 +31,9 @@ unfoldable pub before1986 : Float → Float
 before1986 t = dec 4545 2 ⊕ dec 1067 3 ⊗ t ⊖ t ⊗ t ⊘ dec 260 0 ⊖ cube t ⊘ dec 718 0
 
 unfoldable pub before2005 : Float → Float
-before2005 t = dec 6386 2 ⊕ dec 3345 4 ⊗ t ⊖ dec 60374 6 ⊗ t ⊗ t ⊕ dec 17275 7 ⊗ cube t ⊕ dec 651814 9 ⊗ fourth t ⊕ dec 2373599 11 ⊗ fifth t
+before2005 t =
+    dec 6386 2 ⊕ dec 3345 4 ⊗ t ⊖ dec 60374 6 ⊗ t ⊗ t ⊕ dec 17275 7 ⊗ cube t
+    ⊕ dec 651814 9 ⊗ fourth t ⊕ dec 2373599 11 ⊗ fifth t
 
 unfoldable pub before2050 : Float → Float
 before2050 t = dec 6292 2 ⊕ dec 32217 5 ⊗ t ⊕ dec 5589 6 ⊗ t ⊗ t

@@ -12,7 +12,8 @@ ghost use mathlib.Core.Path.{_≡_};
 ghost use mathlib.Core.List.{_++_};
 ghost use Prim.Native.Nat.{_≤_};
 ghost use lib.ListN.{length, take, drop};
-ghost use Rattle.sky.specs.Answers.{ttSays, ttAnswer, degreesSays, sunAnswer, moonAnswer, elongationAnswer, smallSays, tithiAnswer, query, startsSays, startsAnswer, startsBuffer, instantSays, endAnswer};
+ghost use Rattle.sky.specs.Answers.{ttSays, degreesSays, smallSays, startsSays, instantSays, query, startsBuffer};
+ghost use Rattle.sky.specs.Answers.{ttAnswer, sunAnswer, moonAnswer, elongationAnswer, tithiAnswer, startsAnswer, endAnswer};
 use gregorian::UtDay;
 use paper::Refusal;
 use search::FirstStart;
@@ -167,7 +168,8 @@ pub fn tithi_end(ut: UtDay) -> InstantAnswer
 {
     if gregorian::is_instant(ut.0) {
         if gregorian::is_instant(ut.0 + 2.5) {
-            let end = search::end_of(ut);
+            let running = tithi::tithi_of(tithi::elongation_of(ut));
+            let end = search::end_of(running, ut);
             match end {
                 FirstStart::At(x) => return InstantAnswer::At(x),
                 FirstStart::Nothing => return InstantAnswer::Nothing,

@@ -6,8 +6,8 @@ ghost use Prim.Native.Nat.{_≤_};
 ghost use Rattle.sky.specs.Tithi.{elongationOf};
 ghost use Rattle.sky.specs.Search.{turned, offset, targetOf, halved, stepEnd, crosses, first, startsOf, nextTithi, endOf};
 ghost use Rattle.sky.specs.Answers.{firstSays};
+ghost use Rattle.sky.specs.Inner.{noStart, Comes};
 use super::tithi::elongation_of;
-use super::tithi::tithi_of;
 use gregorian::UtDay;
 
 // The first instant of some, if there is one.
@@ -21,6 +21,15 @@ pub struct Walked {
     pub count: usize,
     pub steps: usize,
     pub ended: bool,
+}
+
+// Whether a walk came to a start and which it is, where the walk stands then, the offset there, and how many steps are left.
+pub struct Next {
+    pub found: bool,
+    pub at: f64,
+    pub lo: f64,
+    pub gap: f64,
+    pub left: usize,
 }
 
 // An angle brought above -180 and to at most 180 degrees by one turn.
@@ -88,6 +97,63 @@ fn is_crossing(a: f64, b: f64) -> bool
     false
 }
 
+// The walk came to its end, with no start.
+fn no_start(lo: f64, gap: f64, left: usize) -> Next
+    ensures { λ r. ⌜ r ≡ noStart lo gap left ⌝ }
+{
+    Next {
+        found: false,
+        at: lo,
+        lo,
+        gap,
+        left,
+    }
+}
+
+// The next start of a walk from an instant with this offset, at most so many steps on.
+fn next_start(target: f64, end: f64, from: f64, gap: f64, steps: usize) -> Next
+    requires { ⌜ gap ≡ offset elongationOf target from ⌝ }
+    ensures { λ r. ⌜ Comes (offset elongationOf target) end steps from r ⌝ }
+{
+    let mut lo = from;
+    let mut f_lo = gap;
+    let mut left = steps;
+    while left > 0 {
+        if lo < end {
+            let hi = step_end(end, lo);
+            let f_hi = elongation_offset(UtDay(hi), target);
+            left -= 1;
+            if is_crossing(f_lo, f_hi) {
+                return Next {
+                    found: true,
+                    at: bisect_crossing(target, lo, hi),
+                    lo: hi,
+                    gap: f_hi,
+                    left,
+                };
+            }
+            lo = hi;
+            f_lo = f_hi;
+        } else {
+            return no_start(lo, f_lo, left);
+        }
+    }
+    no_start(lo, f_lo, left)
+}
+
+// The first start of a walk of at most 1,024 steps.
+fn first_next(target: f64, end: f64, from: f64) -> Next
+    ensures { λ r. ⌜ Comes (offset elongationOf target) end 1024 from r ⌝ }
+{
+    next_start(
+        target,
+        end,
+        from,
+        elongation_offset(UtDay(from), target),
+        1024,
+    )
+}
+
 // Every start of a tithi from one instant to another, written to the front of `found`.
 pub fn walk(tithi: u16, from: UtDay, to: UtDay, found: &mut [f64; 1024]) -> Walked
     requires { ⌜ length (now found) ≡ 1024 ⌝ }
@@ -97,41 +163,21 @@ pub fn walk(tithi: u16, from: UtDay, to: UtDay, found: &mut [f64; 1024]) -> Walk
     ensures written { λ r. ⌜ now (found .exit) ≡ startsOf tithi (from .0) (to .0) .starts ++ drop (r .count) (now (found .entry)) ⌝ }
 {
     let target = target_of(tithi);
+    let begin = from.0;
     let end = to.0;
-    let mut lo = from.0;
-    let mut f_lo = elongation_offset(UtDay(lo), target);
+    let mut next = first_next(target, end, begin);
     let mut count: usize = 0;
-    let mut left: usize = 1024;
-    while left > 0 {
-        if lo < end {
-            let hi = step_end(end, lo);
-            let f_hi = elongation_offset(UtDay(hi), target);
-            if is_crossing(f_lo, f_hi) {
-                found[count] = bisect_crossing(target, lo, hi);
-                count += 1;
-            }
-            lo = hi;
-            f_lo = f_hi;
-            left -= 1;
-        } else {
-            return Walked {
-                count,
-                steps: 1024 - left,
-                ended: true,
-            };
-        }
+    while next.found {
+        found[count] = next.at;
+        count += 1;
+        next = next_start(target, end, next.lo, next.gap, next.left);
     }
-    if lo < end {
-        return Walked {
-            count,
-            steps: 1024,
-            ended: false,
-        };
-    }
+    let steps = 1024 - next.left;
+    let ended = !(next.lo < end);
     Walked {
         count,
-        steps: 1024,
-        ended: true,
+        steps,
+        ended,
     }
 }
 
@@ -139,24 +185,9 @@ pub fn walk(tithi: u16, from: UtDay, to: UtDay, found: &mut [f64; 1024]) -> Walk
 pub fn first_start(tithi: u16, from: UtDay, to: UtDay) -> FirstStart
     ensures { λ r. ⌜ firstSays r ≡ first (startsOf tithi (from .0) (to .0) .starts) ⌝ }
 {
-    let target = target_of(tithi);
-    let end = to.0;
-    let mut lo = from.0;
-    let mut f_lo = elongation_offset(UtDay(lo), target);
-    let mut left: usize = 1024;
-    while left > 0 {
-        if lo < end {
-            let hi = step_end(end, lo);
-            let f_hi = elongation_offset(UtDay(hi), target);
-            if is_crossing(f_lo, f_hi) {
-                return FirstStart::At(UtDay(bisect_crossing(target, lo, hi)));
-            }
-            lo = hi;
-            f_lo = f_hi;
-            left -= 1;
-        } else {
-            return FirstStart::Nothing;
-        }
+    let next = first_next(target_of(tithi), to.0, from.0);
+    if next.found {
+        return FirstStart::At(UtDay(next.at));
     }
     FirstStart::Nothing
 }
@@ -169,10 +200,10 @@ pub fn next_tithi(tithi: u16) -> u16
     if tithi == 30 { 1 } else { tithi + 1 }
 }
 
-// Where the tithi that runs at a day of universal time ends.
-pub fn end_of(ut: UtDay) -> FirstStart
-    ensures { λ r. ⌜ firstSays r ≡ endOf (ut .0) ⌝ }
+// Where a tithi that runs at a day of universal time ends: the next one's first start in two and a half days.
+pub fn end_of(tithi: u16, ut: UtDay) -> FirstStart
+    requires { ⌜ tithi ≤ 30 ⌝ }
+    ensures { λ r. ⌜ firstSays r ≡ endOf tithi (ut .0) ⌝ }
 {
-    let next = next_tithi(tithi_of(elongation_of(ut)));
-    first_start(next, ut, UtDay(ut.0 + 2.5))
+    first_start(next_tithi(tithi), ut, UtDay(ut.0 + 2.5))
 }

@@ -1,10 +1,11 @@
 -- The turns of the loops over a table's numbers, over plain variables. Assumes nothing.
 use Prim.Native.Nat.{ℕ, suc, _+_, _-_, _≤_, _<_}
 use mathlib.Core.Path.{_≡_, sym, ap, _∙_}
-use mathlib.Core.Bool.{true, false}
+use mathlib.Core.Bool.{true, false, cond}
 use mathlib.Core.List.{List}
 use native.Mathlib.Omega.{arith}
 use borrow.Author.Tests.{eq-eqb, ne-eqb, le-leb, lt-leb, lt-ltb, le-ltb}
+use lib.Dec.{eqb, ltb}
 use lib.ListN.{length, getD, drop}
 use Rattle.paper.specs.Sums.{sum}
 use Rattle.text.proofs.Texts.{cut, over}
@@ -17,41 +18,41 @@ use Rattle.tables.specs.Shared.{shared}
 
 -- ---- the columns of a row
 
-module _ (rows : List ℕ) (i m : ℕ) (h : m < 12) where
-  pub column-short : lens rows i m < 29 → m ≡ columnFrom rows i (12 - m) m
+module _ (rows : List ℕ) (i m : ℕ) (h : m < 12) {n : ℕ} (e : n ≡ lens rows i m) where
+  pub column-short : n < 29 → m ≡ columnFrom rows i (12 - m) m
   unfolding columnFrom
   column-short l =
       let q : 12 - m ≡ suc (11 - m) = omega arith in
-      rw (q, lt-leb 29 (lens rows i m) l)
+      rw (q, ← e, lt-leb 29 n l)
 
-  pub column-long : 29 ≤ lens rows i m → 32 < lens rows i m → m ≡ columnFrom rows i (12 - m) m
+  pub column-long : 29 ≤ n → 32 < n → m ≡ columnFrom rows i (12 - m) m
   unfolding columnFrom
   column-long k l =
       let q : 12 - m ≡ suc (11 - m) = omega arith in
-      rw (q, le-leb 29 (lens rows i m) k, lt-leb (lens rows i m) 32 l)
+      rw (q, ← e, le-leb 29 n k, lt-leb n 32 l)
 
-  pub column-turn : 29 ≤ lens rows i m → lens rows i m ≤ 32 → columnFrom rows i (12 - (m + 1)) (m + 1) ≡ columnFrom rows i (12 - m) m
+  pub column-turn : 29 ≤ n → n ≤ 32 → columnFrom rows i (12 - (m + 1)) (m + 1) ≡ columnFrom rows i (12 - m) m
   unfolding columnFrom
   column-turn k l =
       let q : 12 - m ≡ suc (11 - m) = omega arith in
       let r : 12 - (m + 1) ≡ 11 - m = omega arith in
-      rw (q, r, le-leb 29 (lens rows i m) k, le-leb (lens rows i m) 32 l)
+      rw (q, r, ← e, le-leb 29 n k, le-leb n 32 l)
 
-module _ (rows : List ℕ) (i m days : ℕ) (h : 12 ≤ m) (l : m ≤ 12) (s : days ≡ sum (lens rows i) m) where
-  pub column-good : lens rows i 12 ≡ days → 13 ≡ columnFrom rows i (12 - m) m
+module _ (rows : List ℕ) (i m days : ℕ) (h : 12 ≤ m) (l : m ≤ 12) (s : days ≡ sum (lens rows i) m) {n : ℕ} (e : n ≡ lens rows i 12) where
+  pub column-good : n ≡ days → 13 ≡ columnFrom rows i (12 - m) m
   unfolding columnFrom
-  column-good e =
+  column-good k =
       let z : m ≡ 12 = omega arith in
       let q : 12 - m ≡ 0 = omega arith in
-      let f : lens rows i 12 ≡ sum (lens rows i) 12 = e ∙ s ∙ ap (sum (lens rows i)) z in
+      let f : lens rows i 12 ≡ sum (lens rows i) 12 = sym e ∙ k ∙ s ∙ ap (sum (lens rows i)) z in
       rw (q, eq-eqb (lens rows i 12) (sum (lens rows i) 12) f)
 
-  pub column-sum : (lens rows i 12 ≡ days → ⊥) → 12 ≡ columnFrom rows i (12 - m) m
+  pub column-sum : (n ≡ days → ⊥) → 12 ≡ columnFrom rows i (12 - m) m
   unfolding columnFrom
-  column-sum n =
+  column-sum k =
       let z : m ≡ 12 = omega arith in
       let q : 12 - m ≡ 0 = omega arith in
-      let f : lens rows i 12 ≡ sum (lens rows i) 12 → ⊥ = λ e. n (e ∙ sym (s ∙ ap (sum (lens rows i)) z)) in
+      let f : lens rows i 12 ≡ sum (lens rows i) 12 → ⊥ = λ g. k (e ∙ g ∙ sym (s ∙ ap (sum (lens rows i)) z)) in
       rw (q, ne-eqb (lens rows i 12) (sum (lens rows i) 12) f)
 
 -- ---- the rows of a table
@@ -64,11 +65,11 @@ module _ (rows : List ℕ) (n i : ℕ) where
       rw q
 
   module _ (h : i < n) (m : ℕ) (e : m ≡ column rows i) where
-    pub row-here : (m ≡ 13 → ⊥) → B.Cell i m (lens rows i m) ≡ rowFrom rows (n - i) i
+    pub row-here : (m ≡ 13 → ⊥) → {k : ℕ} → k ≡ lens rows i m → B.Cell i m k ≡ rowFrom rows (n - i) i
     unfolding rowFrom
-    row-here k =
+    row-here d f =
         let q : n - i ≡ suc (n - (i + 1)) = omega arith in
-        rw (q, ← e, ne-eqb m 13 k)
+        rw (q, ← e, ne-eqb m 13 d, f)
 
     pub row-turn : m ≡ 13 → rowFrom rows (n - (i + 1)) (i + 1) ≡ rowFrom rows (n - i) i
     unfolding rowFrom
@@ -114,29 +115,30 @@ module _ (t : Table) (rows : List ℕ) where
     unfolding place
     year-high h = rw (le-ltb (t .«first_year») 1 a, lt-ltb 3000 (t .«first_year») h)
 
-    module _ (b : t .«first_year» ≤ 3000) where
-      pub rows-none : rowCount rows < 1 → B.NoRow ≡ place t rows
+    module _ (b : t .«first_year» ≤ 3000) {n : ℕ} (e : n ≡ rowCount rows) where
+      pub rows-none : n < 1 → B.NoRow ≡ place t rows
       unfolding place
-      rows-none h = rw (le-ltb (t .«first_year») 1 a, le-ltb 3000 (t .«first_year») b, lt-ltb (rowCount rows) 1 h)
+      rows-none h = rw (le-ltb (t .«first_year») 1 a, le-ltb 3000 (t .«first_year») b, ← e, lt-ltb n 1 h)
 
-      module _ (c : 1 ≤ rowCount rows) where
-        pub rows-many : 128 < rowCount rows → B.ManyRows ≡ place t rows
+      module _ (c : 1 ≤ n) where
+        pub rows-many : 128 < n → B.ManyRows ≡ place t rows
         unfolding place
-        rows-many h = rw (le-ltb (t .«first_year») 1 a, le-ltb 3000 (t .«first_year») b, le-ltb (rowCount rows) 1 c, lt-ltb 128 (rowCount rows) h)
+        rows-many h = rw (le-ltb (t .«first_year») 1 a, le-ltb 3000 (t .«first_year») b, ← e, le-ltb n 1 c, lt-ltb 128 n h)
 
-        module _ (d : rowCount rows ≤ 128) where
-          pub day-none : firstNumber t ≡ 0 → B.NoDate ≡ place t rows
+        module _ (d : n ≤ 128) {k : ℕ} (f : k ≡ firstNumber t) where
+          in-bounds : cond (eqb k 0) B.NoDate (cond (ltb k 2415386) B.FirstDay (rowFrom rows n 0)) ≡ place t rows
           unfolding place
-          day-none h = rw (le-ltb (t .«first_year») 1 a, le-ltb 3000 (t .«first_year») b, le-ltb (rowCount rows) 1 c, le-ltb 128 (rowCount rows) d, eq-eqb (firstNumber t) 0 h)
+          in-bounds = rw (le-ltb (t .«first_year») 1 a, le-ltb 3000 (t .«first_year») b, ← e, le-ltb n 1 c, le-ltb 128 n d, ← f)
 
-          module _ (e : firstNumber t ≡ 0 → ⊥) where
-            pub day-early : firstNumber t < 2415386 → B.FirstDay ≡ place t rows
-            unfolding place
-            day-early h = rw (le-ltb (t .«first_year») 1 a, le-ltb 3000 (t .«first_year») b, le-ltb (rowCount rows) 1 c, le-ltb 128 (rowCount rows) d, ne-eqb (firstNumber t) 0 e, lt-ltb (firstNumber t) 2415386 h)
+          pub day-none : k ≡ 0 → B.NoDate ≡ place t rows
+          day-none h = rw (eq-eqb k 0 h) at in-bounds
 
-            pub rows-left : 2415386 ≤ firstNumber t → rowFrom rows (rowCount rows) 0 ≡ place t rows
-            unfolding place
-            rows-left h = rw (le-ltb (t .«first_year») 1 a, le-ltb 3000 (t .«first_year») b, le-ltb (rowCount rows) 1 c, le-ltb 128 (rowCount rows) d, ne-eqb (firstNumber t) 0 e, le-ltb (firstNumber t) 2415386 h)
+          module _ (g : k ≡ 0 → ⊥) where
+            pub day-early : k < 2415386 → B.FirstDay ≡ place t rows
+            day-early h = rw (ne-eqb k 0 g, lt-ltb k 2415386 h) at in-bounds
+
+            pub rows-left : 2415386 ≤ k → rowFrom rows n 0 ≡ place t rows
+            rows-left h = rw (ne-eqb k 0 g, le-ltb k 2415386 h) at in-bounds
 
   pub whole : accepted t rows ≡ true → B.Nothing ≡ firstBroken t rows
   unfolding firstBroken

@@ -1,7 +1,5 @@
 // Where a year table first breaks a rule.
 ghost use mathlib.Core.Path.{_≡_};
-ghost use Prim.Native.Nat.{_+_, _*_, _≤_};
-ghost use lib.ListN.{length};
 ghost use Rattle.tables.specs.Breaks.{column, rowFrom, place, firstBroken};
 use conversion::Table;
 
@@ -21,13 +19,12 @@ pub enum Broken {
 
 // The first column of row i that breaks a rule, and 13 where none does.
 fn column_of(rows: &[u16], i: usize) -> usize
-    requires { ⌜ 13 * i + 13 ≤ length (now rows) ⌝ }
-    ensures { λ r. ⌜ (r ≡ column (now (rows .entry)) i) × (r ≤ 13) ⌝ }
+    ensures { λ r. ⌜ r ≡ column (now (rows .entry)) i ⌝ }
 {
     let mut days: u16 = 0;
     let mut m = 0;
     while m < 12 {
-        let len = rows[13 * i + m];
+        let len = conversion::number_at(rows, i, m);
         if len < 29 {
             return m;
         }
@@ -37,20 +34,22 @@ fn column_of(rows: &[u16], i: usize) -> usize
         days += len;
         m += 1;
     }
-    if rows[13 * i + 12] == days { 13 } else { 12 }
+    if conversion::number_at(rows, i, 12) == days {
+        13
+    } else {
+        12
+    }
 }
 
 // The first row that breaks a rule, of n rows; the last day where none does.
 fn row_of(rows: &[u16], n: usize) -> Broken
-    requires { ⌜ 13 * n ≤ length (now rows) ⌝ }
     ensures { λ r. ⌜ r ≡ rowFrom (now (rows .entry)) n 0 ⌝ }
 {
     let mut i = 0;
     while i < n {
         let m = column_of(rows, i);
         if m != 13 {
-            let found = rows[13 * i + m];
-            return Broken::Cell(i, m, found);
+            return Broken::Cell(i, m, conversion::number_at(rows, i, m));
         }
         i += 1;
     }
@@ -67,7 +66,7 @@ fn place_of(table: Table, rows: &[u16]) -> Broken
     if 3000 < table.first_year {
         return Broken::FirstYear;
     }
-    let n = rows.len() / 13;
+    let n = conversion::year_count(rows);
     if n < 1 {
         return Broken::NoRow;
     }

@@ -1,4 +1,4 @@
-//! The line language of the replay programs, of `ask` and of these tools (see README.md).
+//! The line language of `ask` and of these tools (see README.md).
 use parameterised::conversion::{BsDate, Table};
 use parameterised::gregorian::{Date, date};
 

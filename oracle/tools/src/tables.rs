@@ -14,7 +14,7 @@ pub fn owner_table() -> Table {
     }
 }
 
-/// The numbers of a rule file; `#` starts a comment.
+/// The numbers of a table or rule file; `#` starts a comment.
 fn numbers(text: &str) -> Vec<u16> {
     let bodies = text.lines().filter_map(|line| line.split('#').next());
     let words = bodies.flat_map(str::split_whitespace);
@@ -26,9 +26,15 @@ pub fn nepal_rules() -> Vec<u16> {
     numbers(include_str!("../../rules/nepal.rules"))
 }
 
-/// data/nepal.rules.
-pub fn data_rules() -> Vec<u16> {
-    numbers(include_str!("../../../data/nepal.rules"))
+/// The table of `ask`'s sample.
+pub fn ask_table() -> Table {
+    let all = numbers(include_str!("../../../crates/ask/data/table"));
+    Table { first_year: all[0], first_day: date(all[1], all[2], all[3]), rows: all[4..].to_vec() }
+}
+
+/// The rules of `ask`'s sample.
+pub fn ask_rules() -> Vec<u16> {
+    numbers(include_str!("../../../crates/ask/data/rules"))
 }
 
 /// oracle/rules/stress.rules: as many rules of each kind as are accepted, few names.

@@ -24,7 +24,7 @@ returns c =
 returns-2 : tie.Need-returns-2
 returns-2 c =
     let f = c .before .before in
-    always-date (f .before .args .number) 3 (f .before .pre) (sym (ap dateSays (c .enum-told .given .1)) ∙ f .from-day-number .ensures)
+    always-date (f .before .args .number) _ (f .before .pre) (sym (ap dateSays (c .enum-told .given .1)) ∙ f .from-day-number .ensures)
 
 pub day-numbered-spec : {M : Type 1} → statement M
 day-numbered-spec =

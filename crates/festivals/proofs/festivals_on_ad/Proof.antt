@@ -1,165 +1,103 @@
 -- `festivals::festivals_on_ad` meets its contract. Assumes nothing.
 use borrow.Author.Needs.{needs}
-use borrow.Author.Tests.{not-true, not-false}
-use mathlib.Core.Path.{_≡_, sym, ap, _∙_}
+use mathlib.Core.Path.{_≡_}
 use mathlib.Core.Bool.{true}
-use Rattle.paper.specs.Answers.{refused}
+use Rattle.paper.proofs.Answers.{said}
 use Rattle.gregorian.specs.Calendar.{dayNumber}
 use Rattle.gregorian.specs.Answers.{real, numberSays}
-use Rattle.conversion.specs.Calendar.{fromDay}
 use Rattle.conversion.specs.Flat.{accepted, flat, date}
+use Rattle.conversion.specs.Answers.{validSays}
 use Rattle.rules.specs.Rules.{rulesOf, acceptedRules}
 use Rattle.rules.proofs.Listed.{says-refused, says-by}
-use Rattle.rules.proofs.Questions.{ad-bad-table, ad-bad-rules, ad-no-date, ad-refused, ad-list}
-use Rattle.festivals.specs.Answers.{onAd}
-use Rattle.festivals.proofs.Placed.{inside, before-first, after-last}
-use Rattle.festivals.proofs.Numbered.{no-number, its-number, real-numbered}
+use Rattle.rules.proofs.Lent.{accepted-both}
+use Rattle.rules.proofs.Questions.{ad-lent, ad-no-date, ad-list}
+use Rattle.festivals.proofs.Numbered.{its-number, real-numbered}
 use Rattle.festivals.proofs.festivals_on_ad.Statement.{statement}
 use Rattle.festivals.proofs.festivals_on_ad.Tie as tie
 
-accepts-requires : tie.Need-accepts-requires
-accepts-requires c κs = search needs
+accept-requires : tie.Need-accept-requires
+accept-requires c κs = search needs
 
-returns : tie.Need-returns
-returns c =
-    let t = c .before in
-    let a = t .before .before .before .before .args in
-    let k = flat (a .table) (a .rows .now) in
-    let xs = a .rules .now in
-    let bad = sym (t .accepts .ensures) ∙ not-true (t .accepts .result) (c .if1 .taken) in
-    let s = says-by (ad-bad-table _ k (rulesOf xs) (acceptedRules xs) (a .year) (a .month) (a .day) bad) (says-refused 1 (a .out .now)) in
-    (s .answer, s .buffer)
-
-accepts-rules-requires : tie.Need-accepts-rules-requires
-accepts-rules-requires c κs = search needs
-
-returns-2 : tie.Need-returns-2
-returns-2 c =
-    let w = c .before in
-    let i = w .before in
-    let t = i .before in
-    let a = t .before .before .before .before .args in
-    let k = flat (a .table) (a .rows .now) in
-    let xs = a .rules .now in
-    let good = sym (t .accepts .ensures) ∙ not-false (t .accepts .result) (i .if1 .left) in
-    let bad = sym (w .accepts-rules .ensures) ∙ not-true (w .accepts-rules .result) (c .if2 .taken) in
-    let s = says-by (ad-bad-rules _ k (rulesOf xs) (acceptedRules xs) (a .year) (a .month) (a .day) good bad) (says-refused 2 (a .out .now)) in
-    (s .answer, s .buffer)
-
-day-number-requires : tie.Need-day-number-requires
-day-number-requires c κs = search needs
-
-enum-known-n : tie.Need-enum-known-n
-enum-known-n c = search needs
+enum-known-lent : tie.Need-enum-known-lent
+enum-known-lent c = search needs
 
 enum-told : tie.Need-enum-told
 enum-told c = search needs
 
--- where the day's number is asked, table and rules are accepted
-good : (d : tie.After-day-number) → let a = d .before .before .before .before .before .before .before .before .args in accepted (a .table) (a .rows .now) ≡ true
-good d = let i = d .before .before .before in sym (i .before .accepts .ensures) ∙ not-false (i .before .accepts .result) (i .if1 .left)
+-- what is lent was accepted
+both : (e : tie.After-enum-told) → let a = e .before .before .before .before .before .before .args in (accepted (a .table) (a .rows .now) ≡ true) × (acceptedRules (a .rules .now) ≡ true)
+both e =
+    let a = e .before .before .before .before .before .before .args in
+    accepted-both (flat (a .table) (a .rows .now)) _ (said validSays (e .enum-told .given .1) (e .before .before .accept .ensures))
 
-good-rules : (d : tie.After-day-number) → let a = d .before .before .before .before .before .before .before .before .args in acceptedRules (a .rules .now) ≡ true
-good-rules d = let j = d .before in sym (j .before .accepts-rules .ensures) ∙ not-false (j .before .accepts-rules .result) (j .if2 .left)
+day-number-requires : tie.Need-day-number-requires
+day-number-requires c κs = search needs
 
-returns-3 : tie.Need-returns-3
-returns-3 c =
-    let d = c .before .before in
-    let a = d .before .before .before .before .before .before .before .before .args in
-    let xs = a .rules .now in
-    let none = no-number (date (a .year) (a .month) (a .day)) (sym (ap numberSays (c .enum-told .given .1)) ∙ d .day-number .ensures) in
-    let s = says-by (ad-no-date _ (flat (a .table) (a .rows .now)) (rulesOf xs) (acceptedRules xs) (a .year) (a .month) (a .day) (good d) (good-rules d) none) (says-refused 3 (a .out .now)) in
-    (s .answer, s .buffer)
+enum-known-number : tie.Need-enum-known-number
+enum-known-number c = search needs
 
--- where the day is placed, it is a date's
-number : (p : tie.After-place) →
-    let d = p .before .before .before .before in
-    let a = d .before .before .before .before .before .before .before .before .args in
+enum-known-number-2 : tie.Need-enum-known-number-2
+enum-known-number-2 c = search needs
+
+-- the date's number
+number : (n : tie.After-number2) →
+    let a = n .before .before .before .before .before .before .before .before .before .args in
     let x = date (a .year) (a .month) (a .day) in
-    (real x ≡ true) × (p .before .before .n .given .0 .0 ≡ dayNumber x)
-number p =
-    let n = p .before .before in
-    let d = n .before .before in
-    let a = d .before .before .before .before .before .before .before .before .args in
-    its-number (date (a .year) (a .month) (a .day)) _ (sym (ap numberSays (n .n .given .1)) ∙ d .day-number .ensures)
+    (real x ≡ true) × (n .number2 .given .0 .0 ≡ dayNumber x)
+number n = its-number _ _ (said numberSays (n .number2 .given .1) (n .before .before .day-number .ensures))
 
-place-requires : tie.Need-place-requires
-place-requires c κs = good (c .before .before .before)
+list-placed-requires : tie.Need-list-placed-requires
+list-placed-requires c κs =
+    let n = c .before .before in
+    let g = both (n .before .before .before) in
+    (g .0, g .1, real-numbered _ _ (number n .0) (number n .1))
 
-enum-told-2 : tie.Need-enum-told-2
-enum-told-2 c = search needs
-
-enum-told-3 : tie.Need-enum-told-3
-enum-told-3 c = search needs
-
-enum-known-place : tie.Need-enum-known-place
-enum-known-place c = search needs
-
-list-day-requires : tie.Need-list-day-requires
-list-day-requires c κs =
-    let p = c .before .before .before .before in
-    let d = p .before .before .before .before in
-    let a = d .before .before .before .before .before .before .before .before .args in
-    (good d, good-rules d, real-numbered (date (a .year) (a .month) (a .day)) _ (number p .0) (number p .1))
-
--- a day outside the table
-outside : (p : tie.After-place) →
-    let d = p .before .before .before .before in
-    let a = d .before .before .before .before .before .before .before .before .args in
-    let l = onAd (a .table) (a .rows .now) (a .rules .now) (a .year) (a .month) (a .day) (a .out .now) in
-    fromDay (flat (a .table) (a .rows .now)) (p .before .before .n .given .0 .0) ≡ refused 7 → (refused 7 ≡ l .answer) × (a .out .now ≡ l .buffer)
-outside p e =
-    let d = p .before .before .before .before in
-    let a = d .before .before .before .before .before .before .before .before .args in
+returns : tie.Need-returns
+returns c =
+    let t = c .before .before .before in
+    let a = t .before .before .before .before .args in
     let xs = a .rules .now in
-    let s = says-by (ad-refused _ (flat (a .table) (a .rows .now)) (rulesOf xs) (acceptedRules xs) (a .year) (a .month) (a .day) (good d) (good-rules d) (number p .0) _ (number p .1) 7 e) (says-refused 7 (a .out .now)) in
+    let e = ad-lent _ (flat (a .table) (a .rows .now)) (rulesOf xs) (acceptedRules xs) (a .year) (a .month) (a .day) _ (said validSays (c .before .lent .given .1) (t .accept .ensures)) in
+    let s = says-by e (says-refused _ (a .out .now)) in
     (s .answer, s .buffer)
 
-returns-4 : tie.Need-returns-4
-returns-4 c =
-    let p = c .before .before in
-    outside p (before-first _ (good (p .before .before .before .before)) _ (p .place .result) (p .place .ensures) _ (c .enum-told2 .given .1))
-
-returns-5 : tie.Need-returns-5
-returns-5 c =
-    let p = c .before .before in
-    outside p (after-last _ (good (p .before .before .before .before)) _ (p .place .result) (p .place .ensures) _ (c .enum-told3 .given .1))
+returns-2 : tie.Need-returns-2
+returns-2 c =
+    let d = c .before .before .before in
+    let a = d .before .before .before .before .before .before .before .args in
+    let xs = a .rules .now in
+    let g = both (d .before) in
+    let e = ad-no-date _ (flat (a .table) (a .rows .now)) (rulesOf xs) (acceptedRules xs) (a .year) (a .month) (a .day) (g .0) (g .1) _ (said numberSays (c .before .number .given .1) (d .day-number .ensures)) in
+    let s = says-by e (says-refused _ (a .out .now)) in
+    (s .answer, s .buffer)
 
 same-length : tie.Need-same-length
 same-length c = search needs
 
-returns-6 : tie.Need-returns-6
-returns-6 c =
+returns-3 : tie.Need-returns-3
+returns-3 c =
     let l = c .before .before in
-    let b = l .before .before .before in
-    let p = b .before .before in
-    let d = p .before .before .before .before in
-    let a = d .before .before .before .before .before .before .before .before .args in
+    let n = l .before .before .before in
+    let d = n .before .before in
+    let a = d .before .before .before .before .before .before .before .args in
     let xs = a .rules .now in
-    let k = flat (a .table) (a .rows .now) in
-    let here = inside k (good d) _ (p .place .result) (p .place .ensures) _ (b .place2 .given .1) in
-    let e = ad-list _ k (rulesOf xs) (acceptedRules xs) (a .year) (a .month) (a .day) (good d) (good-rules d) (number p .0) _ (number p .1) _ here in
-    let s = says-by e (record { answer = l .list-day .ensures .0; buffer = l .list-day .ensures .1 }) in
+    let g = both (d .before) in
+    let e = ad-list _ (flat (a .table) (a .rows .now)) (rulesOf xs) (acceptedRules xs) (a .year) (a .month) (a .day) (g .0) (g .1) (number n .0) _ (number n .1) in
+    let s = says-by e (record { answer = l .list-placed .ensures .0; buffer = l .list-placed .ensures .1 }) in
     (s .answer, s .buffer)
 
 pub festivals-on-ad-spec : {M : Type 1} → statement M
 festivals-on-ad-spec =
     tie.close
     (tie.spec
-    accepts-requires
-    returns
-    accepts-rules-requires
-    returns-2
-    day-number-requires
-    enum-known-n
+    accept-requires
+    enum-known-lent
     enum-told
-    returns-3
-    place-requires
-    enum-told-2
-    enum-told-3
-    enum-known-place
-    list-day-requires
-    returns-4
-    returns-5
+    day-number-requires
+    enum-known-number
+    enum-known-number-2
+    list-placed-requires
+    returns
+    returns-2
     same-length
-    returns-6)
+    returns-3)

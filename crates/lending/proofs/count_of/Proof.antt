@@ -52,13 +52,4 @@ pub count-of-spec : {M : Type 1} → statement M
 count-of-spec =
     tie.close
     (tie.spec
-    Inv-loop
-    μ-loop
-    loop-holds
-    mul-ones
-    add-ones
-    add-n
-    returns
-    loop-less
-    loop-again
-    returns-2)
+    Inv-loop μ-loop loop-holds mul-ones add-ones add-n returns loop-less loop-again returns-2)

@@ -5,24 +5,6 @@ use borrow.Author.Needs.{needs}
 use Rattle.lending.proofs.is_lending.Statement.{statement}
 use Rattle.lending.proofs.is_lending.Tie as tie
 
-lending-of-requires : tie.Need-lending-of-requires
-lending-of-requires c κs = search needs
-
-enum-told : tie.Need-enum-told
-enum-told c = search needs
-
-enum-told-2 : tie.Need-enum-told-2
-enum-told-2 c = search needs
-
-enum-known-n : tie.Need-enum-known-n
-enum-known-n c = search needs
-
-enum-known-n-2 : tie.Need-enum-known-n-2
-enum-known-n-2 c = search needs
-
-enum-told-3 : tie.Need-enum-told-3
-enum-told-3 c = search needs
-
 returns : tie.Need-returns
 returns c = ap lends (sym (c .enum-told .given .1) ∙ c .before .before .lending-of .ensures)
 
@@ -42,14 +24,5 @@ pub is-lending-spec : {M : Type 1} → statement M
 is-lending-spec =
     tie.close
     (tie.spec
-    lending-of-requires
-    enum-told
-    enum-told-2
-    enum-known-n
-    enum-known-n-2
-    enum-told-3
-    returns
-    returns-2
-    returns-3
-    returns-4
-    returns-5)
+    (λ c κs. search needs) (λ c. search needs) (λ c. search needs) (λ c. search needs) (λ c. search needs)
+    (λ c. search needs) returns returns-2 returns-3 returns-4 returns-5)

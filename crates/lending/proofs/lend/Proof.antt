@@ -6,36 +6,15 @@ use borrow.Author.Needs.{needs}
 use Rattle.lending.proofs.lend.Statement.{statement}
 use Rattle.lending.proofs.lend.Tie as tie
 
-lending-of-requires : tie.Need-lending-of-requires
-lending-of-requires c κs = search needs
-
-enum-told : tie.Need-enum-told
-enum-told c = search needs
-
-table-in-requires : tie.Need-table-in-requires
-table-in-requires c κs = search needs
-
-enum-told-2 : tie.Need-enum-told-2
-enum-told-2 c = search needs
-
-enum-known-n : tie.Need-enum-known-n
-enum-known-n c = search needs
-
 append-requires : tie.Need-append-requires
 append-requires c κs = let a = c .before .before .before .before .before .before .before .before .args in
     let e = sym (c .before .before .before .before .lending-of .ensures) ∙ c .before .before .n .given .1 in
     omega (arith, few (a .w .tag) (a .w .form) .most, ap howMany e)
 
-enum-known-n-2 : tie.Need-enum-known-n-2
-enum-known-n-2 c = search needs
-
 append-requires-2 : tie.Need-append-requires-2
 append-requires-2 c κs = let a = c .before .before .before .before .before .before .before .before .args in
     let e = sym (c .before .before .before .before .lending-of .ensures) ∙ c .before .before .n2 .given .1 in
     omega (arith, few (a .w .tag) (a .w .form) .most, ap howMany e)
-
-enum-told-3 : tie.Need-enum-told-3
-enum-told-3 c = search needs
 
 returns : tie.Need-returns
 returns c = rw (sym (c .before .before .before .lending-of .ensures) ∙ c .before .enum-told .given .1) (rw (c .table-in .ensures), (refl, refl))
@@ -43,16 +22,10 @@ returns c = rw (sym (c .before .before .before .lending-of .ensures) ∙ c .befo
 returns-2 : tie.Need-returns-2
 returns-2 c = rw (sym (c .before .before .lending-of .ensures) ∙ c .enum-told2 .given .1) (refl, (refl, refl))
 
-same-length : tie.Need-same-length
-same-length c = search needs
-
 returns-3 : tie.Need-returns-3
 returns-3 c = let w = c .before .before .append .ensures in
     let n = c .before .before .before .before .before .n .given in
     rw (sym (c .before .before .before .before .before .before .before .lending-of .ensures) ∙ n .1) (rw (wrote-longer (c .before .before .before .before .before .before .before .before .before .before .before .args .w) (n .0 .0) w), (w .stored, refl))
-
-same-length-2 : tie.Need-same-length-2
-same-length-2 c = search needs
 
 returns-4 : tie.Need-returns-4
 returns-4 c = let w = c .before .before .append2 .ensures in
@@ -66,19 +39,6 @@ pub lend-spec : {M : Type 1} → statement M
 lend-spec =
     tie.close
     (tie.spec
-    lending-of-requires
-    enum-told
-    table-in-requires
-    enum-told-2
-    enum-known-n
-    append-requires
-    enum-known-n-2
-    append-requires-2
-    enum-told-3
-    returns
-    returns-2
-    same-length
-    returns-3
-    same-length-2
-    returns-4
-    returns-5)
+    (λ c κs. search needs) (λ c. search needs) (λ c κs. search needs) (λ c. search needs) (λ c. search needs) append-requires
+    (λ c. search needs) append-requires-2 (λ c. search needs) returns returns-2 (λ c. search needs) returns-3
+    (λ c. search needs) returns-4 returns-5)

@@ -13,9 +13,6 @@ returns-2 : tie.Need-returns-2
 unfolding lendingOf ones
 returns-2 c = rw (c .before .if1 .taken, ne-eqb _ _ (c .if2 .left))
 
-count-of-requires : tie.Need-count-of-requires
-count-of-requires c κs = search needs
-
 returns-3 : tie.Need-returns-3
 unfolding lendingOf
 returns-3 c = rw (c .before .if3 .taken, c .count-of .ensures)
@@ -27,9 +24,6 @@ returns-4 c = rw (c .before .if4 .taken, c .if5 .taken)
 returns-5 : tie.Need-returns-5
 unfolding lendingOf
 returns-5 c = rw (c .before .if4 .taken, ne-eqb _ _ (c .if5 .left))
-
-count-of-requires-2 : tie.Need-count-of-requires-2
-count-of-requires-2 c κs = search needs
 
 returns-6 : tie.Need-returns-6
 unfolding lendingOf
@@ -49,12 +43,4 @@ pub lending-of-spec : {M : Type 1} → statement M
 lending-of-spec =
     tie.close
     (tie.spec
-    returns
-    returns-2
-    count-of-requires
-    returns-3
-    returns-4
-    returns-5
-    count-of-requires-2
-    returns-6
-    returns-7)
+    returns returns-2 (λ c κs. search needs) returns-3 returns-4 returns-5 (λ c κs. search needs) returns-6 returns-7)

@@ -4,21 +4,11 @@ use borrow.Author.Needs.{needs}
 use Rattle.lending.proofs.table_in.Statement.{statement}
 use Rattle.lending.proofs.table_in.Tie as tie
 
-small-requires : tie.Need-small-requires
-small-requires c κs = search needs
-
-small-requires-2 : tie.Need-small-requires-2
-small-requires-2 c κs = search needs
-
-small-requires-3 : tie.Need-small-requires-3
-small-requires-3 c κs = search needs
-
-small-requires-4 : tie.Need-small-requires-4
-small-requires-4 c κs = search needs
-
 returns : tie.Need-returns
 returns c = rw (c .before .before .before .small .ensures (omega arith), c .before .before .small2 .ensures (omega arith), c .before .small3 .ensures (omega arith), c .small4 .ensures (omega arith))
 
 pub table-in-spec : {M : Type 1} → statement M
 table-in-spec =
-    tie.close (tie.spec small-requires small-requires-2 small-requires-3 small-requires-4 returns)
+    tie.close
+    (tie.spec
+    (λ c κs. search needs) (λ c κs. search needs) (λ c κs. search needs) (λ c κs. search needs) returns)

@@ -15,23 +15,8 @@ Inv-loop fd piece₀ line₀ held₀ left₀ from₀ to₀ piece line held left 
 abbrev μ-loop : tie.MeasureT-loop
 μ-loop fd piece₀ line₀ held₀ left₀ from₀ to₀ piece line held left from to = left
 
-nothing-requires : tie.Need-nothing-requires Inv-loop μ-loop
-nothing-requires c κs = search needs
-
 loop-holds : tie.Need-loop-holds Inv-loop μ-loop
 loop-holds c = (refl, refl, omega arith, let a = c .before .before .before .args in reads-first (length (a .line .now)) (drop (a .input .from) (front (a .piece .now) (a .input .to))) (a .line .now) (c .nothing .result) (c .nothing .ensures .0) (c .nothing .ensures .1))
-
-sub-left : tie.Need-sub-left Inv-loop μ-loop
-sub-left c = search needs
-
-fill-on-requires : tie.Need-fill-on-requires Inv-loop μ-loop
-fill-on-requires c κs = search needs
-
-enum-known-h : tie.Need-enum-known-h Inv-loop μ-loop
-enum-known-h c = search needs
-
-handed-requires : tie.Need-handed-requires Inv-loop μ-loop
-handed-requires c κs = search needs
 
 same-length : tie.Need-same-length Inv-loop μ-loop
 same-length c = c .before .before .before .before .before .before .before .before .before .before .loop .inv .0
@@ -45,28 +30,10 @@ returns c = let l = c .before .before .before .before .before .before .before .b
     let f = rw (c .before .before .h .given .1) at (c .before .before .before .before .before .before .fill-on .ensures) in
     rw (c .handed .ensures) (next-fed (a .input) (a .piece .now) (a .line .now) (l .left - 1) (omega arith) (l .piece) (l .to) (l .inv .3) (l .inv .1) f)
 
-enum-known-h-2 : tie.Need-enum-known-h-2 Inv-loop μ-loop
-enum-known-h-2 c = search needs
-
-read-piece-requires : tie.Need-read-piece-requires Inv-loop μ-loop
-read-piece-requires c κs = search needs
-
-enum-known-n : tie.Need-enum-known-n Inv-loop μ-loop
-enum-known-n c = search needs
-
-loop-less : tie.Need-loop-less Inv-loop μ-loop
-loop-less c = search needs
-
 loop-again : tie.Need-loop-again Inv-loop μ-loop
 loop-again c = let l = c .before .before .before .before .before .before .before .before .before .before .before .before .before .before .before .before .loop in
     let f = rw (c .before .before .before .before .before .before .before .before .h2 .given .1) at (c .before .before .before .before .before .before .before .before .before .before .before .before .fill-on .ensures) in
     (c .before .before .before .before .before .read-piece .kept .1 .0 ∙ l .inv .0, c .before .before .before .before .before .before .before .before .before .before .before .before .fill-on .kept .1 .1 .1 .0 ∙ l .inv .1, omega arith, reads-more (l .inv .3) (l .inv .1) f)
-
-enum-told : tie.Need-enum-told Inv-loop μ-loop
-enum-told c = search needs
-
-last-requires : tie.Need-last-requires Inv-loop μ-loop
-last-requires c κs = search needs
 
 same-length-3 : tie.Need-same-length-3 Inv-loop μ-loop
 same-length-3 c = c .before .before .before .before .before .read-piece .kept .1 .0 ∙ c .before .before .before .before .before .before .before .before .before .before .before .before .before .before .before .before .loop .inv .0
@@ -80,12 +47,6 @@ returns-2 c = let l = c .before .before .before .before .before .before .before 
     let f = rw (c .before .before .before .before .before .before .before .before .h2 .given .1) at (c .before .before .before .before .before .before .before .before .before .before .before .before .fill-on .ensures) in
     rw (c .last .ensures) (next-last (a .input) (a .piece .now) (a .line .now) (l .left - 1) (omega arith) (l .inv .3) (l .inv .1) (c .before .before .before .before .before .before .before .before .before .before .before .before .fill-on .kept .1 .1 .1 .0 ∙ l .inv .1) f)
 
-enum-told-2 : tie.Need-enum-told-2 Inv-loop μ-loop
-enum-told-2 c = search needs
-
-over-requires : tie.Need-over-requires Inv-loop μ-loop
-over-requires c κs = search needs
-
 same-length-5 : tie.Need-same-length-5 Inv-loop μ-loop
 same-length-5 c = c .before .before .before .before .before .read-piece .kept .1 .0 ∙ c .before .before .before .before .before .before .before .before .before .before .before .before .before .before .before .before .loop .inv .0
 
@@ -94,9 +55,6 @@ same-length-6 c = c .before .before .before .before .before .before .before .bef
 
 returns-3 : tie.Need-returns-3 Inv-loop μ-loop
 returns-3 c = rw (c .over .ensures) next-unread
-
-over-requires-2 : tie.Need-over-requires-2 Inv-loop μ-loop
-over-requires-2 c κs = search needs
 
 same-length-7 : tie.Need-same-length-7 Inv-loop μ-loop
 same-length-7 c = c .before .before .loop .inv .0
@@ -111,33 +69,8 @@ pub next-line-spec : {M : Type 1} → statement M
 next-line-spec =
     tie.close
     (tie.spec
-    Inv-loop
-    μ-loop
-    nothing-requires
-    loop-holds
-    sub-left
-    fill-on-requires
-    enum-known-h
-    handed-requires
-    same-length
-    same-length-2
-    returns
-    enum-known-h-2
-    read-piece-requires
-    enum-known-n
-    loop-less
-    loop-again
-    enum-told
-    last-requires
-    same-length-3
-    same-length-4
-    returns-2
-    enum-told-2
-    over-requires
-    same-length-5
-    same-length-6
-    returns-3
-    over-requires-2
-    same-length-7
-    same-length-8
-    returns-4)
+    Inv-loop μ-loop (λ c κs. search needs) loop-holds (λ c. search needs) (λ c κs. search needs) (λ c. search needs)
+    (λ c κs. search needs) same-length same-length-2 returns (λ c. search needs) (λ c κs. search needs) (λ c. search needs)
+    (λ c. search needs) loop-again (λ c. search needs) (λ c κs. search needs) same-length-3 same-length-4 returns-2
+    (λ c. search needs) (λ c κs. search needs) same-length-5 same-length-6 returns-3 (λ c κs. search needs) same-length-7
+    same-length-8 returns-4)

@@ -7,40 +7,10 @@ use borrow.Author.Needs.{needs}
 use Rattle.panchanga.proofs.nishita_window.Statement.{statement}
 use Rattle.panchanga.proofs.nishita_window.Tie as tie
 
-next-requires : tie.Need-next-requires
-next-requires c κs = search needs
-
-enum-told : tie.Need-enum-told
-enum-told c = search needs
-
-day-number-requires : tie.Need-day-number-requires
-day-number-requires c κs = search needs
-
-enum-known-a : tie.Need-enum-known-a
-enum-known-a c = search needs
-
-events-on-requires : tie.Need-events-on-requires
-events-on-requires c κs = search needs
-
 add-events-on : tie.Need-add-events-on
 add-events-on c =
     let s = c .before .before .before .before in
     omega (arith, number-room (s .before .before .before .before .args .date) (s .day-number .result) _ (s .day-number .ensures) (c .before .before .a .given .1))
-
-events-on-requires-2 : tie.Need-events-on-requires-2
-events-on-requires-2 c κs = search needs
-
-nishita-between-requires : tie.Need-nishita-between-requires
-nishita-between-requires c κs = search needs
-
-span-answer-requires : tie.Need-span-answer-requires
-span-answer-requires c κs = search needs
-
-enum-known-a-2 : tie.Need-enum-known-a-2
-enum-known-a-2 c = search needs
-
-enum-known-after : tie.Need-enum-known-after
-enum-known-after c = search needs
 
 returns : tie.Need-returns
 unfolding then near ofBits
@@ -63,18 +33,5 @@ returns-3 c = rw (← c .before .before .before .next .ensures, c .before .after
 pub nishita-window-spec : {M : Type 1} → statement M
 nishita-window-spec =
     tie.close
-    (tie.spec
-    next-requires
-    enum-told
-    day-number-requires
-    enum-known-a
-    events-on-requires
-    add-events-on
-    events-on-requires-2
-    nishita-between-requires
-    span-answer-requires
-    enum-known-a-2
-    enum-known-after
-    returns
-    returns-2
-    returns-3)
+    (tie.spec (λ c κs. search needs) (λ c. search needs) (λ c κs. search needs) (λ c. search needs) (λ c κs. search needs) add-events-on
+    (λ c κs. search needs) (λ c κs. search needs) (λ c κs. search needs) (λ c. search needs) (λ c. search needs) returns returns-2 returns-3)

@@ -3,12 +3,6 @@ use borrow.Author.Needs.{needs}
 use Rattle.panchanga.proofs.npt_clock.Statement.{statement}
 use Rattle.panchanga.proofs.npt_clock.Tie as tie
 
-is-instant-requires : tie.Need-is-instant-requires
-is-instant-requires c κs = search needs
-
-clock-of-requires : tie.Need-clock-of-requires
-clock-of-requires c κs = search needs
-
 returns : tie.Need-returns
 unfolding given
 returns c = rw (← c .before .before .is-instant .ensures, c .before .if1 .taken, c .clock-of .ensures)
@@ -18,4 +12,4 @@ unfolding given
 returns-2 c = rw (← c .before .is-instant .ensures, c .if1 .left)
 
 pub npt-clock-spec : {M : Type 1} → statement M
-npt-clock-spec = tie.close (tie.spec is-instant-requires clock-of-requires returns returns-2)
+npt-clock-spec = tie.close (tie.spec (λ c κs. search needs) (λ c κs. search needs) returns returns-2)

@@ -2,12 +2,6 @@ use borrow.Author.Needs.{needs}
 use Rattle.panchanga.proofs.span_answer.Statement.{statement}
 use Rattle.panchanga.proofs.span_answer.Tie as tie
 
-enum-known-s : tie.Need-enum-known-s
-enum-known-s c = search needs
-
-enum-told : tie.Need-enum-told
-enum-told c = search needs
-
 returns : tie.Need-returns
 returns c = rw (c .before .s .given .1)
 
@@ -15,4 +9,4 @@ returns-2 : tie.Need-returns-2
 returns-2 c = rw (c .enum-told .given .1)
 
 pub span-answer-spec : {M : Type 1} → statement M
-span-answer-spec = tie.close (tie.spec enum-known-s enum-told returns returns-2)
+span-answer-spec = tie.close (tie.spec (λ c. search needs) (λ c. search needs) returns returns-2)

@@ -8,32 +8,11 @@ use borrow.Author.Needs.{needs}
 use Rattle.questions.proofs.answer_over.Statement.{statement}
 use Rattle.questions.proofs.answer_over.Tie as tie
 
-answer-requires : tie.Need-answer-requires
-answer-requires c κs = search needs
-
-list-requires : tie.Need-list-requires
-list-requires c κs = search needs
-
-month-requires : tie.Need-month-requires
-month-requires c κs = search needs
-
-reply-to-requires : tie.Need-reply-to-requires
-reply-to-requires c κs = search needs
-
-put-requires : tie.Need-put-requires
-put-requires c κs = search needs
-
-same-length : tie.Need-same-length
-same-length c = search needs
-
 returns : tie.Need-returns
 unfolding wordsBy oneOf
 returns c = let a = c .before .before .before .before .before .before .before .before .args in
     rw (← by-key (λ tag. wordsBy tag (a .table) (a .rows .now) (a .rules .now) (a .w)) _ (STARTS ∷ []) (a .w .tag) (c .before .before .before .before .match .keys1) (refl, tt))
     (c .before .before .answer .ensures)
-
-same-length-2 : tie.Need-same-length-2
-same-length-2 c = search needs
 
 returns-2 : tie.Need-returns-2
 unfolding wordsBy oneOf
@@ -41,17 +20,11 @@ returns-2 c = let a = c .before .before .before .before .before .before .before 
     rw (← by-key (λ tag. wordsBy tag (a .table) (a .rows .now) (a .rules .now) (a .w)) _ (LISTAD ∷ LISTBS ∷ []) (a .w .tag) (c .before .before .before .before .match .keys2) (refl, (refl, tt)))
     (c .before .before .list .ensures)
 
-same-length-3 : tie.Need-same-length-3
-same-length-3 c = search needs
-
 returns-3 : tie.Need-returns-3
 unfolding wordsBy oneOf
 returns-3 c = let a = c .before .before .before .before .before .before .before .before .args in
     rw (← by-key (λ tag. wordsBy tag (a .table) (a .rows .now) (a .rules .now) (a .w)) _ (GRID ∷ []) (a .w .tag) (c .before .before .before .before .match .keys3) (refl, tt))
     (c .before .before .month .ensures)
-
-same-length-4 : tie.Need-same-length-4
-same-length-4 c = search needs
 
 returns-4 : tie.Need-returns-4
 unfolding wordsBy
@@ -62,16 +35,5 @@ pub answer-over-spec : {M : Type 1} → statement M
 answer-over-spec =
     tie.close
     (tie.spec
-    answer-requires
-    list-requires
-    month-requires
-    reply-to-requires
-    put-requires
-    same-length
-    returns
-    same-length-2
-    returns-2
-    same-length-3
-    returns-3
-    same-length-4
-    returns-4)
+    (λ c κs. search needs) (λ c κs. search needs) (λ c κs. search needs) (λ c κs. search needs) (λ c κs. search needs)
+    (λ c. search needs) returns (λ c. search needs) returns-2 (λ c. search needs) returns-3 (λ c. search needs) returns-4)

@@ -9,27 +9,6 @@ use borrow.Author.Needs.{needs}
 use Rattle.questions.proofs.reply_to.Statement.{statement}
 use Rattle.questions.proofs.reply_to.Tie as tie
 
-reply-requires : tie.Need-reply-requires
-reply-requires c κs = search needs
-
-reply-requires-2 : tie.Need-reply-requires-2
-reply-requires-2 c κs = search needs
-
-reply-requires-3 : tie.Need-reply-requires-3
-reply-requires-3 c κs = search needs
-
-reply-requires-4 : tie.Need-reply-requires-4
-reply-requires-4 c κs = search needs
-
-check-requires : tie.Need-check-requires
-check-requires c κs = search needs
-
-step-requires : tie.Need-step-requires
-step-requires c κs = search needs
-
-reply-requires-5 : tie.Need-reply-requires-5
-reply-requires-5 c κs = search needs
-
 returns : tie.Need-returns
 unfolding replyBy oneOf
 returns c = let a = c .before .before .before .before .args in
@@ -83,17 +62,5 @@ pub reply-to-spec : {M : Type 1} → statement M
 reply-to-spec =
     tie.close
     (tie.spec
-    reply-requires
-    reply-requires-2
-    reply-requires-3
-    reply-requires-4
-    check-requires
-    step-requires
-    reply-requires-5
-    returns
-    returns-2
-    returns-3
-    returns-4
-    returns-5
-    returns-6
-    returns-7)
+    (λ c κs. search needs) (λ c κs. search needs) (λ c κs. search needs) (λ c κs. search needs) (λ c κs. search needs)
+    (λ c κs. search needs) (λ c κs. search needs) returns returns-2 returns-3 returns-4 returns-5 returns-6 returns-7)

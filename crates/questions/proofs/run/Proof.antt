@@ -14,15 +14,9 @@ Inv-loop rows₀ rules₀ piece₀ line₀ out₀ t₀ lent₀ rows rules piece 
 abbrev μ-loop : tie.MeasureT-loop
 μ-loop rows₀ rules₀ piece₀ line₀ out₀ t₀ lent₀ rows rules piece line out t lent = t .left
 
-first-turn-requires : tie.Need-first-turn-requires Inv-loop μ-loop
-first-turn-requires c κs = search needs
-
 loop-holds : tie.Need-loop-holds Inv-loop μ-loop
 loop-holds c = let a = c .before .before .before .before .before .before .before .before .before .before .before .before .before .args in
     (refl, refl, refl, refl, refl, runs-first (a .first) (a .rows .now) (a .rules .now) (turn-goes (c .before .before .before .before .first-turn .ensures)))
-
-step-requires : tie.Need-step-requires Inv-loop μ-loop
-step-requires c κs = search needs
 
 loop-less : tie.Need-loop-less Inv-loop μ-loop
 loop-less c = omega (arith, c .before .before .before .before .before .before .before .before .before .before .before .before .step .ensures .turn .fewer, c .before .before .before .before .before .before .before .before .before .before .before .before .before .before .before .before .before .before .if1 .taken)
@@ -39,21 +33,6 @@ loop-again c =
       runs-turn (l .inv .5) (c .before .before .before .before .before .before .before .before .before .before .before .before .before .before .before .before .before .before .if1 .taken) (s .ensures),
     )
 
-same-length : tie.Need-same-length Inv-loop μ-loop
-same-length c = search needs
-
-same-length-2 : tie.Need-same-length-2 Inv-loop μ-loop
-same-length-2 c = search needs
-
-same-length-3 : tie.Need-same-length-3 Inv-loop μ-loop
-same-length-3 c = search needs
-
-same-length-4 : tie.Need-same-length-4 Inv-loop μ-loop
-same-length-4 c = search needs
-
-same-length-5 : tie.Need-same-length-5 Inv-loop μ-loop
-same-length-5 c = search needs
-
 returns : tie.Need-returns Inv-loop μ-loop
 returns c = runs-all (c .before .before .loop .inv .5)
 
@@ -61,16 +40,5 @@ pub run-spec : {M : Type 1} → statement M
 run-spec =
     tie.close
     (tie.spec
-    Inv-loop
-    μ-loop
-    first-turn-requires
-    loop-holds
-    step-requires
-    loop-less
-    loop-again
-    same-length
-    same-length-2
-    same-length-3
-    same-length-4
-    same-length-5
-    returns)
+    Inv-loop μ-loop (λ c κs. search needs) loop-holds (λ c κs. search needs) loop-less loop-again (λ c. search needs)
+    (λ c. search needs) (λ c. search needs) (λ c. search needs) (λ c. search needs) returns)

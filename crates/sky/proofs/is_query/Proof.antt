@@ -13,12 +13,6 @@ returns-2 : tie.Need-returns-2
 unfolding query
 returns-2 c = simp (le-leb 1 (c .before .before .args .tithi) (c .before .if1 .left), lt-leb (c .before .before .args .tithi) 30 (c .if2 .taken))
 
-is-instant-requires : tie.Need-is-instant-requires
-is-instant-requires c κs = search needs
-
-is-instant-requires-2 : tie.Need-is-instant-requires-2
-is-instant-requires-2 c κs = search needs
-
 returns-3 : tie.Need-returns-3
 unfolding query
 returns-3 c =
@@ -34,6 +28,4 @@ returns-4 c =
     simp (le-leb 1 n (r .before .before .if1 .left), le-leb n 30 (r .before .if2 .left), sym (r .is-instant .ensures) ∙ c .if3 .left)
 
 pub is-query-spec : {M : Type 1} → statement M
-is-query-spec =
-    tie.close
-    (tie.spec returns returns-2 is-instant-requires is-instant-requires-2 returns-3 returns-4)
+is-query-spec = tie.close (tie.spec returns returns-2 (λ c κs. search needs) (λ c κs. search needs) returns-3 returns-4)

@@ -1,38 +1,29 @@
 use mathlib.Core.Path.{_≡_, sym, ap}
 use mathlib.Core.Option.{Option, none, some}
+use native.Mathlib.Omega.{arith}
 use lib.Ieee.{Float, ofBits}
 use borrow.Author.Needs.{needs}
 use Rattle.paper.specs.Answers.{answered, given}
 use Rattle.paper.specs.Floats.{near}
 use Rattle.sky.specs.Answers.{firstSays, endAnswer}
+use Rattle.sky.proofs.Twelves.{tithi-range}
 use Rattle.sky.proofs.tithi_end.Statement.{statement}
 use Rattle.sky.proofs.tithi_end.Tie as tie
 
 -- what the end says, the call says
-told : (c : tie.After-end-of) (o : Option Float) → o ≡ firstSays (c .end-of .result) → answered o ≡ endAnswer (c .before .before .before .before .before .before .args .ut .0)
+told : (c : tie.After-end-of) (o : Option Float) → o ≡ firstSays (c .end-of .result) → answered o ≡ endAnswer (c .before .before .before .before .before .before .before .before .args .ut .0)
 unfolding given near ofBits
 told c o e =
-    let j = c .before .before in
+    let n = c .before .before in
+    let j = n .before .before in
     let i = j .before .before in
-    rw (← i .before .is-instant .ensures, i .if1 .taken, ← j .is-instant2 .ensures, c .before .if2 .taken, e, c .end-of .ensures)
-
-is-instant-requires : tie.Need-is-instant-requires
-is-instant-requires c κs = search needs
-
-is-instant-requires-2 : tie.Need-is-instant-requires-2
-is-instant-requires-2 c κs = search needs
+    rw (← i .before .is-instant .ensures, i .if1 .taken, ← j .is-instant2 .ensures, n .before .if2 .taken, e, c .end-of .ensures, c .before .tithi-of .ensures, n .elongation-of .ensures)
 
 end-of-requires : tie.Need-end-of-requires
-end-of-requires c κs = search needs
-
-enum-known-end : tie.Need-enum-known-end
-enum-known-end c = search needs
+end-of-requires c κs = omega (arith, tithi-range (c .before .elongation-of .result) .1, c .tithi-of .ensures)
 
 returns : tie.Need-returns
 returns c = told (c .before .before .before) (some _) (sym (ap firstSays (c .before .end .given .1)))
-
-enum-told : tie.Need-enum-told
-enum-told c = search needs
 
 returns-2 : tie.Need-returns-2
 returns-2 c = told (c .before .before) none (sym (ap firstSays (c .enum-told .given .1)))
@@ -50,13 +41,5 @@ returns-4 c = rw (← c .before .is-instant .ensures, c .if1 .left)
 pub tithi-end-spec : {M : Type 1} → statement M
 tithi-end-spec =
     tie.close
-    (tie.spec
-    is-instant-requires
-    is-instant-requires-2
-    end-of-requires
-    enum-known-end
-    returns
-    enum-told
-    returns-2
-    returns-3
-    returns-4)
+    (tie.spec (λ c κs. search needs) (λ c κs. search needs) (λ c κs. search needs) (λ c κs. search needs) end-of-requires (λ c. search needs) returns
+    (λ c. search needs) returns-2 returns-3 returns-4)

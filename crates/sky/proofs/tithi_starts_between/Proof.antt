@@ -41,19 +41,10 @@ module _ (s : tie.After-walk) where
   short : s .walk .result .count ≤ 1024
   short = omega (arith, count, starts-bounded (offset elongationOf (targetOf (start .args .tithi))) (start .args .from .0) (start .args .to .0))
 
-is-query-requires : tie.Need-is-query-requires
-is-query-requires c κs = search needs
-
-walk-requires : tie.Need-walk-requires
-walk-requires c κs = search needs
-
 copy-front-requires : tie.Need-copy-front-requires
 copy-front-requires c κs =
     let s = c .before .before .before .before in
     (short s, (over-length (w s .starts) zeros (written s) (count s) (short s), c .before .before .if3 .taken))
-
-same-length : tie.Need-same-length
-same-length c = search needs
 
 returns : tie.Need-returns
 returns c =
@@ -94,12 +85,4 @@ returns-4 c =
 pub tithi-starts-between-spec : {M : Type 1} → statement M
 tithi-starts-between-spec =
     tie.close
-    (tie.spec
-    is-query-requires
-    walk-requires
-    copy-front-requires
-    same-length
-    returns
-    returns-2
-    returns-3
-    returns-4)
+    (tie.spec (λ c κs. search needs) (λ c κs. search needs) copy-front-requires (λ c. search needs) returns returns-2 returns-3 returns-4)

@@ -53,16 +53,5 @@ pub shared-spec : {M : Type 1} → statement M
 shared-spec =
     tie.close
     (tie.spec
-    Inv-loop
-    μ-loop
-    loop-holds
-    returns
-    mul-if2
-    shared-slice-read-if2
-    mul-if2-2
-    shared-slice-read-if2-2
-    returns-2
-    add-i
-    loop-less
-    loop-again
-    returns-3)
+    Inv-loop μ-loop loop-holds returns mul-if2 shared-slice-read-if2 mul-if2-2 shared-slice-read-if2-2 returns-2 add-i
+    loop-less loop-again returns-3)

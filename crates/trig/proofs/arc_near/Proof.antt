@@ -4,12 +4,9 @@ use Rattle.trig.specs.Trig.{arcNear}
 use Rattle.trig.proofs.arc_near.Statement.{statement}
 use Rattle.trig.proofs.arc_near.Tie as tie
 
-arc-series-requires : tie.Need-arc-series-requires
-arc-series-requires c κs = search needs
-
 returns : tie.Need-returns
 unfolding arcNear
 returns c = cc
 
 pub arc-near-spec : {M : Type 1} → statement M
-arc-near-spec = tie.close (tie.spec arc-series-requires returns)
+arc-near-spec = tie.close (tie.spec (λ c κs. search needs) returns)

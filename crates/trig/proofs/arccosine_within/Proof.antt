@@ -4,18 +4,6 @@ use Rattle.trig.specs.Trig.{arccosineWithin}
 use Rattle.trig.proofs.arccosine_within.Statement.{statement}
 use Rattle.trig.proofs.arccosine_within.Tie as tie
 
-magnitude-requires : tie.Need-magnitude-requires
-magnitude-requires c κs = search needs
-
-arc-near-requires : tie.Need-arc-near-requires
-arc-near-requires c κs = search needs
-
-arc-far-requires : tie.Need-arc-far-requires
-arc-far-requires c κs = search needs
-
-arc-far-requires-2 : tie.Need-arc-far-requires-2
-arc-far-requires-2 c κs = search needs
-
 returns : tie.Need-returns
 unfolding arccosineWithin
 returns c = rw (← c .before .before .magnitude .ensures, c .before .if1 .taken) (cc)
@@ -31,11 +19,4 @@ returns-3 c = rw (← c .before .before .before .magnitude .ensures, c .before .
 pub arccosine-within-spec : {M : Type 1} → statement M
 arccosine-within-spec =
     tie.close
-    (tie.spec
-    magnitude-requires
-    arc-near-requires
-    arc-far-requires
-    arc-far-requires-2
-    returns
-    returns-2
-    returns-3)
+    (tie.spec (λ c κs. search needs) (λ c κs. search needs) (λ c κs. search needs) (λ c κs. search needs) returns returns-2 returns-3)

@@ -4,18 +4,6 @@ use Rattle.trig.specs.Trig.{arcsineWithin}
 use Rattle.trig.proofs.arcsine_within.Statement.{statement}
 use Rattle.trig.proofs.arcsine_within.Tie as tie
 
-magnitude-requires : tie.Need-magnitude-requires
-magnitude-requires c κs = search needs
-
-arc-near-requires : tie.Need-arc-near-requires
-arc-near-requires c κs = search needs
-
-arc-far-requires : tie.Need-arc-far-requires
-arc-far-requires c κs = search needs
-
-signed-requires : tie.Need-signed-requires
-signed-requires c κs = search needs
-
 returns : tie.Need-returns
 unfolding arcsineWithin
 returns c = rw (← c .before .before .magnitude .ensures, c .before .if1 .taken) (c .arc-near .ensures)
@@ -27,10 +15,4 @@ returns-2 c = rw (← c .before .before .before .magnitude .ensures, c .before .
 pub arcsine-within-spec : {M : Type 1} → statement M
 arcsine-within-spec =
     tie.close
-    (tie.spec
-    magnitude-requires
-    arc-near-requires
-    arc-far-requires
-    signed-requires
-    returns
-    returns-2)
+    (tie.spec (λ c κs. search needs) (λ c κs. search needs) (λ c κs. search needs) (λ c κs. search needs) returns returns-2)

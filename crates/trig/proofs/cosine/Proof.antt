@@ -4,15 +4,6 @@ use Rattle.trig.specs.Trig.{cosine}
 use Rattle.trig.proofs.cosine.Statement.{statement}
 use Rattle.trig.proofs.cosine.Tie as tie
 
-magnitude-requires : tie.Need-magnitude-requires
-magnitude-requires c κs = search needs
-
-cosine-above-requires : tie.Need-cosine-above-requires
-cosine-above-requires c κs = search needs
-
-in-range-requires : tie.Need-in-range-requires
-in-range-requires c κs = search needs
-
 returns : tie.Need-returns
 unfolding cosine
 returns c = rw (← c .before .in-range .ensures, c .if1 .taken) (cc)
@@ -22,6 +13,4 @@ unfolding cosine
 returns-2 c = rw (← c .before .in-range .ensures, c .if1 .left)
 
 pub cosine-spec : {M : Type 1} → statement M
-cosine-spec =
-    tie.close
-    (tie.spec magnitude-requires cosine-above-requires in-range-requires returns returns-2)
+cosine-spec = tie.close (tie.spec (λ c κs. search needs) (λ c κs. search needs) (λ c κs. search needs) returns returns-2)

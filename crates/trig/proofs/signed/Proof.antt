@@ -4,9 +4,6 @@ use Rattle.trig.specs.Trig.{signed}
 use Rattle.trig.proofs.signed.Statement.{statement}
 use Rattle.trig.proofs.signed.Tie as tie
 
-turned-requires : tie.Need-turned-requires
-turned-requires c κs = search needs
-
 returns : tie.Need-returns
 unfolding signed
 returns c = rw (c .if1 .taken)
@@ -16,4 +13,4 @@ unfolding signed
 returns-2 c = rw (c .if1 .left) (c .before .turned .ensures)
 
 pub signed-spec : {M : Type 1} → statement M
-signed-spec = tie.close (tie.spec turned-requires returns returns-2)
+signed-spec = tie.close (tie.spec (λ c κs. search needs) returns returns-2)

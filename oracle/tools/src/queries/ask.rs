@@ -3,7 +3,7 @@
 use super::Maker;
 use super::festivals::Almanac;
 use crate::lines::bits_word;
-use crate::tables::{data_rules, owner_table};
+use crate::tables::{ask_rules, ask_table};
 use parameterised::conversion::bs_to_ad;
 use parameterised::convert::own_table;
 use parameterised::gregorian::{Date, date};
@@ -64,8 +64,8 @@ fn month(maker: &mut Maker, almanac: &mut Almanac, year: u16, month: u16) {
 pub fn sample(maker: &mut Maker) {
     maker.line("check");
     maker.line("checkrules");
-    let mut almanac = Almanac::new(owner_table(), data_rules());
-    for (year, number) in [(2081, 6), (2081, 7), (2000, 1), (2099, 12)] {
+    let mut almanac = Almanac::new(ask_table(), ask_rules());
+    for (year, number) in [(2081, 6), (2081, 7), (2080, 1), (2082, 12)] {
         month(maker, &mut almanac, year, number);
     }
     dates(maker);
@@ -75,7 +75,7 @@ pub fn sample(maker: &mut Maker) {
     // Another table in the place of the file's, then an empty rule list and one rule in the place of its rules.
     let own = own_table();
     maker.table(&own);
-    month(maker, &mut Almanac::new(own_table(), data_rules()), 100, 2);
+    month(maker, &mut Almanac::new(own_table(), ask_rules()), 100, 2);
     maker.rules(&[]);
     maker.line("checkrules");
     month(maker, &mut Almanac::new(own_table(), Vec::new()), 101, 1);

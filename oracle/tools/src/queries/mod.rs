@@ -1,4 +1,4 @@
-//! Makers of query lines, each from a fixed seed: samples for the replay programs, and the sets at
+//! Makers of query lines, each from a fixed seed: samples for the programs, and the sets at
 //! full scale.
 use crate::lines::bits_word;
 use crate::random::Random;
@@ -25,7 +25,7 @@ pub struct Maker<'a> {
 
 type Set = (&'static str, fn(&mut Maker));
 
-/// The samples: of `ask` and `convert`, and of the replay programs by the part of a name behind `replay_`.
+/// The samples: of `convert`, and the parts of the sample of `ask`, its own questions first.
 pub const SAMPLES: [Set; 8] = [
     ("ask", ask::sample),
     ("gregorian", gregorian::sample),

@@ -3,14 +3,8 @@ use borrow.Author.Needs.{needs}
 use Rattle.answers.proofs.almanac.at.Statement.{statement}
 use Rattle.answers.proofs.almanac.at.Tie as tie
 
-kala-instant-requires : tie.Need-kala-instant-requires
-kala-instant-requires c κs = search needs
-
-instant-requires : tie.Need-instant-requires
-instant-requires c κs = search needs
-
 returns : tie.Need-returns
 returns c = rw (c .instant .ensures, c .before .kala-instant .ensures)
 
 pub at-spec : {M : Type 1} → statement M
-at-spec = tie.close (tie.spec kala-instant-requires instant-requires returns)
+at-spec = tie.close (tie.spec (λ c κs. search needs) (λ c κs. search needs) returns)

@@ -6,24 +6,6 @@ use Rattle.answers.proofs.Rows.{other}
 use Rattle.answers.proofs.almanac.kala.Statement.{statement}
 use Rattle.answers.proofs.almanac.kala.Tie as tie
 
-at-requires : tie.Need-at-requires
-at-requires c κs = search needs
-
-at-requires-2 : tie.Need-at-requires-2
-at-requires-2 c κs = search needs
-
-at-requires-3 : tie.Need-at-requires-3
-at-requires-3 c κs = search needs
-
-at-requires-4 : tie.Need-at-requires-4
-at-requires-4 c κs = search needs
-
-at-requires-5 : tie.Need-at-requires-5
-at-requires-5 c κs = search needs
-
-at-requires-6 : tie.Need-at-requires-6
-at-requires-6 c κs = search needs
-
 returns : tie.Need-returns
 unfolding among
 returns c = rw (c .before .match .keys1, c .at .ensures)
@@ -55,16 +37,5 @@ pub kala-spec : {M : Type 1} → statement M
 kala-spec =
     tie.close
     (tie.spec
-    at-requires
-    at-requires-2
-    at-requires-3
-    at-requires-4
-    at-requires-5
-    at-requires-6
-    returns
-    returns-2
-    returns-3
-    returns-4
-    returns-5
-    returns-6
-    returns-7)
+    (λ c κs. search needs) (λ c κs. search needs) (λ c κs. search needs) (λ c κs. search needs) (λ c κs. search needs)
+    (λ c κs. search needs) returns returns-2 returns-3 returns-4 returns-5 returns-6 returns-7)

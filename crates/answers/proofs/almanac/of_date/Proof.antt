@@ -6,36 +6,6 @@ use Rattle.answers.proofs.Rows.{other}
 use Rattle.answers.proofs.almanac.of_date.Statement.{statement}
 use Rattle.answers.proofs.almanac.of_date.Tie as tie
 
-sun-events-requires : tie.Need-sun-events-requires
-sun-events-requires c κs = search needs
-
-span-requires : tie.Need-span-requires
-span-requires c κs = search needs
-
-sunrise-requires : tie.Need-sunrise-requires
-sunrise-requires c κs = search needs
-
-instant-requires : tie.Need-instant-requires
-instant-requires c κs = search needs
-
-sunset-requires : tie.Need-sunset-requires
-sunset-requires c κs = search needs
-
-instant-requires-2 : tie.Need-instant-requires-2
-instant-requires-2 c κs = search needs
-
-nishita-window-requires : tie.Need-nishita-window-requires
-nishita-window-requires c κs = search needs
-
-span-requires-2 : tie.Need-span-requires-2
-span-requires-2 c κs = search needs
-
-reading-requires : tie.Need-reading-requires
-reading-requires c κs = search needs
-
-reading-requires-2 : tie.Need-reading-requires-2
-reading-requires-2 c κs = search needs
-
 returns : tie.Need-returns
 unfolding among
 returns c = rw (c .before .before .match .keys1, c .span .ensures, c .before .sun-events .ensures)
@@ -63,19 +33,6 @@ pub of-date-spec : {M : Type 1} → statement M
 of-date-spec =
     tie.close
     (tie.spec
-    sun-events-requires
-    span-requires
-    sunrise-requires
-    instant-requires
-    sunset-requires
-    instant-requires-2
-    nishita-window-requires
-    span-requires-2
-    reading-requires
-    reading-requires-2
-    returns
-    returns-2
-    returns-3
-    returns-4
-    returns-5
-    returns-6)
+    (λ c κs. search needs) (λ c κs. search needs) (λ c κs. search needs) (λ c κs. search needs) (λ c κs. search needs)
+    (λ c κs. search needs) (λ c κs. search needs) (λ c κs. search needs) (λ c κs. search needs) (λ c κs. search needs)
+    returns returns-2 returns-3 returns-4 returns-5 returns-6)

@@ -6,24 +6,9 @@ use borrow.Author.Tests.{ne-eqb}
 use Rattle.answers.proofs.almanac.reply.Statement.{statement}
 use Rattle.answers.proofs.almanac.reply.Tie as tie
 
-date-of-requires : tie.Need-date-of-requires
-date-of-requires c κs = search needs
-
-of-date-requires : tie.Need-of-date-requires
-of-date-requires c κs = search needs
-
 returns : tie.Need-returns
 unfolding almanacReply
 returns c = rw (c .before .before .if1 .taken, c .of-date .ensures, c .before .date-of .ensures)
-
-date-of-requires-2 : tie.Need-date-of-requires-2
-date-of-requires-2 c κs = search needs
-
-small-requires : tie.Need-small-requires
-small-requires c κs = search needs
-
-kala-requires : tie.Need-kala-requires
-kala-requires c κs = search needs
 
 returns-2 : tie.Need-returns-2
 unfolding almanacReply
@@ -37,11 +22,5 @@ pub reply-spec : {M : Type 1} → statement M
 reply-spec =
     tie.close
     (tie.spec
-    date-of-requires
-    of-date-requires
-    returns
-    date-of-requires-2
-    small-requires
-    kala-requires
-    returns-2
-    returns-3)
+    (λ c κs. search needs) (λ c κs. search needs) returns (λ c κs. search needs) (λ c κs. search needs)
+    (λ c κs. search needs) returns-2 returns-3)

@@ -3,23 +3,14 @@ use borrow.Author.Needs.{needs}
 use Rattle.answers.proofs.almanac.span.Statement.{statement}
 use Rattle.answers.proofs.almanac.span.Tie as tie
 
-enum-known-a : tie.Need-enum-known-a
-enum-known-a c = search needs
-
-enum-told : tie.Need-enum-told
-enum-told c = search needs
-
-enum-told-2 : tie.Need-enum-told-2
-enum-told-2 c = search needs
-
 returns : tie.Need-returns
 returns c = rw (c .before .a .given .1)
 
-returns-2 : tie.Need-returns-2
-returns-2 c = search needs
-
 returns-3 : tie.Need-returns-3
-returns-3 c = search needs
+returns-3 c = rw (c .before .a2 .given .1)
 
 pub span-spec : {M : Type 1} → statement M
-span-spec = tie.close (tie.spec enum-known-a enum-told enum-told-2 returns returns-2 returns-3)
+span-spec =
+    tie.close
+    (tie.spec
+    (λ c. search needs) (λ c. search needs) (λ c. search needs) returns (λ c. search needs) returns-3)

@@ -8,57 +8,21 @@ use Rattle.answers.proofs.Rows.{other}
 use Rattle.answers.proofs.days.reply.Statement.{statement}
 use Rattle.answers.proofs.days.reply.Tie as tie
 
-date-of-requires : tie.Need-date-of-requires
-date-of-requires c κs = search needs
-
-day-requires : tie.Need-day-requires
-day-requires c κs = search needs
-
 returns : tie.Need-returns
 unfolding daysReply among
 returns c = rw (c .before .before .before .match .keys1, c .before .before .if1 .taken, c .day .ensures, c .before .date-of .ensures)
-
-large-requires : tie.Need-large-requires
-large-requires c κs = search needs
-
-from-day-number-requires : tie.Need-from-day-number-requires
-from-day-number-requires c κs = search needs
-
-date-requires : tie.Need-date-requires
-date-requires c κs = search needs
 
 returns-2 : tie.Need-returns-2
 unfolding daysReply among
 returns-2 c = rw (c .before .before .before .before .match .keys2, c .before .before .before .if2 .taken, c .date .ensures, c .before .from-day-number .ensures, c .before .before .large .ensures (lit< tt))
 
-date-of-requires-2 : tie.Need-date-of-requires-2
-date-of-requires-2 c κs = search needs
-
-float-requires : tie.Need-float-requires
-float-requires c κs = search needs
-
-julian-day-requires : tie.Need-julian-day-requires
-julian-day-requires c κs = search needs
-
-julian-requires : tie.Need-julian-requires
-julian-requires c κs = search needs
-
 returns-3 : tie.Need-returns-3
 unfolding daysReply among
 returns-3 c = rw (c .before .before .before .before .before .match .keys3, c .before .before .before .before .if3 .taken, c .julian .ensures, c .before .julian-day .ensures, c .before .before .float .ensures (lit< tt), c .before .before .before .date-of2 .ensures)
 
-float-requires-2 : tie.Need-float-requires-2
-float-requires-2 c κs = search needs
-
-npt-date-requires : tie.Need-npt-date-requires
-npt-date-requires c κs = search needs
-
-npt-requires : tie.Need-npt-requires
-npt-requires c κs = search needs
-
 returns-4 : tie.Need-returns-4
 unfolding daysReply among
-returns-4 c = rw (c .before .before .before .before .match .keys4, c .before .before .before .if4 .taken, c .npt .ensures, c .before .npt-date .ensures, c .before .before .float2 .ensures (lit< tt))
+returns-4 c = rw (c .before .before .before .before .match .keys4, c .before .before .before .if4 .taken, c .date2 .ensures, c .before .npt-date .ensures, c .before .before .float2 .ensures (lit< tt))
 
 returns-5 : tie.Need-returns-5
 unfolding daysReply among
@@ -84,24 +48,7 @@ pub reply-spec : {M : Type 1} → statement M
 reply-spec =
     tie.close
     (tie.spec
-    date-of-requires
-    day-requires
-    returns
-    large-requires
-    from-day-number-requires
-    date-requires
-    returns-2
-    date-of-requires-2
-    float-requires
-    julian-day-requires
-    julian-requires
-    returns-3
-    float-requires-2
-    npt-date-requires
-    npt-requires
-    returns-4
-    returns-5
-    returns-6
-    returns-7
-    returns-8
-    returns-9)
+    (λ c κs. search needs) (λ c κs. search needs) returns (λ c κs. search needs) (λ c κs. search needs)
+    (λ c κs. search needs) returns-2 (λ c κs. search needs) (λ c κs. search needs) (λ c κs. search needs)
+    (λ c κs. search needs) returns-3 (λ c κs. search needs) (λ c κs. search needs) (λ c κs. search needs) returns-4 returns-5
+    returns-6 returns-7 returns-8 returns-9)

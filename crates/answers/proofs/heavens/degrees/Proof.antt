@@ -3,17 +3,11 @@ use borrow.Author.Needs.{needs}
 use Rattle.answers.proofs.heavens.degrees.Statement.{statement}
 use Rattle.answers.proofs.heavens.degrees.Tie as tie
 
-enum-known-a : tie.Need-enum-known-a
-enum-known-a c = search needs
-
-enum-told : tie.Need-enum-told
-enum-told c = search needs
-
 returns : tie.Need-returns
 returns c = rw (c .before .a .given .1)
 
 returns-2 : tie.Need-returns-2
-returns-2 c = search needs
+returns-2 c = rw (c .before .a2 .given .1)
 
 pub degrees-spec : {M : Type 1} → statement M
-degrees-spec = tie.close (tie.spec enum-known-a enum-told returns returns-2)
+degrees-spec = tie.close (tie.spec (λ c. search needs) (λ c. search needs) returns returns-2)

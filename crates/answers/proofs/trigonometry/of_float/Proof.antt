@@ -6,21 +6,6 @@ use Rattle.answers.proofs.Rows.{other}
 use Rattle.answers.proofs.trigonometry.of_float.Statement.{statement}
 use Rattle.answers.proofs.trigonometry.of_float.Tie as tie
 
-sine-requires : tie.Need-sine-requires
-sine-requires c κs = search needs
-
-cosine-requires : tie.Need-cosine-requires
-cosine-requires c κs = search needs
-
-arcsine-requires : tie.Need-arcsine-requires
-arcsine-requires c κs = search needs
-
-arccosine-requires : tie.Need-arccosine-requires
-arccosine-requires c κs = search needs
-
-tangent-requires : tie.Need-tangent-requires
-tangent-requires c κs = search needs
-
 returns : tie.Need-returns
 unfolding among
 returns c = rw (c .before .match .keys1, c .sine .ensures)
@@ -48,14 +33,5 @@ pub of-float-spec : {M : Type 1} → statement M
 of-float-spec =
     tie.close
     (tie.spec
-    sine-requires
-    cosine-requires
-    arcsine-requires
-    arccosine-requires
-    tangent-requires
-    returns
-    returns-2
-    returns-3
-    returns-4
-    returns-5
-    returns-6)
+    (λ c κs. search needs) (λ c κs. search needs) (λ c κs. search needs) (λ c κs. search needs) (λ c κs. search needs)
+    returns returns-2 returns-3 returns-4 returns-5 returns-6)

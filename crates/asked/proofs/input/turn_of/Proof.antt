@@ -4,22 +4,10 @@ use borrow.Author.Needs.{needs}
 use Rattle.asked.proofs.input.turn_of.Statement.{statement}
 use Rattle.asked.proofs.input.turn_of.Tie as tie
 
-finish-requires : tie.Need-finish-requires
-finish-requires c κs = search needs
-
-ended-requires : tie.Need-ended-requires
-ended-requires c κs = search needs
-
 returns : tie.Need-returns
 returns c = let a = c .before .before .before .before .args in
     let x = c .before .finish in
     turn-failed (a .input) (a .o) (x .result) (c .before .before .if1 .taken) (x .ensures .0) (x .ensures .1) (c .ended .ensures)
-
-finish-requires-2 : tie.Need-finish-requires-2
-finish-requires-2 c κs = search needs
-
-ended-requires-2 : tie.Need-ended-requires-2
-ended-requires-2 c κs = search needs
 
 returns-2 : tie.Need-returns-2
 returns-2 c = let a = c .before .before .before .before .before .before .args in
@@ -34,10 +22,4 @@ pub turn-of-spec : {M : Type 1} → statement M
 turn-of-spec =
     tie.close
     (tie.spec
-    finish-requires
-    ended-requires
-    returns
-    finish-requires-2
-    ended-requires-2
-    returns-2
-    returns-3)
+    (λ c κs. search needs) (λ c κs. search needs) returns (λ c κs. search needs) (λ c κs. search needs) returns-2 returns-3)

@@ -5,9 +5,6 @@ use borrow.Author.Needs.{needs}
 use Rattle.asked.proofs.words.above.Statement.{statement}
 use Rattle.asked.proofs.words.above.Tie as tie
 
-cast-t3 : tie.Need-cast-t3
-cast-t3 c = search needs
-
 returns : tie.Need-returns
 returns c = rw (from-zero-is (c .before .args .v) (c .if1 .taken)) (above-fits (c .before .args .v) (c .if1 .taken))
 
@@ -15,4 +12,4 @@ returns-2 : tie.Need-returns-2
 returns-2 c = above-large (c .before .args .v) (c .if1 .left)
 
 pub above-spec : {M : Type 1} → statement M
-above-spec = tie.close (tie.spec cast-t3 returns returns-2)
+above-spec = tie.close (tie.spec (λ c. search needs) returns returns-2)

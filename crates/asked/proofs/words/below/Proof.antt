@@ -13,12 +13,6 @@ use Rattle.asked.proofs.words.below.Tie as tie
 returns : tie.Need-returns
 returns c = below-nought (c .before .args .v) (c .if1 .taken)
 
-sub-t3 : tie.Need-sub-t3
-sub-t3 c = search needs
-
-cast-t4 : tie.Need-cast-t4
-cast-t4 c = search needs
-
 sub-t5 : tie.Need-sub-t5
 sub-t5 c = let v = c .before .before .args .v in
     let h : v - 1 ≤ 2147483647 = omega arith in
@@ -33,4 +27,4 @@ returns-3 : tie.Need-returns-3
 returns-3 c = below-large (c .before .before .args .v) (c .if2 .left)
 
 pub below-spec : {M : Type 1} → statement M
-below-spec = tie.close (tie.spec returns sub-t3 cast-t4 sub-t5 returns-2 returns-3)
+below-spec = tie.close (tie.spec returns (λ c. search needs) (λ c. search needs) sub-t5 returns-2 returns-3)

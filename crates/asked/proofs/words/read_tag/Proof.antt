@@ -20,12 +20,6 @@ abbrev μ-loop : tie.MeasureT-loop
 loop-holds : tie.Need-loop-holds Inv-loop μ-loop
 loop-holds c = (omega arith, refl)
 
-shared-slice-read-b : tie.Need-shared-slice-read-b Inv-loop μ-loop
-shared-slice-read-b c = search needs
-
-is-letter-requires : tie.Need-is-letter-requires Inv-loop μ-loop
-is-letter-requires c κs = search needs
-
 returns : tie.Need-returns Inv-loop μ-loop
 returns c = let a = c .before .before .before .before .before .before .args in
     let l = c .before .before .before .before .loop in
@@ -62,12 +56,6 @@ add-v : tie.Need-add-v Inv-loop μ-loop
 add-v c = let x = getD (c .before .before .before .before .before .before .before .args .s .now) (c .before .before .before .before .before .loop .i) 0 in
     omega (arith, letter-is x (sym (c .before .before .is-letter .ensures) ∙ not-false (c .before .before .is-letter .result) (c .before .if1 .left)))
 
-add-i : tie.Need-add-i Inv-loop μ-loop
-add-i c = search needs
-
-loop-less : tie.Need-loop-less Inv-loop μ-loop
-loop-less c = search needs
-
 loop-again : tie.Need-loop-again Inv-loop μ-loop
 loop-again c = let a = c .before .before .before .before .before .before .before .args in
     let l = c .before .before .before .before .before .loop in
@@ -86,19 +74,5 @@ pub read-tag-spec : {M : Type 1} → statement M
 read-tag-spec =
     tie.close
     (tie.spec
-    Inv-loop
-    μ-loop
-    loop-holds
-    shared-slice-read-b
-    is-letter-requires
-    returns
-    sub-d
-    cast-d
-    sub-if2
-    returns-2
-    mul-v
-    add-v
-    add-i
-    loop-less
-    loop-again
-    returns-3)
+    Inv-loop μ-loop loop-holds (λ c. search needs) (λ c κs. search needs) returns sub-d cast-d sub-if2 returns-2 mul-v add-v
+    (λ c. search needs) (λ c. search needs) loop-again returns-3)

@@ -7,21 +7,6 @@ use borrow.Author.Needs.{needs}
 use Rattle.asked.proofs.words.read_word.Statement.{statement}
 use Rattle.asked.proofs.words.read_word.Tie as tie
 
-slice-aggregate-pass : tie.Need-slice-aggregate-pass
-slice-aggregate-pass c = search needs
-
-pass-requires : tie.Need-pass-requires
-pass-requires c κs = search needs
-
-enum-known-d : tie.Need-enum-known-d
-enum-known-d c = search needs
-
-hex-requires : tie.Need-hex-requires
-hex-requires c κs = search needs
-
-of-kind-requires : tie.Need-of-kind-requires
-of-kind-requires c κs = search needs
-
 returns : tie.Need-returns
 returns c = let a = c .before .before .before .before .before .before .before .before .args in
     let s = a .s .now in
@@ -29,45 +14,12 @@ returns c = let a = c .before .before .before .before .before .before .before .b
     of-kind-said s x 4 (c .before .hex .result) (c .of-kind .result) (omega arith) (c .of-kind .ensures) (c .before .hex .ensures)
     (word-bits x (passed-said (c .before .before .before .before .before .pass .result) (c .before .before .before .before .before .pass .ensures) (c .before .before .before .d .given .1)))
 
-enum-told : tie.Need-enum-told
-enum-told c = search needs
-
-slice-aggregate-pass-2 : tie.Need-slice-aggregate-pass-2
-slice-aggregate-pass-2 c = search needs
-
-pass-requires-2 : tie.Need-pass-requires-2
-pass-requires-2 c κs = search needs
-
-enum-known-d-2 : tie.Need-enum-known-d-2
-enum-known-d-2 c = search needs
-
-decimal-requires : tie.Need-decimal-requires
-decimal-requires c κs = search needs
-
-of-kind-requires-2 : tie.Need-of-kind-requires-2
-of-kind-requires-2 c κs = search needs
-
 returns-2 : tie.Need-returns-2
 returns-2 c = let a = c .before .before .before .before .before .before .before .before .before .before .before .before .args in
     let s = a .s .now in
     let x = drop (a .c .at) s in
     of-kind-said s x 3 (c .before .decimal .result) (c .of-kind2 .result) (omega arith) (c .of-kind2 .ensures) (c .before .decimal .ensures)
     (word-minus x (passed-unsaid (c .before .before .before .before .before .before .before .before .before .pass .result) (c .before .before .before .before .before .before .before .before .before .pass .ensures) (c .before .before .before .before .before .before .before .enum-told .given .1)) (passed-said (c .before .before .before .before .before .pass2 .result) (c .before .before .before .before .before .pass2 .ensures) (c .before .before .before .d2 .given .1)))
-
-enum-told-2 : tie.Need-enum-told-2
-enum-told-2 c = search needs
-
-decimal-requires-2 : tie.Need-decimal-requires-2
-decimal-requires-2 c κs = search needs
-
-enum-known-n : tie.Need-enum-known-n
-enum-known-n c = search needs
-
-kind-of-requires : tie.Need-kind-of-requires
-kind-of-requires c κs = search needs
-
-enum-told-3 : tie.Need-enum-told-3
-enum-told-3 c = search needs
 
 returns-3 : tie.Need-returns-3
 returns-3 c = let a = c .before .before .before .before .before .before .before .before .before .before .before .before .before .before .args in
@@ -88,23 +40,7 @@ pub read-word-spec : {M : Type 1} → statement M
 read-word-spec =
     tie.close
     (tie.spec
-    slice-aggregate-pass
-    pass-requires
-    enum-known-d
-    hex-requires
-    of-kind-requires
-    returns
-    enum-told
-    slice-aggregate-pass-2
-    pass-requires-2
-    enum-known-d-2
-    decimal-requires
-    of-kind-requires-2
-    returns-2
-    enum-told-2
-    decimal-requires-2
-    enum-known-n
-    kind-of-requires
-    enum-told-3
-    returns-3
-    returns-4)
+    (λ c. search needs) (λ c κs. search needs) (λ c. search needs) (λ c κs. search needs) (λ c κs. search needs) returns
+    (λ c. search needs) (λ c. search needs) (λ c κs. search needs) (λ c. search needs) (λ c κs. search needs)
+    (λ c κs. search needs) returns-2 (λ c. search needs) (λ c κs. search needs) (λ c. search needs) (λ c κs. search needs)
+    (λ c. search needs) returns-3 returns-4)

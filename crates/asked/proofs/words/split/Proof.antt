@@ -10,19 +10,11 @@ use Rattle.asked.proofs.words.split.Tie as tie
 slice-aggregate-split-all : tie.Need-slice-aggregate-split-all
 slice-aggregate-split-all c = sym (length-take-le (c .before .before .before .args .n) (c .before .before .before .args .line .now) (c .before .if1 .taken))
 
-split-all-requires : tie.Need-split-all-requires
-split-all-requires c κs = search needs
-
-returns : tie.Need-returns
-returns c = search needs
-
-split-all-requires-2 : tie.Need-split-all-requires-2
-split-all-requires-2 c κs = search needs
-
 returns-2 : tie.Need-returns-2
 returns-2 c = c .split-all2 .ensures ∙ ap wordsOf (sym (take-all (c .before .before .before .args .n) (c .before .before .before .args .line .now) (omega arith)))
 
 pub split-spec : {M : Type 1} → statement M
 split-spec =
     tie.close
-    (tie.spec slice-aggregate-split-all split-all-requires returns split-all-requires-2 returns-2)
+    (tie.spec
+    slice-aggregate-split-all (λ c κs. search needs) (λ c. search needs) (λ c κs. search needs) returns-2)

@@ -16,18 +16,6 @@ Inv-loop s tag at₀ form₀ values₀ k₀ t12 at form values k = (k ≤ 16) ×
 abbrev μ-loop : tie.MeasureT-loop
 μ-loop s tag at₀ form₀ values₀ k₀ t12 at form values k = 16 - k
 
-read-tag-requires : tie.Need-read-tag-requires Inv-loop μ-loop
-read-tag-requires c κs = search needs
-
-enum-known-tag : tie.Need-enum-known-tag Inv-loop μ-loop
-enum-known-tag c = search needs
-
-enum-told : tie.Need-enum-told Inv-loop μ-loop
-enum-told c = search needs
-
-out-of-form-requires : tie.Need-out-of-form-requires Inv-loop μ-loop
-out-of-form-requires c κs = search needs
-
 returns : tie.Need-returns Inv-loop μ-loop
 returns c = c .out-of-form .ensures ∙ words-none (c .before .before .before .before .before .args .s .now) (number-unsaid (c .before .before .before .read-tag .result) (c .before .before .before .read-tag .ensures) (c .before .enum-told .given .1))
 
@@ -35,44 +23,14 @@ loop-holds : tie.Need-loop-holds Inv-loop μ-loop
 loop-holds c = let t = c .before .tag .given in
     (omega arith, omega arith, refl, words-tagged (c .before .before .before .before .before .args .s .now) (t .0 .0) (t .0 .1 .0 .at) (number-said (c .before .before .before .read-tag .result) (c .before .before .before .read-tag .ensures) (t .1)))
 
-out-of-form-requires-2 : tie.Need-out-of-form-requires-2 Inv-loop μ-loop
-out-of-form-requires-2 c κs = search needs
-
 returns-2 : tie.Need-returns-2 Inv-loop μ-loop
 returns-2 c = let l = c .before .before .before .loop in
     c .out-of-form2 .ensures ∙ left-full (c .before .before .before .before .before .before .before .before .before .args .s .now) (l .values) (c .before .before .before .before .before .tag .given .0 .0) (l .form) (l .k) (l .at) (c .before .before .loop-test .taken) (c .before .if1 .taken) ∙ l .inv .3
-
-slice-aggregate-pass : tie.Need-slice-aggregate-pass Inv-loop μ-loop
-slice-aggregate-pass c = search needs
-
-pass-requires : tie.Need-pass-requires Inv-loop μ-loop
-pass-requires c κs = search needs
-
-enum-known-c : tie.Need-enum-known-c Inv-loop μ-loop
-enum-known-c c = search needs
-
-enum-told-2 : tie.Need-enum-told-2 Inv-loop μ-loop
-enum-told-2 c = search needs
-
-out-of-form-requires-3 : tie.Need-out-of-form-requires-3 Inv-loop μ-loop
-out-of-form-requires-3 c κs = search needs
 
 returns-3 : tie.Need-returns-3 Inv-loop μ-loop
 returns-3 c = let l = c .before .before .before .before .before .before .before .loop in
     c .out-of-form3 .ensures ∙ left-gap (c .before .before .before .before .before .before .before .before .before .before .before .before .before .args .s .now) (l .values) (c .before .before .before .before .before .before .before .before .before .tag .given .0 .0) (l .form) (l .k) (l .at) (c .before .before .before .before .before .before .loop-test .taken) (below-sixteen (l .k) (l .inv .0) (c .before .before .before .before .before .if1 .left))
     (passed-unsaid (c .before .before .before .pass .result) (c .before .before .before .pass .ensures) (c .before .enum-told2 .given .1)) ∙ l .inv .3
-
-read-word-requires : tie.Need-read-word-requires Inv-loop μ-loop
-read-word-requires c κs = search needs
-
-enum-known-kind : tie.Need-enum-known-kind Inv-loop μ-loop
-enum-known-kind c = search needs
-
-enum-told-3 : tie.Need-enum-told-3 Inv-loop μ-loop
-enum-told-3 c = search needs
-
-out-of-form-requires-4 : tie.Need-out-of-form-requires-4 Inv-loop μ-loop
-out-of-form-requires-4 c κs = search needs
 
 returns-4 : tie.Need-returns-4 Inv-loop μ-loop
 returns-4 c = let l = c .before .before .before .before .before .before .before .before .before .before .before .loop in
@@ -117,32 +75,7 @@ pub split-all-spec : {M : Type 1} → statement M
 split-all-spec =
     tie.close
     (tie.spec
-    Inv-loop
-    μ-loop
-    read-tag-requires
-    enum-known-tag
-    enum-told
-    out-of-form-requires
-    returns
-    loop-holds
-    out-of-form-requires-2
-    returns-2
-    slice-aggregate-pass
-    pass-requires
-    enum-known-c
-    enum-told-2
-    out-of-form-requires-3
-    returns-3
-    read-word-requires
-    enum-known-kind
-    enum-told-3
-    out-of-form-requires-4
-    returns-4
-    mul-form
-    add-form
-    mul-values
-    array-write-values
-    add-k
-    loop-less
-    loop-again
-    returns-5)
+    Inv-loop μ-loop (λ c κs. search needs) (λ c. search needs) (λ c. search needs) (λ c κs. search needs) returns loop-holds
+    (λ c κs. search needs) returns-2 (λ c. search needs) (λ c κs. search needs) (λ c. search needs) (λ c. search needs)
+    (λ c κs. search needs) returns-3 (λ c κs. search needs) (λ c. search needs) (λ c. search needs) (λ c κs. search needs)
+    returns-4 mul-form add-form mul-values array-write-values add-k loop-less loop-again returns-5)

@@ -21,8 +21,8 @@ sub-n c = search needs
 loop-holds : tie.Need-loop-holds Inv-loop μ-loop
 loop-holds c = (omega arith, claimed-is _ _ _ _ _)
 
-events-on-requires : tie.Need-events-on-requires Inv-loop μ-loop
-events-on-requires c κs = search needs
+sun-on-requires : tie.Need-sun-on-requires Inv-loop μ-loop
+sun-on-requires c κs = search needs
 
 covers-kala-requires : tie.Need-covers-kala-requires Inv-loop μ-loop
 covers-kala-requires c κs = search needs
@@ -35,7 +35,7 @@ returns c =
     let o = l .before in
     let a = o .args in
     from-hit _ (l .loop .n) (l .loop .left) _ (l .loop .inv .1) (e .before .loop-test .taken) _
-    (k .covers-kala .ensures ∙ kala-claims _ _ _ (a .kala) _ _ (o .pre .0) (kala-on (a .kala) _ _ (e .events-on .ensures))) (c .if1 .taken)
+    (k .covers-kala .ensures ∙ kala-claims _ _ _ (a .kala) _ _ (o .pre .0) (kala-on (a .kala) _ _ (e .sun-on .ensures))) (c .if1 .taken)
 
 add-n : tie.Need-add-n Inv-loop μ-loop
 add-n c = search needs
@@ -55,7 +55,7 @@ loop-again c =
     let a = o .args in (
       omega arith,
       from-miss _ (l .loop .n) (l .loop .left) _ (l .loop .inv .1) (e .before .loop-test .taken) _
-          (k .covers-kala .ensures ∙ kala-claims _ _ _ (a .kala) _ _ (o .pre .0) (kala-on (a .kala) _ _ (e .events-on .ensures))) (c .if1 .left),
+          (k .covers-kala .ensures ∙ kala-claims _ _ _ (a .kala) _ _ (o .pre .0) (kala-on (a .kala) _ _ (e .sun-on .ensures))) (c .if1 .left),
     )
 
 returns-2 : tie.Need-returns-2 Inv-loop μ-loop
@@ -72,7 +72,7 @@ first-by-kala-spec =
     μ-loop
     sub-n
     loop-holds
-    events-on-requires
+    sun-on-requires
     covers-kala-requires
     returns
     add-n

@@ -3,10 +3,9 @@
 use borrow.Author.Needs.{needs}
 use mathlib.Core.Path.{_≡_, _∙_}
 use native.Mathlib.Omega.{arith}
-use Rattle.panchanga.specs.Noaa.{eventsOn}
 use Rattle.panchanga.specs.Answers.{spanIs}
 use Rattle.rules.specs.Days.{nishita}
-use Rattle.festivals.specs.Kathmandu.{kathmandu}
+use Rattle.festivals.specs.Kathmandu.{sunOn, kathmandu}
 use Rattle.festivals.proofs.Claims.{Left, night-claims, from-hit, from-miss, from-none, claimed-is}
 use Rattle.festivals.proofs.Kalas.{night-on}
 use Rattle.festivals.proofs.days.first_by_night.Statement.{statement}
@@ -14,7 +13,7 @@ use Rattle.festivals.proofs.days.first_by_night.Tie as tie
 
 abbrev Inv-loop : tie.InvT-loop
 Inv-loop start end begin n₀ today₀ left₀ n today left =
-    (spanIs today ≡ eventsOn n) × Left kathmandu (start .0) (end .0) nishita begin n left
+    (spanIs today ≡ sunOn n) × Left kathmandu (start .0) (end .0) nishita begin n left
 
 abbrev μ-loop : tie.MeasureT-loop
 μ-loop start end begin n₀ today₀ left₀ n today left = left
@@ -22,17 +21,17 @@ abbrev μ-loop : tie.MeasureT-loop
 sub-n : tie.Need-sub-n Inv-loop μ-loop
 sub-n c = search needs
 
-events-on-requires : tie.Need-events-on-requires Inv-loop μ-loop
-events-on-requires c κs = search needs
+sun-on-requires : tie.Need-sun-on-requires Inv-loop μ-loop
+sun-on-requires c κs = search needs
 
 loop-holds : tie.Need-loop-holds Inv-loop μ-loop
-loop-holds c = (c .events-on .ensures, (omega arith, claimed-is _ _ _ _ _))
+loop-holds c = (c .sun-on .ensures, (omega arith, claimed-is _ _ _ _ _))
 
-add-events-on : tie.Need-add-events-on Inv-loop μ-loop
-add-events-on c = search needs
+add-sun-on : tie.Need-add-sun-on Inv-loop μ-loop
+add-sun-on c = search needs
 
-events-on-requires-2 : tie.Need-events-on-requires-2 Inv-loop μ-loop
-events-on-requires-2 c κs = search needs
+sun-on-requires-2 : tie.Need-sun-on-requires-2 Inv-loop μ-loop
+sun-on-requires-2 c κs = search needs
 
 nishita-between-requires : tie.Need-nishita-between-requires Inv-loop μ-loop
 nishita-between-requires c κs = search needs
@@ -47,7 +46,7 @@ returns c =
     let e = b .before in
     let l = e .before .before in
     from-hit _ (l .loop .n) (l .loop .left) _ (l .loop .inv .1 .1) (e .before .loop-test .taken) _
-    (k .covers-night .ensures ∙ night-claims _ _ _ _ _ (night-on _ _ _ _ (l .loop .inv .0) (e .events-on2 .ensures) (b .nishita-between .ensures))) (c .if1 .taken)
+    (k .covers-night .ensures ∙ night-claims _ _ _ _ _ (night-on _ _ _ _ (l .loop .inv .0) (e .sun-on2 .ensures) (b .nishita-between .ensures))) (c .if1 .taken)
 
 add-n : tie.Need-add-n Inv-loop μ-loop
 add-n c = search needs
@@ -66,8 +65,8 @@ loop-again c =
     let l = e .before .before in
     let missed =
     from-miss _ (l .loop .n) (l .loop .left) _ (l .loop .inv .1 .1) (e .before .loop-test .taken) _
-    (k .covers-night .ensures ∙ night-claims _ _ _ _ _ (night-on _ _ _ _ (l .loop .inv .0) (e .events-on2 .ensures) (b .nishita-between .ensures))) (c .if1 .left) in
-    (e .events-on2 .ensures, (omega arith, missed))
+    (k .covers-night .ensures ∙ night-claims _ _ _ _ _ (night-on _ _ _ _ (l .loop .inv .0) (e .sun-on2 .ensures) (b .nishita-between .ensures))) (c .if1 .left) in
+    (e .sun-on2 .ensures, (omega arith, missed))
 
 returns-2 : tie.Need-returns-2 Inv-loop μ-loop
 returns-2 c =
@@ -82,10 +81,10 @@ first-by-night-spec =
     Inv-loop
     μ-loop
     sub-n
-    events-on-requires
+    sun-on-requires
     loop-holds
-    add-events-on
-    events-on-requires-2
+    add-sun-on
+    sun-on-requires-2
     nishita-between-requires
     covers-night-requires
     returns

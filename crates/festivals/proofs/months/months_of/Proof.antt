@@ -4,15 +4,16 @@ use mathlib.Core.Path.{_≡_, refl, sym, ap, _∙_}
 use Prim.Native.Nat.{_-_, _≤_}
 use native.Mathlib.Omega.{arith}
 use lib.ListN.{length}
+use Rattle.paper.specs.declared.Refusal.the-variants.{Outside}
 use Rattle.paper.specs.Answers.{answered}
 use Rattle.conversion.specs.Calendar.{fromDay}
 use Rattle.conversion.specs.Flat.{flat}
 use Rattle.festivals.specs.declared.months.Months.{Months}
 use Rattle.festivals.specs.Kathmandu.{kathmandu}
-use Rattle.festivals.specs.Months.{put, place, monthAt}
+use Rattle.festivals.specs.Months.{monthAt}
 use Rattle.festivals.specs.Answers.{dayIs}
 use Rattle.festivals.proofs.Placed.{inside, outside, month-of}
-use Rattle.festivals.proofs.Moons.{Stands, stands-turn, place-nothing, place-outside, place-other, place-in, placed-none, placed-first}
+use Rattle.festivals.proofs.Moons.{put, Stands, stands-turn, place-nothing, place-outside, place-other, place-in, placed-none, placed-first}
 use Rattle.festivals.proofs.months.months_of.Statement.{statement}
 use Rattle.festivals.proofs.months.months_of.Tie as tie
 
@@ -70,7 +71,7 @@ loop-again-2 c =
     let n = p .before .before in
     let d = n .before .before in
     let o = d .before .before .before .before .before in
-    stands-turn _ _ _ _ _ _ _ _ _ (d .before .before .loop-test .taken) (fits d) (place-outside _ _ _ _ _ _ (sym (ap dayIs (n .k .given .1)) ∙ d .nepal-day .ensures) 7 (outside _ (o .pre .0) _ (p .place .result) (p .place .ensures) (c .match2 .keys2))) (d .before .before .before .loop .inv)
+    stands-turn _ _ _ _ _ _ _ _ _ (d .before .before .loop-test .taken) (fits d) (place-outside _ _ _ _ _ _ (sym (ap dayIs (n .k .given .1)) ∙ d .nepal-day .ensures) Outside (outside _ (o .pre .0) _ (p .place .result) (p .place .ensures) (c .match2 .keys2))) (d .before .before .before .loop .inv)
 
 loop-less-3 : tie.Need-loop-less-3 Inv-loop μ-loop
 loop-less-3 c = search needs

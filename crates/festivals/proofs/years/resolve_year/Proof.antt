@@ -5,6 +5,7 @@ use mathlib.Core.Path.{_≡_, ap, _∙_}
 use mathlib.Core.List.{List}
 use native.Mathlib.Omega.{arith}
 use lib.ListN.{length}
+use Rattle.paper.specs.declared.Refusal.the-variants.{Outside}
 use Rattle.conversion.specs.Flat.{flat}
 use Rattle.rules.specs.Festivals.{ruleDay, entry}
 use Rattle.rules.specs.Resolved.{putEntry}
@@ -117,7 +118,7 @@ loop-again-3 c =
     let q = p .before .before in
     let d = q .before .before in
     let o = d .before .before .before .before .before .before .before .before .before in
-    turned d _ (entry-outside _ _ _ _ _ _ _ 7 (met-day d ∙ ap dayIs (q .k .given .1)) (outside _ (o .pre .0) _ (p .place .result) (p .place .ensures) (c .match2 .keys2)))
+    turned d _ (entry-outside _ _ _ _ _ _ _ Outside (met-day d ∙ ap dayIs (q .k .given .1)) (outside _ (o .pre .0) _ (p .place .result) (p .place .ensures) (c .match2 .keys2)))
 
 mul-out : tie.Need-mul-out Inv-loop μ-loop
 mul-out c = omega (arith, room (c .before .before .before .before .before .before .before))

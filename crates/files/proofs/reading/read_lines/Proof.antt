@@ -4,7 +4,8 @@ use mathlib.Core.Bool.{true}
 use lib.ListN.{length}
 use borrow.Author.Needs.{needs}
 use borrow.Author.Tests.{not-false}
-use Rattle.files.specs.File.{made, well, Makes}
+use Rattle.files.specs.File.{made, well}
+use Rattle.files.specs.Inner.{Makes}
 use Rattle.files.proofs.Made.{makes-same, follow}
 use Rattle.files.proofs.reading.read_lines.Statement.{statement}
 use Rattle.files.proofs.reading.read_lines.Tie as tie

@@ -5,17 +5,8 @@ use borrow.Author.Needs.{needs}
 use Rattle.output.proofs.Out.float.Statement.{statement}
 use Rattle.output.proofs.Out.float.Tie as tie
 
-space-requires : tie.Need-space-requires
-space-requires c κs = search needs
-
-put-float-requires : tie.Need-put-float-requires
-put-float-requires c κs = search needs
-
-same-length : tie.Need-same-length
-same-length c = search needs
-
 returns : tie.Need-returns
 returns c = one-word (c .before .before .before .before .before .before .space .ensures) (c .before .before .put-float .ensures) refl
 
 pub float-spec : {M : Type 1} → statement M
-float-spec = tie.close (tie.spec space-requires put-float-requires same-length returns)
+float-spec = tie.close (tie.spec (λ c κs. search needs) (λ c κs. search needs) (λ c. search needs) returns)

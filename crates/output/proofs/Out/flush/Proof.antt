@@ -5,21 +5,11 @@ use borrow.Author.Needs.{needs}
 use Rattle.output.proofs.Out.flush.Statement.{statement}
 use Rattle.output.proofs.Out.flush.Tie as tie
 
-returns : tie.Need-returns
-returns c = search needs
-
 slice-aggregate-write-all : tie.Need-slice-aggregate-write-all
 slice-aggregate-write-all c = sym (length-take-le (c .before .before .before .before .args .self .at) (c .before .before .before .before .args .buffer .now) (c .before .if2 .taken))
 
-write-all-requires : tie.Need-write-all-requires
-write-all-requires c κs = search needs
-
-returns-2 : tie.Need-returns-2
-returns-2 c = search needs
-
-returns-3 : tie.Need-returns-3
-returns-3 c = search needs
-
 pub flush-spec : {M : Type 1} → statement M
 flush-spec =
-    tie.close (tie.spec returns slice-aggregate-write-all write-all-requires returns-2 returns-3)
+    tie.close
+    (tie.spec
+    (λ c. search needs) slice-aggregate-write-all (λ c κs. search needs) (λ c. search needs) (λ c. search needs))

@@ -5,17 +5,8 @@ use borrow.Author.Needs.{needs}
 use Rattle.output.proofs.Out.number.Statement.{statement}
 use Rattle.output.proofs.Out.number.Tie as tie
 
-space-requires : tie.Need-space-requires
-space-requires c κs = search needs
-
-put-decimal-requires : tie.Need-put-decimal-requires
-put-decimal-requires c κs = search needs
-
-same-length : tie.Need-same-length
-same-length c = search needs
-
 returns : tie.Need-returns
 returns c = one-word (c .before .before .before .before .before .before .space .ensures) (c .before .before .put-decimal .ensures) refl
 
 pub number-spec : {M : Type 1} → statement M
-number-spec = tie.close (tie.spec space-requires put-decimal-requires same-length returns)
+number-spec = tie.close (tie.spec (λ c κs. search needs) (λ c κs. search needs) (λ c. search needs) returns)

@@ -6,17 +6,8 @@ use borrow.Author.Needs.{needs}
 use Rattle.output.proofs.Out.room.Statement.{statement}
 use Rattle.output.proofs.Out.room.Tie as tie
 
-flush-requires : tie.Need-flush-requires
-flush-requires c κs = search needs
-
 returns : tie.Need-returns
 returns c = (search needs, (c .flush .ensures .0 ∙ room-front (c .before .before .before .before .args .bytes) (c .before .before .before .before .args .buffer .now) (c .before .before .before .before .args .self .at) (omega arith), search needs))
-
-sub-if2 : tie.Need-sub-if2
-sub-if2 c = search needs
-
-flush-requires-2 : tie.Need-flush-requires-2
-flush-requires-2 c κs = search needs
 
 returns-2 : tie.Need-returns-2
 returns-2 c = (search needs, (c .flush2 .ensures .0 ∙ room-front (c .before .before .before .before .before .before .args .bytes) (c .before .before .before .before .before .before .args .buffer .now) (c .before .before .before .before .before .before .args .self .at) (omega arith), search needs))
@@ -26,4 +17,6 @@ returns-3 c = (search needs, (room-there (c .before .before .before .before .bef
 
 pub room-spec : {M : Type 1} → statement M
 room-spec =
-    tie.close (tie.spec flush-requires returns sub-if2 flush-requires-2 returns-2 returns-3)
+    tie.close
+    (tie.spec
+    (λ c κs. search needs) returns (λ c. search needs) (λ c κs. search needs) returns-2 returns-3)

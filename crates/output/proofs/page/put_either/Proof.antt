@@ -3,20 +3,8 @@ use borrow.Author.Needs.{needs}
 use Rattle.output.proofs.page.put_either.Statement.{statement}
 use Rattle.output.proofs.page.put_either.Tie as tie
 
-put-text-requires : tie.Need-put-text-requires
-put-text-requires c κs = search needs
-
-same-length : tie.Need-same-length
-same-length c = search needs
-
 returns : tie.Need-returns
 returns c = rw (c .before .before .before .before .if1 .taken) (c .before .before .put-text .ensures)
-
-put-text-requires-2 : tie.Need-put-text-requires-2
-put-text-requires-2 c κs = search needs
-
-same-length-2 : tie.Need-same-length-2
-same-length-2 c = search needs
 
 returns-2 : tie.Need-returns-2
 returns-2 c = rw (c .before .before .before .before .if1 .left) (c .before .before .put-text2 .ensures)
@@ -24,4 +12,5 @@ returns-2 c = rw (c .before .before .before .before .if1 .left) (c .before .befo
 pub put-either-spec : {M : Type 1} → statement M
 put-either-spec =
     tie.close
-    (tie.spec put-text-requires same-length returns put-text-requires-2 same-length-2 returns-2)
+    (tie.spec
+    (λ c κs. search needs) (λ c. search needs) returns (λ c κs. search needs) (λ c. search needs) returns-2)

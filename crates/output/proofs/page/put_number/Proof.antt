@@ -5,17 +5,8 @@ use borrow.Author.Needs.{needs}
 use Rattle.output.proofs.page.put_number.Statement.{statement}
 use Rattle.output.proofs.page.put_number.Tie as tie
 
-room-requires : tie.Need-room-requires
-room-requires c κs = search needs
-
-put-decimal-requires : tie.Need-put-decimal-requires
-put-decimal-requires c κs = search needs
-
-same-length : tie.Need-same-length
-same-length c = search needs
-
 returns : tie.Need-returns
 returns c = one-piece (c .before .before .before .before .room .ensures .1 .0) (c .before .before .put-decimal .ensures) refl
 
 pub put-number-spec : {M : Type 1} → statement M
-put-number-spec = tie.close (tie.spec room-requires put-decimal-requires same-length returns)
+put-number-spec = tie.close (tie.spec (λ c κs. search needs) (λ c κs. search needs) (λ c. search needs) returns)

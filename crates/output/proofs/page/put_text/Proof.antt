@@ -5,17 +5,8 @@ use borrow.Author.Needs.{needs}
 use Rattle.output.proofs.page.put_text.Statement.{statement}
 use Rattle.output.proofs.page.put_text.Tie as tie
 
-room-requires : tie.Need-room-requires
-room-requires c κs = search needs
-
-put-requires : tie.Need-put-requires
-put-requires c κs = search needs
-
-same-length : tie.Need-same-length
-same-length c = search needs
-
 returns : tie.Need-returns
 returns c = one-piece (c .before .before .before .before .room .ensures .1 .0) (c .before .before .put .ensures) refl
 
 pub put-text-spec : {M : Type 1} → statement M
-put-text-spec = tie.close (tie.spec room-requires put-requires same-length returns)
+put-text-spec = tie.close (tie.spec (λ c κs. search needs) (λ c κs. search needs) (λ c. search needs) returns)

@@ -5,15 +5,9 @@ use Rattle.panchanga.specs.Clock.{minutesOf}
 use Rattle.panchanga.proofs.clock.minutes_of.Statement.{statement}
 use Rattle.panchanga.proofs.clock.minutes_of.Tie as tie
 
-rounded-requires : tie.Need-rounded-requires
-rounded-requires c κs = search needs
-
-cast-result : tie.Need-cast-result
-cast-result c = search needs
-
 returns : tie.Need-returns
 unfolding minutesOf near ofBits
 returns c = rw (c .rounded .ensures)
 
 pub minutes-of-spec : {M : Type 1} → statement M
-minutes-of-spec = tie.close (tie.spec rounded-requires cast-result returns)
+minutes-of-spec = tie.close (tie.spec (λ c κs. search needs) (λ c. search needs) returns)

@@ -31,9 +31,6 @@ truncating-f64-to-u64-requires c κs = (inside c .above, inside c .below)
 cast-n : tie.Need-cast-n
 cast-n c = let e = cut c in let s = inside (c .before) .small in omega arith
 
-int-to-float-if3 : tie.Need-int-to-float-if3
-int-to-float-if3 c = search needs
-
 add-result : tie.Need-add-result
 add-result c = let e = cut (c .before .before) in let s = inside (c .before .before .before) .small in omega arith
 
@@ -58,14 +55,4 @@ unfolding rounded near ofBits
 returns-4 c = rw (c .if1 .left)
 
 pub rounded-spec : {M : Type 1} → statement M
-rounded-spec =
-    tie.close
-    (tie.spec
-    truncating-f64-to-u64-requires
-    cast-n
-    int-to-float-if3
-    add-result
-    returns
-    returns-2
-    returns-3
-    returns-4)
+rounded-spec = tie.close (tie.spec truncating-f64-to-u64-requires cast-n (λ c. search needs) add-result returns returns-2 returns-3 returns-4)

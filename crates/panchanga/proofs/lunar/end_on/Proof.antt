@@ -3,21 +3,9 @@ use borrow.Author.Needs.{needs}
 use Rattle.panchanga.proofs.lunar.end_on.Statement.{statement}
 use Rattle.panchanga.proofs.lunar.end_on.Tie as tie
 
-enum-known-end : tie.Need-enum-known-end
-enum-known-end c = search needs
-
-falls-on-requires : tie.Need-falls-on-requires
-falls-on-requires c κs = search needs
-
-clock-of-requires : tie.Need-clock-of-requires
-clock-of-requires c κs = search needs
-
 returns : tie.Need-returns
 unfolding endOn
 returns c = rw (c .before .before .before .before .end .given .1, ← c .before .before .falls-on .ensures, c .before .if1 .taken, c .clock-of .ensures)
-
-enum-told : tie.Need-enum-told
-enum-told c = search needs
 
 returns-2 : tie.Need-returns-2
 unfolding endOn
@@ -28,13 +16,4 @@ unfolding endOn
 returns-3 c = rw (c .enum-told .given .1)
 
 pub end-on-spec : {M : Type 1} → statement M
-end-on-spec =
-    tie.close
-    (tie.spec
-    enum-known-end
-    falls-on-requires
-    clock-of-requires
-    returns
-    enum-told
-    returns-2
-    returns-3)
+end-on-spec = tie.close (tie.spec (λ c. search needs) (λ c κs. search needs) (λ c κs. search needs) returns (λ c. search needs) returns-2 returns-3)

@@ -5,15 +5,9 @@ use borrow.Author.Needs.{needs}
 use Rattle.panchanga.proofs.noaa.centuries_at.Statement.{statement}
 use Rattle.panchanga.proofs.noaa.centuries_at.Tie as tie
 
-tt-of-requires : tie.Need-tt-of-requires
-tt-of-requires c κs = search needs
-
-julian-centuries-requires : tie.Need-julian-centuries-requires
-julian-centuries-requires c κs = search needs
-
 returns : tie.Need-returns
 unfolding centuriesAt noonAt near ofBits
 returns c = rw (c .julian-centuries .ensures, c .before .tt-of .ensures)
 
 pub centuries-at-spec : {M : Type 1} → statement M
-centuries-at-spec = tie.close (tie.spec tt-of-requires julian-centuries-requires returns)
+centuries-at-spec = tie.close (tie.spec (λ c κs. search needs) (λ c κs. search needs) returns)

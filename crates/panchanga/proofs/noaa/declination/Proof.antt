@@ -6,22 +6,9 @@ use borrow.Author.Needs.{needs}
 use Rattle.panchanga.proofs.noaa.declination.Statement.{statement}
 use Rattle.panchanga.proofs.noaa.declination.Tie as tie
 
-obliquity-requires : tie.Need-obliquity-requires
-obliquity-requires c κs = search needs
-
-sine-requires : tie.Need-sine-requires
-sine-requires c κs = search needs
-
-sine-requires-2 : tie.Need-sine-requires-2
-sine-requires-2 c κs = search needs
-
-arcsine-requires : tie.Need-arcsine-requires
-arcsine-requires c κs = search needs
-
 returns : tie.Need-returns
 unfolding declination deg near ofBits div
 returns c = rw (c .arcsine .ensures, c .before .sine2 .ensures, c .before .before .sine .ensures, c .before .before .before .obliquity .ensures)
 
 pub declination-spec : {M : Type 1} → statement M
-declination-spec =
-    tie.close (tie.spec obliquity-requires sine-requires sine-requires-2 arcsine-requires returns)
+declination-spec = tie.close (tie.spec (λ c κs. search needs) (λ c κs. search needs) (λ c κs. search needs) (λ c κs. search needs) returns)

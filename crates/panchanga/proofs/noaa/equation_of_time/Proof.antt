@@ -6,28 +6,9 @@ use borrow.Author.Needs.{needs}
 use Rattle.panchanga.proofs.noaa.equation_of_time.Statement.{statement}
 use Rattle.panchanga.proofs.noaa.equation_of_time.Tie as tie
 
-obliquity-requires : tie.Need-obliquity-requires
-obliquity-requires c κs = search needs
-
-tangent-requires : tie.Need-tangent-requires
-tangent-requires c κs = search needs
-
-eccentricity-requires : tie.Need-eccentricity-requires
-eccentricity-requires c κs = search needs
-
-time-equation-requires : tie.Need-time-equation-requires
-time-equation-requires c κs = search needs
-
 returns : tie.Need-returns
 unfolding equationOfTime deg near ofBits div
 returns c = rw (c .time-equation .ensures, c .before .eccentricity .ensures, c .before .before .tangent .ensures, c .before .before .before .obliquity .ensures)
 
 pub equation-of-time-spec : {M : Type 1} → statement M
-equation-of-time-spec =
-    tie.close
-    (tie.spec
-    obliquity-requires
-    tangent-requires
-    eccentricity-requires
-    time-equation-requires
-    returns)
+equation-of-time-spec = tie.close (tie.spec (λ c κs. search needs) (λ c κs. search needs) (λ c κs. search needs) (λ c κs. search needs) returns)

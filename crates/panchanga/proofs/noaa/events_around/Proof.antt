@@ -3,12 +3,6 @@ use borrow.Author.Needs.{needs}
 use Rattle.panchanga.proofs.noaa.events_around.Statement.{statement}
 use Rattle.panchanga.proofs.noaa.events_around.Tie as tie
 
-is-instant-requires : tie.Need-is-instant-requires
-is-instant-requires c κs = search needs
-
-is-instant-requires-2 : tie.Need-is-instant-requires-2
-is-instant-requires-2 c κs = search needs
-
 returns : tie.Need-returns
 unfolding eventsAround
 returns c = rw (← c .before .before .before .is-instant .ensures, c .before .before .if1 .taken, ← c .before .is-instant2 .ensures, c .if2 .taken)
@@ -22,5 +16,4 @@ unfolding eventsAround
 returns-3 c = rw (← c .before .is-instant .ensures, c .if1 .left)
 
 pub events-around-spec : {M : Type 1} → statement M
-events-around-spec =
-    tie.close (tie.spec is-instant-requires is-instant-requires-2 returns returns-2 returns-3)
+events-around-spec = tie.close (tie.spec (λ c κs. search needs) (λ c κs. search needs) returns returns-2 returns-3)

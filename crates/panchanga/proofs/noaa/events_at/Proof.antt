@@ -11,30 +11,6 @@ use Rattle.panchanga.proofs.noaa.events_at.Tie as tie
 horizon : (c : tie.After-cos-hour-angle) → let a = c .before .before .before .before .args in c .cos-hour-angle .result ≡ cosHourAngle (a .place .latitude) (declination (centuriesAt (a .place .longitude) (a .zero)) (sunLongitude (centuriesAt (a .place .longitude) (a .zero))))
 horizon c = rw (c .cos-hour-angle .ensures, c .before .declination .ensures, c .before .before .sun-at .ensures, c .before .before .before .centuries-at .ensures)
 
-centuries-at-requires : tie.Need-centuries-at-requires
-centuries-at-requires c κs = search needs
-
-sun-at-requires : tie.Need-sun-at-requires
-sun-at-requires c κs = search needs
-
-declination-requires : tie.Need-declination-requires
-declination-requires c κs = search needs
-
-cos-hour-angle-requires : tie.Need-cos-hour-angle-requires
-cos-hour-angle-requires c κs = search needs
-
-equation-of-time-requires : tie.Need-equation-of-time-requires
-equation-of-time-requires c κs = search needs
-
-solar-noon-requires : tie.Need-solar-noon-requires
-solar-noon-requires c κs = search needs
-
-half-day-requires : tie.Need-half-day-requires
-half-day-requires c κs = search needs
-
-events-around-requires : tie.Need-events-around-requires
-events-around-requires c κs = search needs
-
 returns : tie.Need-returns
 unfolding sunEvents near ofBits
 returns c =
@@ -53,15 +29,5 @@ returns-3 c = rw (← horizon (c .before), c .if1 .left)
 pub events-at-spec : {M : Type 1} → statement M
 events-at-spec =
     tie.close
-    (tie.spec
-    centuries-at-requires
-    sun-at-requires
-    declination-requires
-    cos-hour-angle-requires
-    equation-of-time-requires
-    solar-noon-requires
-    half-day-requires
-    events-around-requires
-    returns
-    returns-2
-    returns-3)
+    (tie.spec (λ c κs. search needs) (λ c κs. search needs) (λ c κs. search needs) (λ c κs. search needs) (λ c κs. search needs)
+    (λ c κs. search needs) (λ c κs. search needs) (λ c κs. search needs) returns returns-2 returns-3)

@@ -4,9 +4,6 @@ use borrow.Author.Needs.{needs}
 use Rattle.questions.proofs.lists.check.Statement.{statement}
 use Rattle.questions.proofs.lists.check.Tie as tie
 
-accepted-requires : tie.Need-accepted-requires
-accepted-requires c κs = search needs
-
 returns : tie.Need-returns
 returns c = rw (c .before .if1 .taken, c .accepted .ensures)
 
@@ -14,4 +11,4 @@ returns-2 : tie.Need-returns-2
 returns-2 c = rw (ne-eqb _ _ (c .if1 .left))
 
 pub check-spec : {M : Type 1} → statement M
-check-spec = tie.close (tie.spec accepted-requires returns returns-2)
+check-spec = tie.close (tie.spec (λ c κs. search needs) returns returns-2)

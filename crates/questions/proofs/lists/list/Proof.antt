@@ -10,33 +10,12 @@ use borrow.Author.Needs.{needs}
 use Rattle.questions.proofs.lists.list.Statement.{statement}
 use Rattle.questions.proofs.lists.list.Tie as tie
 
-small-requires : tie.Need-small-requires
-small-requires c κs = search needs
-
-cast-n : tie.Need-cast-n
-cast-n c = search needs
-
-array-borrow-prefix-buffer : tie.Need-array-borrow-prefix-buffer
-array-borrow-prefix-buffer c = search needs
-
 slice-aggregate-put-asked : tie.Need-slice-aggregate-put-asked
 slice-aggregate-put-asked c = sym (length-take-le (c .before .before .small .result) _ (search needs))
-
-put-asked-requires : tie.Need-put-asked-requires
-put-asked-requires c κs = search needs
-
-same-length : tie.Need-same-length
-same-length c = search needs
 
 returns : tie.Need-returns
 unfolding listWords
 returns c = rw (eq-eqb _ _ (c .before .before .before .before .before .before .before .if1 .taken), ← c .before .before .before .before .before .before .small .ensures (lit< tt), ← taken {A = ℕ} (c .before .before .before .before .before .before .small .result) 65535 7 (search needs)) (c .before .before .before .put-asked .ensures)
-
-put-requires : tie.Need-put-requires
-put-requires c κs = search needs
-
-same-length-2 : tie.Need-same-length-2
-same-length-2 c = search needs
 
 returns-2 : tie.Need-returns-2
 unfolding listWords
@@ -46,13 +25,5 @@ pub list-spec : {M : Type 1} → statement M
 list-spec =
     tie.close
     (tie.spec
-    small-requires
-    cast-n
-    array-borrow-prefix-buffer
-    slice-aggregate-put-asked
-    put-asked-requires
-    same-length
-    returns
-    put-requires
-    same-length-2
-    returns-2)
+    (λ c κs. search needs) (λ c. search needs) (λ c. search needs) slice-aggregate-put-asked (λ c κs. search needs)
+    (λ c. search needs) returns (λ c κs. search needs) (λ c. search needs) returns-2)

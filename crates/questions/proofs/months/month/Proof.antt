@@ -10,35 +10,11 @@ use borrow.Author.Needs.{needs}
 use Rattle.questions.proofs.months.month.Statement.{statement}
 use Rattle.questions.proofs.months.month.Tie as tie
 
-small-requires : tie.Need-small-requires
-small-requires c κs = search needs
-
-cast-n : tie.Need-cast-n
-cast-n c = search needs
-
-small-requires-2 : tie.Need-small-requires-2
-small-requires-2 c κs = search needs
-
-cast-k : tie.Need-cast-k
-cast-k c = search needs
-
-array-borrow-prefix-cells : tie.Need-array-borrow-prefix-cells
-array-borrow-prefix-cells c = search needs
-
 slice-aggregate-put-asked : tie.Need-slice-aggregate-put-asked
 slice-aggregate-put-asked c = sym (length-take-le _ _ (array-borrow-prefix-cells (c .before)))
 
-array-borrow-prefix-list : tie.Need-array-borrow-prefix-list
-array-borrow-prefix-list c = search needs
-
 slice-aggregate-put-asked-2 : tie.Need-slice-aggregate-put-asked-2
 slice-aggregate-put-asked-2 c = sym (length-take-le _ _ (array-borrow-prefix-list (c .before)))
-
-put-asked-requires : tie.Need-put-asked-requires
-put-asked-requires c κs = search needs
-
-same-length : tie.Need-same-length
-same-length c = search needs
 
 returns : tie.Need-returns
 unfolding gridWords
@@ -51,12 +27,6 @@ returns c = rw (
 )
     (c .before .before .before .before .put-asked .ensures)
 
-put-requires : tie.Need-put-requires
-put-requires c κs = search needs
-
-same-length-2 : tie.Need-same-length-2
-same-length-2 c = search needs
-
 returns-2 : tie.Need-returns-2
 unfolding gridWords
 returns-2 c = rw (ne-eqb _ _ (c .before .before .before .before .if1 .left)) (c .before .before .put .ensures)
@@ -65,17 +35,6 @@ pub month-spec : {M : Type 1} → statement M
 month-spec =
     tie.close
     (tie.spec
-    small-requires
-    cast-n
-    small-requires-2
-    cast-k
-    array-borrow-prefix-cells
-    slice-aggregate-put-asked
-    array-borrow-prefix-list
-    slice-aggregate-put-asked-2
-    put-asked-requires
-    same-length
-    returns
-    put-requires
-    same-length-2
-    returns-2)
+    (λ c κs. search needs) (λ c. search needs) (λ c κs. search needs) (λ c. search needs) (λ c. search needs)
+    slice-aggregate-put-asked (λ c. search needs) slice-aggregate-put-asked-2 (λ c κs. search needs) (λ c. search needs)
+    returns (λ c κs. search needs) (λ c. search needs) returns-2)

@@ -5,15 +5,9 @@ use borrow.Author.Needs.{needs}
 use Rattle.questions.proofs.months.step.Statement.{statement}
 use Rattle.questions.proofs.months.step.Tie as tie
 
-stepped-requires : tie.Need-stepped-requires
-stepped-requires c κs = search needs
-
 returns : tie.Need-returns
 unfolding stepReply
 returns c = rw (c .before .if1 .taken) (c .stepped .ensures)
-
-stepped-requires-2 : tie.Need-stepped-requires-2
-stepped-requires-2 c κs = search needs
 
 returns-2 : tie.Need-returns-2
 unfolding stepReply
@@ -24,4 +18,4 @@ unfolding stepReply
 returns-3 c = rw (c .before .if1 .left, ne-eqb _ _ (c .if2 .left))
 
 pub step-spec : {M : Type 1} → statement M
-step-spec = tie.close (tie.spec stepped-requires returns stepped-requires-2 returns-2 returns-3)
+step-spec = tie.close (tie.spec (λ c κs. search needs) returns (λ c κs. search needs) returns-2 returns-3)

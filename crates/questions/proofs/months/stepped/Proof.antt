@@ -8,37 +8,13 @@ use borrow.Author.Needs.{needs}
 use Rattle.questions.proofs.months.stepped.Statement.{statement}
 use Rattle.questions.proofs.months.stepped.Tie as tie
 
-small-requires : tie.Need-small-requires
-small-requires c κs = search needs
-
 returns : tie.Need-returns
 unfolding stepped
 returns c = rw (← c .before .small .ensures (lit< tt), lt-leb _ _ (c .if1 .taken))
 
-whole-requires : tie.Need-whole-requires
-whole-requires c κs = search needs
-
-enum-known-by : tie.Need-enum-known-by
-enum-known-by c = search needs
-
-enum-told : tie.Need-enum-told
-enum-told c = search needs
-
 returns-2 : tie.Need-returns-2
 unfolding stepped
 returns-2 c = rw (← c .before .before .before .before .small .ensures (lit< tt), le-leb _ _ (c .before .before .before .if1 .left), ← c .before .before .whole .ensures (lit< tt), c .enum-told .given .1)
-
-small-requires-2 : tie.Need-small-requires-2
-small-requires-2 c κs = search needs
-
-cast-step-month : tie.Need-cast-step-month
-cast-step-month c = search needs
-
-step-month-requires : tie.Need-step-month-requires
-step-month-requires c κs = search needs
-
-monthly-of-requires : tie.Need-monthly-of-requires
-monthly-of-requires c κs = search needs
 
 returns-3 : tie.Need-returns-3
 unfolding stepped
@@ -48,14 +24,5 @@ pub stepped-spec : {M : Type 1} → statement M
 stepped-spec =
     tie.close
     (tie.spec
-    small-requires
-    returns
-    whole-requires
-    enum-known-by
-    enum-told
-    returns-2
-    small-requires-2
-    cast-step-month
-    step-month-requires
-    monthly-of-requires
-    returns-3)
+    (λ c κs. search needs) returns (λ c κs. search needs) (λ c. search needs) (λ c. search needs) returns-2
+    (λ c κs. search needs) (λ c. search needs) (λ c κs. search needs) (λ c κs. search needs) returns-3)

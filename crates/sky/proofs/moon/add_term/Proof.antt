@@ -14,12 +14,6 @@ returns c =
     let f : SFits w32 (s .x .coefficient) = record { sfits = c .before .struct-told .given .1 .1 .1 .1 .0 .1 } in
     term-none (s .factor) (s .x) (s .sine) (s .sum) (is w32 (s .x .coefficient) f 0 (c .if1 .taken))
 
-as-float-requires : tie.Need-as-float-requires
-as-float-requires c κs = search needs
-
-factor-power-requires : tie.Need-factor-power-requires
-factor-power-requires c κs = search needs
-
 returns-2 : tie.Need-returns-2
 returns-2 c =
     let w = c .before .before in
@@ -31,4 +25,4 @@ returns-2 c =
     (w .as-float .ensures) (c .factor-power .ensures)
 
 pub add-term-spec : {M : Type 1} → statement M
-add-term-spec = tie.close (tie.spec returns as-float-requires factor-power-requires returns-2)
+add-term-spec = tie.close (tie.spec returns (λ c κs. search needs) (λ c κs. search needs) returns-2)

@@ -21,24 +21,6 @@ loop-holds : tie.Need-loop-holds Inv-loop μ-loop
 unfolding added near ofBits
 loop-holds c = (omega arith, refl)
 
-term-at-requires : tie.Need-term-at-requires Inv-loop μ-loop
-term-at-requires c κs = omega arith
-
-mul-add-term : tie.Need-mul-add-term Inv-loop μ-loop
-mul-add-term c = search needs
-
-element-copy-out-add-term : tie.Need-element-copy-out-add-term Inv-loop μ-loop
-element-copy-out-add-term c = search needs
-
-add-term-requires : tie.Need-add-term-requires Inv-loop μ-loop
-add-term-requires c κs = search needs
-
-add-i : tie.Need-add-i Inv-loop μ-loop
-add-i c = omega arith
-
-loop-less : tie.Need-loop-less Inv-loop μ-loop
-loop-less c = omega arith
-
 loop-again : tie.Need-loop-again Inv-loop μ-loop
 loop-again c =
     let t = c .before .before in
@@ -54,15 +36,5 @@ returns c =
 pub add-terms-spec : {M : Type 1} → statement M
 add-terms-spec =
     tie.close
-    (tie.spec
-    Inv-loop
-    μ-loop
-    loop-holds
-    term-at-requires
-    mul-add-term
-    element-copy-out-add-term
-    add-term-requires
-    add-i
-    loop-less
-    loop-again
-    returns)
+    (tie.spec Inv-loop μ-loop loop-holds (λ c κs. omega arith) (λ c. search needs) (λ c. search needs) (λ c κs. search needs) (λ c. omega arith)
+    (λ c. omega arith) loop-again returns)

@@ -7,18 +7,6 @@ use Rattle.sky.proofs.Series.{angle-is}
 use Rattle.sky.proofs.moon.angle.Statement.{statement}
 use Rattle.sky.proofs.moon.angle.Tie as tie
 
-as-float-requires : tie.Need-as-float-requires
-as-float-requires c κs = search needs
-
-as-float-requires-2 : tie.Need-as-float-requires-2
-as-float-requires-2 c κs = search needs
-
-as-float-requires-3 : tie.Need-as-float-requires-3
-as-float-requires-3 c κs = search needs
-
-as-float-requires-4 : tie.Need-as-float-requires-4
-as-float-requires-4 c κs = search needs
-
 returns : tie.Need-returns
 unfolding deg near ofBits div
 returns c =
@@ -33,11 +21,4 @@ returns c =
     (w0 .as-float .ensures) (w1 .as-float2 .ensures) (w2 .as-float3 .ensures) (w3 .as-float4 .ensures)
 
 pub angle-spec : {M : Type 1} → statement M
-angle-spec =
-    tie.close
-    (tie.spec
-    as-float-requires
-    as-float-requires-2
-    as-float-requires-3
-    as-float-requires-4
-    returns)
+angle-spec = tie.close (tie.spec (λ c κs. search needs) (λ c κs. search needs) (λ c κs. search needs) (λ c κs. search needs) returns)

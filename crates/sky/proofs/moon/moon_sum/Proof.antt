@@ -3,12 +3,9 @@ use Rattle.sky.specs.Moon.{moonSum}
 use Rattle.sky.proofs.moon.moon_sum.Statement.{statement}
 use Rattle.sky.proofs.moon.moon_sum.Tie as tie
 
-series-requires : tie.Need-series-requires
-series-requires c κs = search needs
-
 returns : tie.Need-returns
 unfolding moonSum
 returns c = c .series .ensures
 
 pub moon-sum-spec : {M : Type 1} → statement M
-moon-sum-spec = tie.close (tie.spec series-requires returns)
+moon-sum-spec = tie.close (tie.spec (λ c κs. search needs) returns)

@@ -19,23 +19,8 @@ abbrev μ-loop : tie.MeasureT-loop
 loop-holds : tie.Need-loop-holds Inv-loop μ-loop
 loop-holds c = (omega arith, c .pre, λ k. (λ u. absurd (let bad : ⊥ = omega arith in bad), λ u. refl))
 
-term-at-requires : tie.Need-term-at-requires Inv-loop μ-loop
-term-at-requires c κs = omega arith
-
-angle-requires : tie.Need-angle-requires Inv-loop μ-loop
-angle-requires c κs = search needs
-
-mul-out : tie.Need-mul-out Inv-loop μ-loop
-mul-out c = search needs
-
 element-write-out : tie.Need-element-write-out Inv-loop μ-loop
 element-write-out c = let l = c .before .before .before .loop .inv .1 in search (needs, l)
-
-add-i : tie.Need-add-i Inv-loop μ-loop
-add-i c = omega arith
-
-loop-less : tie.Need-loop-less Inv-loop μ-loop
-loop-less c = omega arith
 
 loop-again : tie.Need-loop-again Inv-loop μ-loop
 loop-again c =
@@ -54,15 +39,5 @@ returns c = let v = c .before .loop .inv in (v .1, λ i h. v .2 i .0 (omega arit
 pub put-angles-spec : {M : Type 1} → statement M
 put-angles-spec =
     tie.close
-    (tie.spec
-    Inv-loop
-    μ-loop
-    loop-holds
-    term-at-requires
-    angle-requires
-    mul-out
-    element-write-out
-    add-i
-    loop-less
-    loop-again
-    returns)
+    (tie.spec Inv-loop μ-loop loop-holds (λ c κs. omega arith) (λ c κs. search needs) (λ c. search needs) element-write-out (λ c. omega arith)
+    (λ c. omega arith) loop-again returns)

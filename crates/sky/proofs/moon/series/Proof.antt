@@ -6,14 +6,8 @@ use Rattle.sky.proofs.Series.{passes}
 use Rattle.sky.proofs.moon.series.Statement.{statement}
 use Rattle.sky.proofs.moon.series.Tie as tie
 
-put-angles-requires : tie.Need-put-angles-requires
-put-angles-requires c κs = search needs
-
 put-sines-requires : tie.Need-put-sines-requires
 put-sines-requires c κs = c .before .put-angles .ensures .0
-
-add-terms-requires : tie.Need-add-terms-requires
-add-terms-requires c κs = search needs
 
 returns : tie.Need-returns
 returns c =
@@ -22,5 +16,4 @@ returns c =
     c .add-terms .ensures ∙ passes _ _ _ 60 (λ i h. turned i h ∙ ap sine (placed i h))
 
 pub series-spec : {M : Type 1} → statement M
-series-spec =
-    tie.close (tie.spec put-angles-requires put-sines-requires add-terms-requires returns)
+series-spec = tie.close (tie.spec (λ c κs. search needs) put-sines-requires (λ c κs. search needs) returns)

@@ -19,15 +19,6 @@ abbrev μ-loop : tie.MeasureT-loop
 loop-holds : tie.Need-loop-holds Inv-loop μ-loop
 loop-holds c = refl
 
-elongation-offset-requires : tie.Need-elongation-offset-requires Inv-loop μ-loop
-elongation-offset-requires c κs = search needs
-
-sub-left : tie.Need-sub-left Inv-loop μ-loop
-sub-left c = omega arith
-
-loop-less : tie.Need-loop-less Inv-loop μ-loop
-loop-less c = omega arith
-
 loop-again : tie.Need-loop-again Inv-loop μ-loop
 unfolding near ofBits
 loop-again c =
@@ -48,14 +39,4 @@ returns c =
     sym (l .inv ∙ rw e (halved-done (offset elongationOf (c .before .before .args .target)) (l .a) (l .b)))
 
 pub bisect-crossing-spec : {M : Type 1} → statement M
-bisect-crossing-spec =
-    tie.close
-    (tie.spec
-    Inv-loop
-    μ-loop
-    loop-holds
-    elongation-offset-requires
-    sub-left
-    loop-less
-    loop-again
-    returns)
+bisect-crossing-spec = tie.close (tie.spec Inv-loop μ-loop loop-holds (λ c κs. search needs) (λ c. omega arith) (λ c. omega arith) loop-again returns)

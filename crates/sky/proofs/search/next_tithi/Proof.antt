@@ -4,9 +4,6 @@ use Rattle.sky.specs.Search.{nextTithi}
 use Rattle.sky.proofs.search.next_tithi.Statement.{statement}
 use Rattle.sky.proofs.search.next_tithi.Tie as tie
 
-add-result : tie.Need-add-result
-add-result c = omega arith
-
 returns : tie.Need-returns
 unfolding nextTithi
 returns c = rw (eq-eqb (c .before .args .tithi) 30 (c .if1 .taken))
@@ -16,4 +13,4 @@ unfolding nextTithi
 returns-2 c = rw (ne-eqb (c .before .args .tithi) 30 (c .if1 .left))
 
 pub next-tithi-spec : {M : Type 1} → statement M
-next-tithi-spec = tie.close (tie.spec add-result returns returns-2)
+next-tithi-spec = tie.close (tie.spec (λ c. omega arith) returns returns-2)

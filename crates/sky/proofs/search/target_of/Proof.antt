@@ -6,12 +6,9 @@ use Rattle.sky.specs.Search.{targetOf}
 use Rattle.sky.proofs.search.target_of.Statement.{statement}
 use Rattle.sky.proofs.search.target_of.Tie as tie
 
-int-to-float-result : tie.Need-int-to-float-result
-int-to-float-result c = search needs
-
 returns : tie.Need-returns
 unfolding targetOf near ofBits
 returns c = refl
 
 pub target-of-spec : {M : Type 1} → statement M
-target-of-spec = tie.close (tie.spec int-to-float-result returns)
+target-of-spec = tie.close (tie.spec (λ c. search needs) returns)

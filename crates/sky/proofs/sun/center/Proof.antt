@@ -6,18 +6,9 @@ use borrow.Author.Needs.{needs}
 use Rattle.sky.proofs.sun.center.Statement.{statement}
 use Rattle.sky.proofs.sun.center.Tie as tie
 
-sine-requires : tie.Need-sine-requires
-sine-requires c κs = search needs
-
-sine-requires-2 : tie.Need-sine-requires-2
-sine-requires-2 c κs = search needs
-
-sine-requires-3 : tie.Need-sine-requires-3
-sine-requires-3 c κs = search needs
-
 returns : tie.Need-returns
 unfolding center deg near ofBits div
 returns c = rw (c .before .before .sine .ensures, c .before .sine2 .ensures, c .sine3 .ensures)
 
 pub center-spec : {M : Type 1} → statement M
-center-spec = tie.close (tie.spec sine-requires sine-requires-2 sine-requires-3 returns)
+center-spec = tie.close (tie.spec (λ c κs. search needs) (λ c κs. search needs) (λ c κs. search needs) returns)

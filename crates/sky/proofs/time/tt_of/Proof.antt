@@ -5,12 +5,9 @@ use borrow.Author.Needs.{needs}
 use Rattle.sky.proofs.time.tt_of.Statement.{statement}
 use Rattle.sky.proofs.time.tt_of.Tie as tie
 
-delta-t-requires : tie.Need-delta-t-requires
-delta-t-requires c κs = search needs
-
 returns : tie.Need-returns
 unfolding ttOf yearOf near ofBits
 returns c = rw (c .before .delta-t .ensures)
 
 pub tt-of-spec : {M : Type 1} → statement M
-tt-of-spec = tie.close (tie.spec delta-t-requires returns)
+tt-of-spec = tie.close (tie.spec (λ c κs. search needs) returns)

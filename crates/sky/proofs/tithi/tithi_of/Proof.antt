@@ -17,23 +17,11 @@ loop-holds : tie.Need-loop-holds Inv-loop μ-loop
 unfolding twelves
 loop-holds c = (omega arith, refl)
 
-add-if1 : tie.Need-add-if1 Inv-loop μ-loop
-add-if1 c = omega arith
-
-mul-if1 : tie.Need-mul-if1 Inv-loop μ-loop
-mul-if1 c = omega arith
-
 int-to-float-if1 : tie.Need-int-to-float-if1 Inv-loop μ-loop
 int-to-float-if1 c = tt
 
 add-n : tie.Need-add-n Inv-loop μ-loop
 add-n c = let l = c .before .before .before in omega (arith, twelves-le (l .before .args .x) (l .loop .k))
-
-add-k : tie.Need-add-k Inv-loop μ-loop
-add-k c = omega arith
-
-loop-less : tie.Need-loop-less Inv-loop μ-loop
-loop-less c = omega arith
 
 loop-again : tie.Need-loop-again Inv-loop μ-loop
 loop-again c =
@@ -53,15 +41,5 @@ returns c =
 pub tithi-of-spec : {M : Type 1} → statement M
 tithi-of-spec =
     tie.close
-    (tie.spec
-    Inv-loop
-    μ-loop
-    loop-holds
-    add-if1
-    mul-if1
-    int-to-float-if1
-    add-n
-    add-k
-    loop-less
-    loop-again
+    (tie.spec Inv-loop μ-loop loop-holds (λ c. omega arith) (λ c. omega arith) int-to-float-if1 add-n (λ c. omega arith) (λ c. omega arith) loop-again
     returns)

@@ -5,17 +5,11 @@ use borrow.Author.Needs.{needs}
 use Rattle.tables.proofs.broken.first_broken.Statement.{statement}
 use Rattle.tables.proofs.broken.first_broken.Tie as tie
 
-accepts-requires : tie.Need-accepts-requires
-accepts-requires c κs = search needs
-
 returns : tie.Need-returns
 returns c = whole (c .before .before .before .args .table) (c .before .before .before .args .rows .now) (sym (c .before .accepts .ensures) ∙ c .if1 .taken)
-
-place-of-requires : tie.Need-place-of-requires
-place-of-requires c κs = search needs
 
 returns-2 : tie.Need-returns-2
 returns-2 c = c .place-of .ensures ∙ broken (c .before .before .before .before .args .table) (c .before .before .before .before .args .rows .now) (sym (c .before .before .accepts .ensures) ∙ c .before .if1 .left)
 
 pub first-broken-spec : {M : Type 1} → statement M
-first-broken-spec = tie.close (tie.spec accepts-requires returns place-of-requires returns-2)
+first-broken-spec = tie.close (tie.spec (λ c κs. search needs) returns (λ c κs. search needs) returns-2)

@@ -4,15 +4,6 @@ use borrow.Author.Needs.{needs}
 use Rattle.asked.proofs.words.Words.float.Statement.{statement}
 use Rattle.asked.proofs.words.Words.float.Tie as tie
 
-mul-float-of : tie.Need-mul-float-of
-mul-float-of c = search needs
-
-element-copy-out-float-of : tie.Need-element-copy-out-float-of
-element-copy-out-float-of c = search needs
-
-float-of-requires : tie.Need-float-of-requires
-float-of-requires c κs = search needs
-
 returns : tie.Need-returns
 returns c = λ h. c .float-of .ensures
 
@@ -20,5 +11,4 @@ returns-2 : tie.Need-returns-2
 returns-2 c = λ h. absurd (let bad : ⊥ = omega arith in bad)
 
 pub float-spec : {M : Type 1} → statement M
-float-spec =
-    tie.close (tie.spec mul-float-of element-copy-out-float-of float-of-requires returns returns-2)
+float-spec = tie.close (tie.spec (λ c. search needs) (λ c. search needs) (λ c κs. search needs) returns returns-2)

@@ -5,23 +5,14 @@ use borrow.Author.Needs.{needs}
 use Rattle.asked.proofs.words.Words.large.Statement.{statement}
 use Rattle.asked.proofs.words.Words.large.Tie as tie
 
-mul-v : tie.Need-mul-v
-mul-v c = search needs
-
-element-copy-out-v : tie.Need-element-copy-out-v
-element-copy-out-v c = search needs
-
-cast-result : tie.Need-cast-result
-cast-result c = search needs
-
 returns : tie.Need-returns
 returns c = let a = c .before .before .before .args in λ h. fitting-fits 4294967295 (getD (a .t1 .values) (a .i) 0) (c .if2 .taken)
 
 returns-2 : tie.Need-returns-2
 returns-2 c = let a = c .before .before .before .args in λ h. fitting-large 4294967295 (getD (a .t1 .values) (a .i) 0) (c .if2 .left)
 
-returns-3 : tie.Need-returns-3
-returns-3 c = search needs
-
 pub large-spec : {M : Type 1} → statement M
-large-spec = tie.close (tie.spec mul-v element-copy-out-v cast-result returns returns-2 returns-3)
+large-spec =
+    tie.close
+    (tie.spec
+    (λ c. search needs) (λ c. search needs) (λ c. search needs) returns returns-2 (λ c. search needs))

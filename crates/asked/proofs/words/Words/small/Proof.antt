@@ -5,23 +5,14 @@ use borrow.Author.Needs.{needs}
 use Rattle.asked.proofs.words.Words.small.Statement.{statement}
 use Rattle.asked.proofs.words.Words.small.Tie as tie
 
-mul-v : tie.Need-mul-v
-mul-v c = search needs
-
-element-copy-out-v : tie.Need-element-copy-out-v
-element-copy-out-v c = search needs
-
-cast-result : tie.Need-cast-result
-cast-result c = search needs
-
 returns : tie.Need-returns
 returns c = let a = c .before .before .before .args in λ h. fitting-fits 65535 (getD (a .t1 .values) (a .i) 0) (c .if2 .taken)
 
 returns-2 : tie.Need-returns-2
 returns-2 c = let a = c .before .before .before .args in λ h. fitting-large 65535 (getD (a .t1 .values) (a .i) 0) (c .if2 .left)
 
-returns-3 : tie.Need-returns-3
-returns-3 c = search needs
-
 pub small-spec : {M : Type 1} → statement M
-small-spec = tie.close (tie.spec mul-v element-copy-out-v cast-result returns returns-2 returns-3)
+small-spec =
+    tie.close
+    (tie.spec
+    (λ c. search needs) (λ c. search needs) (λ c. search needs) returns returns-2 (λ c. search needs))

@@ -4,20 +4,8 @@ use borrow.Author.Needs.{needs}
 use Rattle.asked.proofs.words.Words.whole.Statement.{statement}
 use Rattle.asked.proofs.words.Words.whole.Tie as tie
 
-mul-v : tie.Need-mul-v
-mul-v c = search needs
-
-element-copy-out-v : tie.Need-element-copy-out-v
-element-copy-out-v c = search needs
-
-below-requires : tie.Need-below-requires
-below-requires c κs = search needs
-
 returns : tie.Need-returns
 returns c = λ h. rw (c .before .if2 .taken) (c .below .ensures)
-
-above-requires : tie.Need-above-requires
-above-requires c κs = search needs
 
 returns-2 : tie.Need-returns-2
 returns-2 c = λ h. rw (c .before .if2 .left) (c .above .ensures)
@@ -28,4 +16,5 @@ returns-3 c = λ h. absurd (let bad : ⊥ = omega arith in bad)
 pub whole-spec : {M : Type 1} → statement M
 whole-spec =
     tie.close
-    (tie.spec mul-v element-copy-out-v below-requires returns above-requires returns-2 returns-3)
+    (tie.spec
+    (λ c. search needs) (λ c. search needs) (λ c κs. search needs) returns (λ c κs. search needs) returns-2 returns-3)

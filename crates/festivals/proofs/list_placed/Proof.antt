@@ -1,0 +1,66 @@
+-- `festivals::list_placed` meets its contract. Assumes nothing.
+use borrow.Author.Needs.{needs}
+use Rattle.paper.specs.declared.Refusal.the-variants.{Outside}
+use Rattle.rules.proofs.Listed.{says-refused, says-by}
+use Rattle.rules.proofs.Questions.{then-by, then-not}
+use Rattle.festivals.proofs.Placed.{inside, before-first, after-last}
+use Rattle.festivals.proofs.list_placed.Statement.{statement}
+use Rattle.festivals.proofs.list_placed.Tie as tie
+
+place-requires : tie.Need-place-requires
+place-requires c κs = search needs
+
+enum-told : tie.Need-enum-told
+enum-told c = search needs
+
+enum-told-2 : tie.Need-enum-told-2
+enum-told-2 c = search needs
+
+enum-known-place : tie.Need-enum-known-place
+enum-known-place c = search needs
+
+list-day-requires : tie.Need-list-day-requires
+list-day-requires c κs = search needs
+
+returns : tie.Need-returns
+returns c =
+    let p = c .before .before in
+    let o = p .before .before .before .before in
+    let e = before-first _ (o .pre .0) _ (p .place .result) (p .place .ensures) _ (c .enum-told .given .1) in
+    let s = says-by (then-not _ _ Outside e) (says-refused Outside (o .args .out .now)) in
+    (s .answer, s .buffer)
+
+returns-2 : tie.Need-returns-2
+returns-2 c =
+    let p = c .before .before in
+    let o = p .before .before .before .before in
+    let e = after-last _ (o .pre .0) _ (p .place .result) (p .place .ensures) _ (c .enum-told2 .given .1) in
+    let s = says-by (then-not _ _ Outside e) (says-refused Outside (o .args .out .now)) in
+    (s .answer, s .buffer)
+
+same-length : tie.Need-same-length
+same-length c = search needs
+
+returns-3 : tie.Need-returns-3
+returns-3 c =
+    let l = c .before .before in
+    let b = l .before .before .before in
+    let p = b .before .before in
+    let o = p .before .before .before .before in
+    let e = inside _ (o .pre .0) _ (p .place .result) (p .place .ensures) _ (b .place2 .given .1) in
+    let s = says-by (then-by _ _ _ e) (record { answer = l .list-day .ensures .0; buffer = l .list-day .ensures .1 }) in
+    (s .answer, s .buffer)
+
+pub list-placed-spec : {M : Type 1} → statement M
+list-placed-spec =
+    tie.close
+    (tie.spec
+    place-requires
+    enum-told
+    enum-told-2
+    enum-known-place
+    list-day-requires
+    returns
+    returns-2
+    same-length
+    returns-3)
