@@ -57,7 +57,7 @@ pub fn step_month(table: Table, rows: &[u16], year: u16, month: u8, step: i32) -
     if !accepts(table, rows) {
         return StepAnswer::Refused(Refusal::BadTable);
     }
-    let years = (rows.len() / 13) as u16;
+    let years = conversion::year_count(rows) as u16;
     month_at(table.first_year, years, absolute_month(year, month, step))
 }
 
