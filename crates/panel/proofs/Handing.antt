@@ -5,8 +5,8 @@ use Rattle.paper.specs.Answers.{Answer}
 use Rattle.panel.specs.Boundary.{gives}
 
 pub handed :
-  {A P X : Type 0} {a b : Answer A} {got : ℕ × P} {s t : X} (parts : A → P) (old : P) →
-  a ≡ b → got ≡ gives a parts old → s ≡ t → _≡_ {A = (ℕ × P) × X} (got, s) (gives b parts old, t)
+    {A P X : Type 0} {a b : Answer A} {got : ℕ × P} {s t : X} (parts : A → P) (old : P) →
+    a ≡ b → got ≡ gives a parts old → s ≡ t → _≡_ {A = (ℕ × P) × X} (got, s) (gives b parts old, t)
 handed parts old e g p = cc
 
 pub both : {X Y : Type 0} {s t : X} {u v : Y} → s ≡ t → u ≡ v → _≡_ {A = X × Y} (s, u) (t, v)

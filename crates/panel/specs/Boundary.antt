@@ -42,6 +42,7 @@ givesSome (refused k) parts old = (number k, old)
 abbrev pub givesList : Listed → ℕ → (ℕ × ℕ) × List ℕ
 givesList l old = (gives (l .answer) (λ n. n) old, l .buffer)
 
+-- what is written of a Gregorian date, a BS date, a BS month and a reading
 abbrev pub numbers : Date → ℕ × ℕ × ℕ
 numbers x = (x .year, x .month, x .day)
 
@@ -55,14 +56,14 @@ abbrev pub readings : Reading → ℕ × ℕ × ℕ × ℕ
 readings x = (x .tithi, x .end, x .sunrise, x .sunset)
 
 -- a month's days, the numbers of its first and last Gregorian date, and how many cells and festivals
-abbrev pub MonthNumbers : Type 0
-MonthNumbers = ℕ × (ℕ × ℕ × ℕ) × (ℕ × ℕ × ℕ) × ℕ × ℕ
+abbrev pub MonthPlaces : Type 0
+MonthPlaces = ℕ × (ℕ × ℕ × ℕ) × (ℕ × ℕ × ℕ) × ℕ × ℕ
 
-abbrev pub monthNumbers : Month → MonthNumbers
+abbrev pub monthNumbers : Month → MonthPlaces
 monthNumbers x = (x .days, numbers (x .first), numbers (x .last), x .cells, x .festivals)
 
 -- a month: its numbers, and the two lent buffers
-abbrev pub givesMonth : Shown → MonthNumbers → (ℕ × MonthNumbers) × (List ℕ × List ℕ)
+abbrev pub givesMonth : Shown → MonthPlaces → (ℕ × MonthPlaces) × (List ℕ × List ℕ)
 givesMonth m old = (gives (m .answer) monthNumbers old, (m .cells, m .festivals))
 
 -- a lent table without its rows: its first year, and the Gregorian date of its first day

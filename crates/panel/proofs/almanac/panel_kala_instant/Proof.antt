@@ -10,5 +10,5 @@ panel-kala-instant-spec =
     tie.close (tie.spec (λ c κs. tt) (λ c. rw (lt-leb _ _ (c .before .if1 .taken), c .number .ensures)) (λ c κs. tt) (λ c κs. tt)
     (λ c κs. tt)
     (λ c.
-      let asked = c .before .before .before in
-      rw (le-leb _ _ (asked .before .before .if1 .left), ← asked .before .kala-named .ensures, ← asked .kala-instant .ensures) (c .give-instant .ensures)))
+    let asked = c .before .before .before in
+    rw (le-leb _ _ (asked .before .before .if1 .left), ← asked .before .kala-named .ensures, ← asked .kala-instant .ensures) (c .give-instant .ensures)))

@@ -7,6 +7,6 @@ pub panel-festivals-on-ad-spec : {M : Type 1} → statement M
 panel-festivals-on-ad-spec =
     tie.close (tie.spec (λ c κs. tt) (λ c κs. tt) (λ c κs. tt) (λ c. search needs)
     (λ c.
-      let asked = c .before .before .before .before in
-      let e = rw (asked .before .before .table-of .ensures) at (asked .festivals-on-ad .ensures) in
-      handed (λ n. n) _ (e .0) (c .give-count .ensures) (e .1)))
+    let asked = c .before .before .before .before in
+    let e = rw (asked .before .before .table-of .ensures) at (asked .festivals-on-ad .ensures) in
+    handed (λ n. n) _ (e .0) (c .give-count .ensures) (e .1)))

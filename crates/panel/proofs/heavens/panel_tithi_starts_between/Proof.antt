@@ -6,5 +6,5 @@ pub panel-tithi-starts-between-spec : {M : Type 1} → statement M
 panel-tithi-starts-between-spec =
     tie.close (tie.spec (λ c κs. tt) (λ c κs. tt) (λ c. search needs)
     (λ c.
-      let walked = c .before .before .before .before .before .tithi-starts-between in
-      (walked .ensures .1, rw (← walked .ensures .0) (c .give-starts .ensures))))
+    let walked = c .before .before .before .before .before .tithi-starts-between in
+    (walked .ensures .1, rw (← walked .ensures .0) (c .give-starts .ensures))))
