@@ -4,6 +4,7 @@ use Prim.Native.Nat.{ℕ, _*_, _≤_}
 use mathlib.Core.Path.{sym, ap, _∙_}
 use native.Mathlib.Omega.{arith}
 use lib.ListN.{length, take}
+use Rattle.paper.specs.declared.Refusal.the-variants.{NoRoom}
 use Rattle.grid.specs.Month.{cellNumbers, festivalNumbers}
 use Rattle.grid.specs.Inner.{gridBy}
 use Rattle.grid.proofs.Grids.{no-cells, no-festivals, fits, says-refused, says-grid, cell-numbers-length, festival-numbers-length, festivals-are, page-front, lists-front, month-is}
@@ -21,7 +22,7 @@ returns c =
     let a = c .before .before .before .before .before .before .before .args in
     let g = gridBy (a .rules .now) (a .plan) in
     let h = no-cells g (length (a .cells .now)) (length (a .festivals .now)) (omega (arith, c .if1 .taken, c .before .cell-count .ensures, cell-numbers-length (a .rules .now) (a .plan))) in
-    let r = says-refused _ 9 (a .cells .now) (a .festivals .now) h in
+    let r = says-refused _ NoRoom (a .cells .now) (a .festivals .now) h in
     (r .answer, (r .first, r .second))
 
 fill-requires : tie.Need-fill-requires
@@ -43,7 +44,7 @@ returns-2 c =
     let g = gridBy (a .rules .now) (a .plan) in
     let n = filled .fill .ensures .1 .1 .0 ∙ ap length (sym (festivals-are (a .rules .now) (a .plan))) in
     let h = no-festivals g (length (a .cells .now)) (length (a .festivals .now)) (omega (arith, c .if2 .taken, n, festival-numbers-length (a .rules .now) (a .plan))) in
-    let r = says-refused _ 9 (a .cells .now) (a .festivals .now) h in
+    let r = says-refused _ NoRoom (a .cells .now) (a .festivals .now) h in
     (r .answer, (r .first, r .second))
 
 mul-put-front : tie.Need-mul-put-front

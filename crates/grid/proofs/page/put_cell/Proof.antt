@@ -10,7 +10,7 @@ use Rattle.rules.specs.declared.lists.Day.{Day}
 use Rattle.rules.specs.Festivals.{numbers}
 use Rattle.grid.specs.Cells.{saturday, dayCell}
 use Rattle.grid.specs.Kathmandu.{readingOn}
-use Rattle.grid.specs.Inner.{Dated, listFor}
+use Rattle.grid.specs.Inner.{listFor}
 use Rattle.grid.proofs.Marks.{shown, cell-of, cell-length, sets-same}
 use Rattle.grid.proofs.page.put_cell.Statement.{statement}
 use Rattle.grid.proofs.page.put_cell.Tie as tie
@@ -21,18 +21,11 @@ day-on-requires c κs = search needs
 put-day-list-requires : tie.Need-put-day-list-requires
 put-day-list-requires c κs = search needs
 
--- the day has a number
-dated : (d : tie.After-day-on) → Dated (d .day-on .result .number)
-dated d =
-    let p = d .before .before .before .before .pre .1 .0 in
-    let e = ap (λ (q : Day). q .number) (d .day-on .ensures) in
-    record { from = omega (arith, e, p .0 .from); to = omega (arith, e, p) }
-
 is-holiday-requires : tie.Need-is-holiday-requires
-is-holiday-requires c κs = (dated (c .before .before .before .before .before), search needs, search needs)
+is-holiday-requires c κs = search needs
 
-reading-of-requires : tie.Need-reading-of-requires
-reading-of-requires c κs = search needs
+reading-on-requires : tie.Need-reading-on-requires
+reading-on-requires c κs = search needs
 
 sub-day-cell : tie.Need-sub-day-cell
 sub-day-cell c = search needs
@@ -41,10 +34,10 @@ cast-day-cell : tie.Need-cast-day-cell
 cast-day-cell c = search needs
 
 day-cell-requires : tie.Need-day-cell-requires
-day-cell-requires c κs = dated (c .before .before .before .before .before .before .before)
+day-cell-requires c κs = search needs
 
 lead-of-requires : tie.Need-lead-of-requires
-lead-of-requires c κs = let p = c .before .before .before .before .before .before .before .before .before .before .before .before .before .pre .1 .0 .0 in omega (arith, p .to)
+lead-of-requires c κs = search needs
 
 add-put-at : tie.Need-add-put-at
 add-put-at c = search needs
@@ -82,7 +75,7 @@ returns c =
     let e = day .day-on .ensures in
     let p = listed .put-day-list in
     let t = shown (list q) (a .lists .now) (p .last .1 .1 .1 .0) (a .at) (p .result) (p .ensures .0) (p .ensures .1 .0) (omega (arith, p .ensures .1 .1, s .pre .1)) in
-    let k = cell-of (a .plan .today) q (list q) (readingOn q) (read .reading-of .result) _ _ (t .0) (marked .is-holiday .ensures ∙ ap (λ (b : Bool). saturday (q .number) || b) (t .1)) (read .reading-of .ensures) in (
+    let k = cell-of (a .plan .today) q (list q) (readingOn q) (read .reading-on .result) _ _ (t .0) (marked .is-holiday .ensures ∙ ap (λ (b : Bool). saturday (q .number) || b) (t .1)) (read .reading-on .ensures) in (
       stored .put-at .ensures
           ∙ sets-same (a .page .now) _ _ _ _ (ap (λ (z : ℕ). (z + a .d) * 12) (led .lead-of .ensures))
           (made .day-cell .ensures ∙ k ∙ ap (λ (x : Day). dayCell (a .plan .today) x (list x) (readingOn x)) e),
@@ -99,7 +92,7 @@ put-cell-spec =
     day-on-requires
     put-day-list-requires
     is-holiday-requires
-    reading-of-requires
+    reading-on-requires
     sub-day-cell
     cast-day-cell
     day-cell-requires
