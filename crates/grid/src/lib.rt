@@ -57,7 +57,7 @@ pub fn step_month(table: Table, rows: &[u16], year: u16, month: u8, step: i32) -
     if !accepts(table, rows) {
         return StepAnswer::Refused(Refusal::BadTable);
     }
-    let years = (rows.len() / 13) as u16;
+    let years = conversion::year_count(rows) as u16;
     month_at(table.first_year, years, absolute_month(year, month, step))
 }
 
@@ -73,9 +73,12 @@ fn lay_month(
     festivals: &mut [u16],
 ) -> GridAnswer
     requires { ⌜ (accepted table (now rows) ≡ true) × (acceptedRules (now rules) ≡ true) ⌝ }
-    ensures { λ r. ⌜ gridSays r ≡ monthLaid table (now (rows .entry)) (now (rules .entry)) today year month (now (cells .entry)) (now (festivals .entry)) .answer ⌝ }
-    ensures { λ r. ⌜ now (cells .exit) ≡ monthLaid table (now (rows .entry)) (now (rules .entry)) today year month (now (cells .entry)) (now (festivals .entry)) .cells ⌝ }
-    ensures { λ r. ⌜ now (festivals .exit) ≡ monthLaid table (now (rows .entry)) (now (rules .entry)) today year month (now (cells .entry)) (now (festivals .entry)) .festivals ⌝ }
+    ensures { λ r. ⌜ gridSays r
+        ≡ monthLaid table (now (rows .entry)) (now (rules .entry)) today year month (now (cells .entry)) (now (festivals .entry)) .answer ⌝ }
+    ensures { λ r. ⌜ now (cells .exit)
+        ≡ monthLaid table (now (rows .entry)) (now (rules .entry)) today year month (now (cells .entry)) (now (festivals .entry)) .cells ⌝ }
+    ensures { λ r. ⌜ now (festivals .exit)
+        ≡ monthLaid table (now (rows .entry)) (now (rules .entry)) today year month (now (cells .entry)) (now (festivals .entry)) .festivals ⌝ }
 {
     let days = conversion::month_days(table, rows, year, month);
     match days {
@@ -98,9 +101,12 @@ pub fn month_grid(
     cells: &mut [u16],
     festivals: &mut [u16],
 ) -> GridAnswer
-    ensures { λ r. ⌜ gridSays r ≡ monthShown table (now (rows .entry)) (now (rules .entry)) today year month (now (cells .entry)) (now (festivals .entry)) .answer ⌝ }
-    ensures { λ r. ⌜ now (cells .exit) ≡ monthShown table (now (rows .entry)) (now (rules .entry)) today year month (now (cells .entry)) (now (festivals .entry)) .cells ⌝ }
-    ensures { λ r. ⌜ now (festivals .exit) ≡ monthShown table (now (rows .entry)) (now (rules .entry)) today year month (now (cells .entry)) (now (festivals .entry)) .festivals ⌝ }
+    ensures { λ r. ⌜ gridSays r
+        ≡ monthShown table (now (rows .entry)) (now (rules .entry)) today year month (now (cells .entry)) (now (festivals .entry)) .answer ⌝ }
+    ensures { λ r. ⌜ now (cells .exit)
+        ≡ monthShown table (now (rows .entry)) (now (rules .entry)) today year month (now (cells .entry)) (now (festivals .entry)) .cells ⌝ }
+    ensures { λ r. ⌜ now (festivals .exit)
+        ≡ monthShown table (now (rows .entry)) (now (rules .entry)) today year month (now (cells .entry)) (now (festivals .entry)) .festivals ⌝ }
 {
     let lent = rules::accept(table, rows, rules);
     match lent {

@@ -80,7 +80,8 @@ fn put_cell(
 fn fill(rules: &[u16], plan: Plan, page: &mut [u16], lists: &mut [u16]) -> usize
     requires { ⌜ acceptedRules (now rules) ≡ true ⌝ }
     requires { ⌜ Planned plan × Roomy (now page) (now lists) ⌝ }
-    ensures { λ r. ⌜ now (page .exit) ≡ sets (now (page .entry)) (weekdayOf (plan .first) * 12) (joined (each (cellAt (now (rules .entry)) plan) 0 (plan .days))) ⌝ }
+    ensures { λ r. ⌜ now (page .exit)
+        ≡ sets (now (page .entry)) (weekdayOf (plan .first) * 12) (joined (each (cellAt (now (rules .entry)) plan) 0 (plan .days))) ⌝ }
     ensures { λ r. ⌜ now (lists .exit) ≡ sets (now (lists .entry)) 0 (numbers (joined (each (listAt (now (rules .entry)) plan) 0 (plan .days)))) ⌝ }
     ensures { λ r. ⌜ r ≡ length (joined (each (listAt (now (rules .entry)) plan) 0 (plan .days))) ⌝ }
     ensures { λ r. ⌜ r ≤ 12288 ⌝ }

@@ -5,12 +5,11 @@ use Rattle.paper.specs.Floats.{near}
 use Rattle.grid.proofs.cells.reading_on.Statement.{statement}
 use Rattle.grid.proofs.cells.reading_on.Tie as tie
 
-reading-of-requires : tie.Need-reading-of-requires
-reading-of-requires c κs = search needs
-
 returns : tie.Need-returns
 unfolding near ofBits
 returns c = c .reading-of .ensures
 
 pub reading-on-spec : {M : Type 1} → statement M
-reading-on-spec = tie.close (tie.spec reading-of-requires returns)
+reading-on-spec =
+    tie.close
+    (tie.spec (λ c κs. search needs) returns)

@@ -15,49 +15,10 @@ use Rattle.grid.proofs.Marks.{shown, cell-of, cell-length, sets-same}
 use Rattle.grid.proofs.page.put_cell.Statement.{statement}
 use Rattle.grid.proofs.page.put_cell.Tie as tie
 
-day-on-requires : tie.Need-day-on-requires
-day-on-requires c κs = search needs
-
-put-day-list-requires : tie.Need-put-day-list-requires
-put-day-list-requires c κs = search needs
-
-is-holiday-requires : tie.Need-is-holiday-requires
-is-holiday-requires c κs = search needs
-
-reading-on-requires : tie.Need-reading-on-requires
-reading-on-requires c κs = search needs
-
-sub-day-cell : tie.Need-sub-day-cell
-sub-day-cell c = search needs
-
-cast-day-cell : tie.Need-cast-day-cell
-cast-day-cell c = search needs
-
-day-cell-requires : tie.Need-day-cell-requires
-day-cell-requires c κs = search needs
-
-lead-of-requires : tie.Need-lead-of-requires
-lead-of-requires c κs = search needs
-
-add-put-at : tie.Need-add-put-at
-add-put-at c = search needs
-
-mul-put-at : tie.Need-mul-put-at
-mul-put-at c = search needs
-
-slice-aggregate-put-at : tie.Need-slice-aggregate-put-at
-slice-aggregate-put-at c = search needs
-
 put-at-requires : tie.Need-put-at-requires
 put-at-requires c κs =
     let s = c .before .before .before .before .before .before .before .before .before .before .before .before .before .before .before in
     omega (arith, ap length (c .before .before .before .day-cell .ensures) ∙ cell-length _ _ _ _ _, c .before .lead-of .ensures, s .pre .1)
-
-same-length : tie.Need-same-length
-same-length c = search needs
-
-same-length-2 : tie.Need-same-length-2
-same-length-2 c = search needs
 
 returns : tie.Need-returns
 returns c =
@@ -88,19 +49,6 @@ returns c =
 pub put-cell-spec : {M : Type 1} → statement M
 put-cell-spec =
     tie.close
-    (tie.spec
-    day-on-requires
-    put-day-list-requires
-    is-holiday-requires
-    reading-on-requires
-    sub-day-cell
-    cast-day-cell
-    day-cell-requires
-    lead-of-requires
-    add-put-at
-    mul-put-at
-    slice-aggregate-put-at
-    put-at-requires
-    same-length
-    same-length-2
-    returns)
+    (tie.spec (λ c κs. search needs) (λ c κs. search needs) (λ c κs. search needs) (λ c κs. search needs) (λ c. search needs) (λ c. search needs)
+    (λ c κs. search needs) (λ c κs. search needs) (λ c. search needs) (λ c. search needs) (λ c. search needs) put-at-requires (λ c. search needs)
+    (λ c. search needs) returns)
