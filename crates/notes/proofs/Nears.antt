@@ -6,6 +6,7 @@ use mathlib.Core.Option.{some, none}
 use lib.IntN.{pos}
 use lib.Ieee.{Float}
 use borrow.Author.Tests.{eq-eqb, ne-eqb, le-leb, lt-leb}
+use Rattle.paper.specs.declared.Refusal.{Refusal}
 use Rattle.paper.specs.Answers.{answered, refused}
 use Rattle.paper.specs.Floats.{_⊕_, dec, whole}
 use Rattle.gregorian.specs.Instants.{localDay}
@@ -25,9 +26,9 @@ module _ (c : Calendar) (x : Float) where
     unfolding datedMoon next
     moon-inside t f = rw (← e, f)
 
-    pub moon-outside : (k : ℕ) → fromDay c n ≡ refused k → none ≡ datedMoon c x
+    pub moon-outside : {k : Refusal} → fromDay c n ≡ refused k → none ≡ datedMoon c x
     unfolding datedMoon next
-    moon-outside k f = rw (← e, f)
+    moon-outside f = rw (← e, f)
 
 module _ (x : Float) (n d len m : ℕ) where
   pub near-after : d ≡ 1 → m ≡ minutesTo (whole (pos n)) (localDay x) → some (true, m) ≡ nearness x n d len

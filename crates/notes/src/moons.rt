@@ -8,12 +8,8 @@ use gregorian::UtDay;
 use panchanga::clock;
 ghost use mathlib.Core.Path.{_≡_};
 ghost use mathlib.Core.Bool.{true};
-ghost use Rattle.gregorian.specs.Instants.{localDay};
 ghost use Rattle.conversion.specs.Flat.{accepted, flat};
 ghost use Rattle.notes.specs.Near.{datedMoon, datedSays, minutesTo, nearness, nearSays};
-
-// Nepal time, 5 hours and 45 minutes east, as a fraction of a day.
-const NPT_OFFSET: f64 = 5.75 / 24.0;
 
 // The day in Nepal of an instant, by its number and its BS date, or nothing.
 pub enum Dated {
@@ -32,21 +28,13 @@ pub fn date_of(table: Table, rows: &[u16], x: UtDay) -> Dated
     requires { ⌜ accepted table (now rows) ≡ true ⌝ }
     ensures { λ r. ⌜ datedSays r ≡ datedMoon (flat table (now (rows .entry))) (x .0) ⌝ }
 {
-    let DayFound::Day(n) = days::day_of(x) else {
+    let DayFound::Day(n) = days::nepal_day(x) else {
         return Dated::Nothing;
     };
-    match conversion::place(table, rows, n) {
-        Placed::Inside(date) => Dated::On(n, date),
-        Placed::Before(_) => Dated::Nothing,
-        Placed::After(_) => Dated::Nothing,
-    }
-}
-
-// The local day in Nepal of an instant.
-fn local_day(x: f64) -> f64
-    ensures { λ r. ⌜ r ≡ localDay x ⌝ }
-{
-    x + NPT_OFFSET + 0.5
+    let Placed::Inside(date) = conversion::place(table, rows, n) else {
+        return Dated::Nothing;
+    };
+    Dated::On(n, date)
 }
 
 // The minutes from one local day to a later one.
@@ -60,7 +48,7 @@ fn minutes_to(a: f64, b: f64) -> u32
 pub fn near(x: UtDay, n: u32, day: u16, len: u16) -> Nearness
     ensures { λ r. ⌜ nearSays r ≡ nearness (x .0) «n» day len ⌝ }
 {
-    let local = local_day(x.0);
+    let local = gregorian::local_day(x.0);
     let zero = n as f64;
     if day == 1 {
         return Nearness::Beside(true, minutes_to(zero, local));

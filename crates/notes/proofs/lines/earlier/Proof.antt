@@ -4,9 +4,6 @@ use borrow.Author.Needs.{needs}
 use Rattle.notes.proofs.lines.earlier.Statement.{statement}
 use Rattle.notes.proofs.lines.earlier.Tie as tie
 
-month-before-requires : tie.Need-month-before-requires
-month-before-requires c κs = search needs
-
 returns : tie.Need-returns
 unfolding earlierOf
 returns c = rw (c .before .if1 .taken) (c .month-before .ensures)
@@ -16,4 +13,4 @@ unfolding earlierOf
 returns-2 c = rw (c .if1 .left)
 
 pub earlier-spec : {M : Type 1} → statement M
-earlier-spec = tie.close (tie.spec month-before-requires returns returns-2)
+earlier-spec = tie.close (tie.spec (λ c κs. search needs) returns returns-2)

@@ -4,9 +4,6 @@ use borrow.Author.Needs.{needs}
 use Rattle.notes.proofs.lines.later.Statement.{statement}
 use Rattle.notes.proofs.lines.later.Tie as tie
 
-month-after-requires : tie.Need-month-after-requires
-month-after-requires c κs = search needs
-
 returns : tie.Need-returns
 unfolding laterOf
 returns c = rw (c .if1 .taken)
@@ -16,4 +13,4 @@ unfolding laterOf
 returns-2 c = rw (c .before .if1 .left) (c .month-after .ensures)
 
 pub later-spec : {M : Type 1} → statement M
-later-spec = tie.close (tie.spec month-after-requires returns returns-2)
+later-spec = tie.close (tie.spec (λ c κs. search needs) returns returns-2)

@@ -5,9 +5,6 @@ use borrow.Author.Needs.{needs}
 use Rattle.notes.proofs.lines.month_after.Statement.{statement}
 use Rattle.notes.proofs.lines.month_after.Tie as tie
 
-add-result : tie.Need-add-result
-add-result c = search needs
-
 returns : tie.Need-returns
 unfolding monthAfter
 returns c = rw (le-leb 12 (c .before .args .m) (c .if1 .taken))
@@ -17,4 +14,4 @@ unfolding monthAfter
 returns-2 c = rw (lt-leb 12 (c .before .args .m) (c .if1 .left))
 
 pub month-after-spec : {M : Type 1} → statement M
-month-after-spec = tie.close (tie.spec add-result returns returns-2)
+month-after-spec = tie.close (tie.spec (λ c. search needs) returns returns-2)

@@ -5,9 +5,6 @@ use borrow.Author.Needs.{needs}
 use Rattle.notes.proofs.lines.month_before.Statement.{statement}
 use Rattle.notes.proofs.lines.month_before.Tie as tie
 
-sub-result : tie.Need-sub-result
-sub-result c = search needs
-
 returns : tie.Need-returns
 unfolding monthBefore
 returns c = rw (le-leb (c .before .args .m) 1 (c .if1 .taken))
@@ -17,4 +14,4 @@ unfolding monthBefore
 returns-2 c = rw (lt-leb (c .before .args .m) 1 (c .if1 .left))
 
 pub month-before-spec : {M : Type 1} → statement M
-month-before-spec = tie.close (tie.spec sub-result returns returns-2)
+month-before-spec = tie.close (tie.spec (λ c. search needs) returns returns-2)

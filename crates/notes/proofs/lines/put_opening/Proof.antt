@@ -5,45 +5,9 @@ use borrow.Author.Needs.{needs}
 use Rattle.notes.proofs.lines.put_opening.Statement.{statement}
 use Rattle.notes.proofs.lines.put_opening.Tie as tie
 
-slice-aggregate-put-labelled : tie.Need-slice-aggregate-put-labelled
-slice-aggregate-put-labelled c = search needs
-
-cast-put-labelled : tie.Need-cast-put-labelled
-cast-put-labelled c = search needs
-
-put-labelled-requires : tie.Need-put-labelled-requires
-put-labelled-requires c κs = search needs
-
-slice-aggregate-put-text : tie.Need-slice-aggregate-put-text
-slice-aggregate-put-text c = search needs
-
-put-text-requires : tie.Need-put-text-requires
-put-text-requires c κs = search needs
-
-same-length : tie.Need-same-length
-same-length c = search needs
-
 returns : tie.Need-returns
 unfolding openingPieces
 returns c = rw (c .before .before .before .before .before .before .before .before .before .before .before .if1 .taken) (then (c .before .before .before .before .before .before .before .put-labelled .ensures) (c .before .before .put-text .ensures))
-
-slice-aggregate-put-text-2 : tie.Need-slice-aggregate-put-text-2
-slice-aggregate-put-text-2 c = search needs
-
-put-text-requires-2 : tie.Need-put-text-requires-2
-put-text-requires-2 c κs = search needs
-
-put-year-month-requires : tie.Need-put-year-month-requires
-put-year-month-requires c κs = search needs
-
-slice-aggregate-put-text-3 : tie.Need-slice-aggregate-put-text-3
-slice-aggregate-put-text-3 c = search needs
-
-put-text-requires-3 : tie.Need-put-text-requires-3
-put-text-requires-3 c κs = search needs
-
-same-length-2 : tie.Need-same-length-2
-same-length-2 c = search needs
 
 returns-2 : tie.Need-returns-2
 unfolding openingPieces
@@ -53,17 +17,6 @@ pub put-opening-spec : {M : Type 1} → statement M
 put-opening-spec =
     tie.close
     (tie.spec
-    slice-aggregate-put-labelled
-    cast-put-labelled
-    put-labelled-requires
-    slice-aggregate-put-text
-    put-text-requires
-    same-length
-    returns
-    slice-aggregate-put-text-2
-    put-text-requires-2
-    put-year-month-requires
-    slice-aggregate-put-text-3
-    put-text-requires-3
-    same-length-2
-    returns-2)
+    (λ c. search needs) (λ c. search needs) (λ c κs. search needs) (λ c. search needs) (λ c κs. search needs)
+    (λ c. search needs) returns (λ c. search needs) (λ c κs. search needs) (λ c κs. search needs) (λ c. search needs)
+    (λ c κs. search needs) (λ c. search needs) returns-2)

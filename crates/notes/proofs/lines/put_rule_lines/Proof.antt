@@ -21,23 +21,8 @@ abbrev μ-loop : tie.MeasureT-loop
 loop-holds : tie.Need-loop-holds Inv-loop μ-loop
 loop-holds c = (search needs, refl, rest-all _ _)
 
-put-if-of-month-requires : tie.Need-put-if-of-month-requires Inv-loop μ-loop
-put-if-of-month-requires c κs = search needs
-
-add-i : tie.Need-add-i Inv-loop μ-loop
-add-i c = search needs
-
-loop-less : tie.Need-loop-less Inv-loop μ-loop
-loop-less c = search needs
-
 loop-again : tie.Need-loop-again Inv-loop μ-loop
 loop-again c = (search needs, search needs, rest-turn (c .before .before .before .before .before .loop .inv .2) (omega arith) (c .before .before .put-if-of-month .ensures .0) (c .before .before .put-if-of-month .ensures .1))
-
-put-rules-end-requires : tie.Need-put-rules-end-requires Inv-loop μ-loop
-put-rules-end-requires c κs = search needs
-
-same-length : tie.Need-same-length Inv-loop μ-loop
-same-length c = search needs
 
 returns : tie.Need-returns Inv-loop μ-loop
 returns c = record { same = rest-none (c .before .before .before .before .before .loop .inv .2) (omega arith) (c .before .before .put-rules-end .ensures) }
@@ -46,13 +31,5 @@ pub put-rule-lines-spec : {M : Type 1} → statement M
 put-rule-lines-spec =
     tie.close
     (tie.spec
-    Inv-loop
-    μ-loop
-    loop-holds
-    put-if-of-month-requires
-    add-i
-    loop-less
-    loop-again
-    put-rules-end-requires
-    same-length
-    returns)
+    Inv-loop μ-loop loop-holds (λ c κs. search needs) (λ c. search needs) (λ c. search needs) loop-again
+    (λ c κs. search needs) (λ c. search needs) returns)

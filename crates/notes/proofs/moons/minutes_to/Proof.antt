@@ -6,12 +6,9 @@ use borrow.Author.Needs.{needs}
 use Rattle.notes.proofs.moons.minutes_to.Statement.{statement}
 use Rattle.notes.proofs.moons.minutes_to.Tie as tie
 
-rounded-requires : tie.Need-rounded-requires
-rounded-requires c κs = search needs
-
 returns : tie.Need-returns
 unfolding minutesTo near ofBits
 returns c = c .rounded .ensures
 
 pub minutes-to-spec : {M : Type 1} → statement M
-minutes-to-spec = tie.close (tie.spec rounded-requires returns)
+minutes-to-spec = tie.close (tie.spec (λ c κs. search needs) returns)

@@ -9,21 +9,9 @@ use borrow.Author.Needs.{needs}
 use Rattle.notes.proofs.moons.near.Statement.{statement}
 use Rattle.notes.proofs.moons.near.Tie as tie
 
-local-day-requires : tie.Need-local-day-requires
-local-day-requires c κs = search needs
-
-int-to-float-zero : tie.Need-int-to-float-zero
-int-to-float-zero c = search needs
-
-minutes-to-requires : tie.Need-minutes-to-requires
-minutes-to-requires c κs = search needs
-
 returns : tie.Need-returns
 returns c = let a = c .before .before .before .before .args in
     near-after (a .x .0) (a .n) (a .day) (a .len) (c .minutes-to .result) (c .before .if1 .taken) (c .minutes-to .ensures ∙ ap (minutesTo (whole (pos (a .n)))) (c .before .before .before .local-day .ensures))
-
-minutes-to-requires-2 : tie.Need-minutes-to-requires-2
-minutes-to-requires-2 c κs = search needs
 
 returns-2 : tie.Need-returns-2
 unfolding near ofBits
@@ -42,11 +30,5 @@ pub near-spec : {M : Type 1} → statement M
 near-spec =
     tie.close
     (tie.spec
-    local-day-requires
-    int-to-float-zero
-    minutes-to-requires
-    returns
-    minutes-to-requires-2
-    returns-2
-    returns-3
-    returns-4)
+    (λ c κs. search needs) (λ c. search needs) (λ c κs. search needs) returns (λ c κs. search needs) returns-2
+    returns-3 returns-4)

@@ -1,0 +1,16 @@
+-- `spring::report_broken` is proved: a line never goes past its buffer. Assumes nothing.
+use mathlib.Core.Path.{sym}
+use lib.Seq.{length-take-le}
+use borrow.Author.Needs.{needs}
+use Rattle.spring.proofs.report_broken.Statement.{statement}
+use Rattle.spring.proofs.report_broken.Tie as tie
+
+slice-aggregate-write-all : tie.Need-slice-aggregate-write-all
+slice-aggregate-write-all c = sym (length-take-le (c .before .before .put-broken-line .result) _ (search needs))
+
+pub report-broken-spec : {M : Type 1} → statement M
+report-broken-spec =
+    tie.close
+    (tie.spec
+    (λ c. search needs) (λ c κs. search needs) (λ c. search needs) slice-aggregate-write-all (λ c κs. search needs)
+    (λ c. search needs))
