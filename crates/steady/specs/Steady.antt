@@ -44,7 +44,10 @@ module _ (t : Table) (rows more rules : List ℕ) (today : Date) where
     pub to-bs : (y m d : ℕ) → AnswerStays (fromAd short y m d) (fromAd long y m d) Outside (λ x. Added short (x .year))
     pub step : (y m : ℕ) (s : ℤ) → AnswerStays (stepMonth short y m s) (stepMonth long y m s) OffTable (λ x. Added short (x .year))
     -- `festivals_on`, `festivals_on_ad`: the answer and the buffer
-    pub list : (y m d : ℕ) (out : List ℕ) → Stays (λ w. w .answer) (onBs t rows rules y m d out) (onBs t (rows ++ more) rules y m d out) NoYear (λ n. Added short y)
-    pub list-ad : (y m d : ℕ) (out : List ℕ) → Stays (λ w. w .answer) (onAd t rows rules y m d out) (onAd t (rows ++ more) rules y m d out) Outside (λ n. AddedDay short long (dayNumber (date y m d)))
+    pub list : (y m d : ℕ) (out : List ℕ) → Stays (λ w. w .answer) (onBs t rows rules y m d out) (onBs t (rows ++ more) rules y m d out) NoYear
+        (λ n. Added short y)
+    pub list-ad : (y m d : ℕ) (out : List ℕ) → Stays (λ w. w .answer) (onAd t rows rules y m d out) (onAd t (rows ++ more) rules y m d out) Outside
+        (λ n. AddedDay short long (dayNumber (date y m d)))
     -- `month_grid`: the answer and both buffers
-    pub month : (y m : ℕ) (cells festivals : List ℕ) → Stays (λ w. w .answer) (monthShown t rows rules today y m cells festivals) (monthShown t (rows ++ more) rules today y m cells festivals) NoYear (λ n. Added short y)
+    pub month : (y m : ℕ) (cells festivals : List ℕ) → Stays (λ w. w .answer) (monthShown t rows rules today y m cells festivals)
+        (monthShown t (rows ++ more) rules today y m cells festivals) NoYear (λ n. Added short y)
