@@ -1,5 +1,4 @@
 // Which new moons of BS years to check against the gazette: those near the beginning of a solar month.
-use conversion::MonthDays;
 use conversion::Table;
 use files::RulesRead;
 use files::TableRead;
@@ -8,7 +7,6 @@ use text::Whole;
 ghost use mathlib.Core.Path.{_≡_};
 ghost use mathlib.Core.Bool.{true};
 ghost use Rattle.conversion.specs.Flat.{accepted, flat};
-ghost use Rattle.conversion.specs.Calendar.{yearOk};
 ghost use Rattle.rules.specs.Rules.{rulesOf};
 ghost use Rattle.output.specs.Gathered.{gathered};
 ghost use Rattle.output.specs.Pieces.{Puts};
@@ -21,20 +19,8 @@ fn complain(line: &[u8]) {
     io::write_all(libc::STDERR_FILENO, line);
 }
 
-// Whether a year is one of an accepted table.
-fn is_year(table: Table, rows: &[u16], year: u16) -> bool
-    requires { ⌜ accepted table (now rows) ≡ true ⌝ }
-    ensures { λ r. ⌜ r ≡ yearOk (flat table (now (rows .entry))) year ⌝ }
-{
-    match conversion::month_days(table, rows, year, 1) {
-        MonthDays::Days(_) => true,
-        MonthDays::NoYear => false,
-        MonthDays::NoMonth => false,
-    }
-}
-
 // Which years were asked.
-fn put_range(o: Out, out: &mut [u8], first: u16, last: u16) -> Out
+fn put_asked_years(o: Out, out: &mut [u8], first: u16, last: u16) -> Out
     ensures { λ r. ⌜ Puts (now (out .entry)) o (rangePieces first last) (now (out .exit)) r ⌝ }
 {
     let a = output::put_labelled(o, out, b"BS ", first as u64);
@@ -43,7 +29,7 @@ fn put_range(o: Out, out: &mut [u8], first: u16, last: u16) -> Out
 }
 
 // The page over an accepted table.
-fn put_page(
+fn put_asked_page(
     table: Table,
     rows: &[u16],
     first: u16,
@@ -66,7 +52,7 @@ fn put_page(
         names,
     );
     let o = p.out;
-    let q = put_range(o, out, first, last);
+    let q = put_asked_years(o, out, first, last);
     doubtful::put_counts(p, q, out)
 }
 
@@ -90,15 +76,15 @@ fn answer_over(
         complain(b"LAST: expected a year not before FIRST\n");
         return;
     }
-    if !is_year(table, rows, first) {
+    if !conversion::is_year(table, rows, first) {
         complain(b"FIRST: expected a BS year of the table\n");
         return;
     }
-    if !is_year(table, rows, last) {
+    if !conversion::is_year(table, rows, last) {
         complain(b"LAST: expected a BS year of the table\n");
         return;
     }
-    let o = put_page(table, rows, first, last, rules, names, out);
+    let o = put_asked_page(table, rows, first, last, rules, names, out);
     o.finish(out);
 }
 
@@ -119,25 +105,6 @@ fn answer(
     complain(b"TABLE: refused with 1; ./patro spring TABLE TABLE says where it breaks a rule\n");
 }
 
-// The same with the parts of the lent buffers that were read.
-fn answer_parts(
-    table: Table,
-    rows: &[u16],
-    n: usize,
-    first: u16,
-    last: u16,
-    rules: &[u16],
-    k: usize,
-    names: &[u8],
-    out: &mut [u8],
-) {
-    if n <= rows.len() {
-        if k <= rules.len() {
-            answer(table, &rows[..n], first, last, &rules[..k], names, out);
-        }
-    }
-}
-
 // The number that argument i is; a longer one than a buffer of eight bytes holds is none.
 fn year_in(i: usize) -> Whole {
     let mut buffer = [0u8; 8];
@@ -145,6 +112,7 @@ fn year_in(i: usize) -> Whole {
     text::whole_number(&buffer[..n], 65535)
 }
 
+// Reads what the arguments name, and answers over the parts of the lent buffers that were read.
 fn run(rows: &mut [u16], rules: &mut [u16], names: &mut [u8], out: &mut [u8]) {
     let count = os::arg_count();
     if (count != 4) & (count != 5) {
@@ -165,7 +133,7 @@ fn run(rows: &mut [u16], rules: &mut [u16], names: &mut [u8], out: &mut [u8]) {
     let RulesRead::Are(k) = files::rules_asked(4, count, rules, names) else {
         return;
     };
-    answer_parts(table, rows, n, first, last, rules, k, names, out);
+    answer(table, &rows[..n], first, last, &rules[..k], names, out);
 }
 
 fn main() {

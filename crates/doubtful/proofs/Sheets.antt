@@ -11,6 +11,7 @@ use lib.Dec.{leb}
 use lib.ListN.{length, getD}
 use lib.Seq.{slice, slice-cons, slice-empty}
 use lib.Ieee.{Float, nan, eq}
+use Rattle.paper.specs.declared.Refusal.{Refusal}
 use Rattle.paper.specs.Answers.{Answer, answered}
 use Rattle.paper.proofs.Answers.{given-answered}
 use Rattle.paper.proofs.Tests.{and-left, and-right}
@@ -23,8 +24,8 @@ use Rattle.conversion.specs.Answers.{daysSays}
 use Rattle.conversion.specs.Calendar.{Calendar, yearOk, monthOk, monthLen}
 use Rattle.rules.specs.declared.Rule.{Rule}
 use Rattle.rules.specs.Days.{holds}
-use Rattle.rules.specs.Festivals.{opening}
-use Rattle.festivals.specs.Kathmandu.{moonsAround, kathmandu}
+use Rattle.rules.specs.Festivals.{lastOf, inMonth}
+use Rattle.festivals.specs.Kathmandu.{moonsAround, kathmandu, openingIn}
 use Rattle.festivals.specs.Months.{yearDays, monthAt}
 use Rattle.festivals.specs.Answers.{daysAre}
 use Rattle.festivals.specs.declared.months.Months.{Months}
@@ -33,14 +34,16 @@ use Rattle.festivals.specs.declared.months.YearDays.the-variants as YD
 use Rattle.notes.specs.Near.{datedMoon, datedSays, nearness, nearSays}
 use Rattle.output.specs.Pieces.{Text, putPieces, Puts}
 use Rattle.notes.specs.Lines.{momentPieces, openingPieces, nonePieces, rulesPieces, besidePieces}
-use Rattle.doubtful.specs.Tallies.{Tally, tallyOf, withHeading, withOut, oneMore, doubted, unopened, headingPieces}
-use Rattle.doubtful.specs.Years.{Sheet, sheet, under, nearLine, datedLine, monthLine, monthLines, opensMonth, openedAt, Opened, lengthLine, placedLine, dayLine, moonLine, moonLines, daysPage, yearPage, yearsPage, hasPlace, opensPlace}
+use Rattle.doubtful.specs.Tallies.{Tally, tallyOf, withHeading, oneMore, doubted, unopened, headingPieces}
+use Rattle.doubtful.specs.Years.{Sheet, sheet, under, nearLine, datedLine, monthLine, monthLines, opensMonth, openedAt, lengthLine, placedLine, dayLine, moonLine, moonLines, daysPage, yearPage, yearsPage}
+use Rattle.doubtful.specs.Inner.{withOut, Opened, hasPlace, opensPlace}
 use Rattle.doubtful.specs.declared.page.Page.{Page}
 use Rattle.notes.specs.declared.moons.Dated.{Dated}
 use Rattle.notes.specs.declared.moons.Dated.the-variants as D
 use Rattle.notes.specs.declared.moons.Nearness.{Nearness}
 use Rattle.notes.specs.declared.moons.Nearness.the-variants as N
 use Rattle.output.proofs.Pieces.{then}
+use Rattle.festivals.proofs.TableYears.{opens}
 
 -- ---- lines under a heading
 
@@ -91,9 +94,9 @@ module _ (rules : List Rule) (names : List ℕ) (x : Float) (n : ℕ) (t : BsDat
 month-ok : (c : Calendar) (y m : ℕ) {len : ℕ} → monthLen c y m ≡ answered len → monthOk m ≡ true
 unfolding monthLen
 month-ok c y m e =
-    let a = given-answered (c .good) 1 _ e .1 in
-    let b = given-answered (yearOk c y) 4 _ a .1 in
-    given-answered (monthOk m) 5 _ b .0
+    let a = given-answered (c .good) _ _ e .1 in
+    let b = given-answered (yearOk c y) _ _ a .1 in
+    given-answered (monthOk m) _ _ b .0
 
 month-twelve : (m : ℕ) → monthOk m ≡ true → (1 ≤ m) × (m ≤ 12)
 month-twelve m e = (leb-true 1 m (and-left (leb 1 m) (leb m 12) e), leb-true m 12 (and-right (leb 1 m) (leb m 12) e))
@@ -104,7 +107,7 @@ opens-same c y z m x places h e =
     let o = month-ok c z m e in
     let t = month-twelve m o in
     let j : m - 1 < 12 = omega arith in
-    let f : monthAt places (m - 1) ≡ opening kathmandu c y m = h (m - 1) j ∙ ap (opening kathmandu c y) (let k : m - 1 + 1 ≡ m = omega arith in k) in
+    let f : monthAt places (m - 1) ≡ openingIn c y m = h (m - 1) j ∙ ap (openingIn c y) (let k : m - 1 + 1 ≡ m = omega arith in k) in
     rw (o, f)
 
 reads-place : (b : Bool) (z x : Float) → (b && eq z x) ≡ holds (cond b (some z) none) (λ o. eq o x)
@@ -145,11 +148,8 @@ module _ (c : Calendar) (y : ℕ) (rules : List Rule) (names : List ℕ) (x : Fl
       ap (λ (b : Bool). datedLine rules names x n t b len s) (o ∙ opens-same c y (t .year) (t .month) x places h (sym e ∙ ap daysSays g))
       ∙ placed-is (ap daysSays g)
 
-  pub placed-no-year : q ≡ MD.NoYear → s ≡ placedLine c y rules names x n t s
-  placed-no-year g = placed-is (ap daysSays g)
-
-  pub placed-no-month : q ≡ MD.NoMonth → s ≡ placedLine c y rules names x n t s
-  placed-no-month g = placed-is (ap daysSays g)
+  pub placed-refused : {k : Refusal} → q ≡ MD.Refused k → s ≡ placedLine c y rules names x n t s
+  placed-refused g = placed-is (ap daysSays g)
 
 -- ---- a new moon
 
@@ -211,6 +211,11 @@ module _ (rules : List Rule) (names : List ℕ) (y : ℕ) where
   month-empty opened m s e = rw e
 
 -- ---- a year
+
+-- the last of its new moons in a month opens it
+pub places-opened : (c : Calendar) (y : ℕ) {q : YearDays} → daysAre q ≡ yearDays c y → {a b : ℕ} → q ≡ YD.Days a b → {xs : List Float} → xs ≡ moonsAround a b → (places : Months)
+    → ((j : ℕ) → j < 12 → monthAt places j ≡ lastOf (inMonth kathmandu c y (j + 1)) none xs) → Opened c y places
+places-opened c y e g f places k j h = k j h ∙ ap (lastOf (inMonth kathmandu c y (j + 1)) none) f ∙ opens kathmandu c y _ (sym (ap daysAre g) ∙ e) (j + 1)
 
 module _ (c : Calendar) (y : ℕ) (rules : List Rule) (names : List ℕ) (l : List ℕ) (p : Page) (q : YearDays) (e : daysAre q ≡ yearDays c y) where
   year-is : {d : Option (ℕ × ℕ)} → daysAre q ≡ d → daysPage c y rules names d (sheet l p) ≡ yearPage c y rules names (sheet l p)

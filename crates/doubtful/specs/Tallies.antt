@@ -19,10 +19,6 @@ pageWith o = record { out = o; headed = false; near = 0; first = 0; second = 0; 
 abbrev pub firstPage : Page
 firstPage = pageWith (record { at = 0; begun = false; failed = false })
 
--- other things are written since, under the heading of a year or before that
-abbrev pub withOut : Bool → Page → Out → Page
-withOut headed p o = record { out = o; headed = headed; near = p .near; first = p .first; second = p .second; empty = p .empty }
-
 -- ---- counts
 
 -- whether the year has its heading; the new moons near a boundary, of these those on a month's first day; those that open nothing; and the lunar

@@ -1,22 +1,18 @@
 -- What a BS year puts on a page: its heading once, its doubtful new moons, and its lunar months that no new moon opens. Assumes nothing.
-use Prim.Native.Nat.{ℕ, zero, suc, _+_, _-_, _<_}
-use mathlib.Core.Bool.{Bool, true, false, cond, _&&_}
-use mathlib.Core.Path.{_≡_}
+use Prim.Native.Nat.{ℕ, zero, suc, _+_}
+use mathlib.Core.Bool.{Bool, true, false, cond}
 use mathlib.Core.List.{List, [], _∷_, _++_}
 use mathlib.Core.Option.{Option, some, none}
 use lib.Dec.{eqb}
-use lib.ListN.{getD}
 use lib.Ieee.{Float, eq}
 use Rattle.paper.specs.Answers.{Answer, answered, refused}
 use Rattle.output.specs.Gathered.{Gathered, gathered}
 use Rattle.conversion.specs.declared.BsDate.{BsDate}
-use Rattle.conversion.specs.Calendar.{Calendar, monthOk, monthLen}
+use Rattle.conversion.specs.Calendar.{Calendar, monthLen}
 use Rattle.rules.specs.declared.Rule.{Rule}
 use Rattle.rules.specs.Days.{holds}
-use Rattle.rules.specs.Festivals.{opening}
-use Rattle.festivals.specs.Kathmandu.{moonsAround, kathmandu}
-use Rattle.festivals.specs.Months.{yearDays, monthAt}
-use Rattle.festivals.specs.declared.months.Months.{Months}
+use Rattle.festivals.specs.Kathmandu.{moonsAround, openingIn}
+use Rattle.festivals.specs.Months.{yearDays}
 use Rattle.notes.specs.Near.{datedMoon, nearness}
 use Rattle.output.specs.Pieces.{Text, putPieces}
 use Rattle.notes.specs.Lines.{momentPieces, openingPieces, nonePieces, rulesPieces, besidePieces}
@@ -68,15 +64,11 @@ module _ (rules : List Rule) (names : List ℕ) (y : ℕ) where
 module _ (c : Calendar) (y : ℕ) where
   -- a new moon is the one that opens lunar month m
   unfoldable pub opensMonth : ℕ → Float → Bool
-  opensMonth m x = holds (opening kathmandu c y m) (λ o. eq o x)
+  opensMonth m x = holds (openingIn c y m) (λ o. eq o x)
 
   -- a new moon opens the lunar month of place j
   unfoldable pub openedAt : ℕ → Bool
-  openedAt j = holds (opening kathmandu c y (j + 1)) (λ o. true)
-
-  -- these are the new moons that open the months of the year
-  abbrev pub Opened : Months → Type 0
-  Opened m = (j : ℕ) → j < 12 → monthAt m j ≡ opening kathmandu c y (j + 1)
+  openedAt j = holds (openingIn c y (j + 1)) (λ o. true)
 
   module _ (rules : List Rule) (names : List ℕ) where
     -- a new moon of day n, which is t, by the length of its month
@@ -120,13 +112,3 @@ module _ (c : Calendar) (rules : List Rule) (names : List ℕ) where
   unfoldable pub yearsPage : ℕ → ℕ → Sheet → Sheet
   yearsPage y zero s = s
   yearsPage y (suc k) s = yearsPage (y + 1) k (yearPage c y rules names s)
-
--- ---- what the twelve places of a year say
-
--- place j has a new moon
-abbrev pub hasPlace : Months → ℕ → Bool
-hasPlace m j = getD (m .has) j false
-
--- a new moon is the one at a month's place
-unfoldable pub opensPlace : Months → ℕ → Float → Bool
-opensPlace m month x = monthOk month && holds (monthAt m (month - 1)) (λ o. eq o x)

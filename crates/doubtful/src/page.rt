@@ -3,7 +3,8 @@ use output::Out;
 ghost use mathlib.Core.Path.{_≡_};
 ghost use mathlib.Core.Bool.{true, false};
 ghost use Rattle.output.specs.Pieces.{Puts};
-ghost use Rattle.doubtful.specs.Tallies.{oneMore, firstPage, pageWith, withOut, tallyOf, withHeading, moreIf, doubted, headingPieces, nearPieces, countPieces};
+ghost use Rattle.doubtful.specs.Inner.{withOut};
+ghost use Rattle.doubtful.specs.Tallies.{oneMore, firstPage, pageWith, tallyOf, withHeading, moreIf, doubted, headingPieces, nearPieces, countPieces};
 
 // What is written, whether the year of the lines has its heading, and how many new moons are near a boundary, of these on a month's first day; how many
 // open nothing; and how many lunar months none opens.
@@ -70,7 +71,7 @@ fn written(p: Page, o: Out) -> Page
 }
 
 // The heading of a year, once.
-pub fn head(p: Page, out: &mut [u8], year: u16) -> Page
+pub fn put_heading(p: Page, out: &mut [u8], year: u16) -> Page
     ensures { λ r. ⌜ Puts (now (out .entry)) (p .out) (headingPieces (p .headed) year) (now (out .exit)) (r .out) ⌝ }
     ensures { λ r. ⌜ tallyOf r ≡ withHeading true (tallyOf p) ⌝ }
 {
@@ -112,7 +113,7 @@ pub fn unheaded(p: Page) -> Page
 }
 
 // How many new moons are near a boundary.
-fn put_near(p: Page, o: Out, out: &mut [u8]) -> Out
+fn put_near_counts(p: Page, o: Out, out: &mut [u8]) -> Out
     ensures { λ r. ⌜ Puts (now (out .entry)) o (nearPieces (p .near) (p .first)) (now (out .exit)) r ⌝ }
 {
     let a = output::put_number(o, out, p.near as u64);
@@ -129,7 +130,7 @@ fn put_near(p: Page, o: Out, out: &mut [u8]) -> Out
 pub fn put_counts(p: Page, o: Out, out: &mut [u8]) -> Out
     ensures { λ r. ⌜ Puts (now (out .entry)) o (countPieces (tallyOf p)) (now (out .exit)) r ⌝ }
 {
-    let a = put_near(p, o, out);
+    let a = put_near_counts(p, o, out);
     let b = output::put_labelled(a, out, b"new moons that open nothing ", p.second as u64);
     let c = output::put_labelled(
         b,

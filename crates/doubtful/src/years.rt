@@ -16,10 +16,11 @@ ghost use Prim.Native.Nat.{_+_, _-_, _≤_};
 ghost use lib.ListN.{length, take};
 ghost use Rattle.rules.specs.Rules.{rulesOf};
 ghost use Rattle.conversion.specs.Flat.{accepted, flat};
-ghost use Rattle.doubtful.specs.Years.{sheet, datedLine, monthLine, monthLines, Opened, placedLine, moonLine, moonLines, yearPage, yearsPage, hasPlace, opensPlace};
+ghost use Rattle.doubtful.specs.Inner.{Opened, hasPlace, opensPlace};
+ghost use Rattle.doubtful.specs.Years.{sheet, datedLine, monthLine, monthLines, placedLine, moonLine, moonLines, yearPage, yearsPage};
 
 // A new moon on a date of a month of len days, if it is doubtful.
-fn put_dated(
+fn put_dated_moon(
     p: Page,
     out: &mut [u8],
     x: UtDay,
@@ -34,7 +35,7 @@ fn put_dated(
 {
     match notes::near(x, n, date.day, len) {
         Nearness::Beside(after, minutes) => {
-            let h = page::head(p, out, date.year);
+            let h = page::put_heading(p, out, date.year);
             let g = h.out;
             let o = notes::put_moment(g, out, x, n);
             let b = notes::put_beside(o, out, date, opens, after, minutes, rules, names);
@@ -44,7 +45,7 @@ fn put_dated(
             if opens {
                 return p;
             }
-            let h = page::head(p, out, date.year);
+            let h = page::put_heading(p, out, date.year);
             let g = h.out;
             let o = notes::put_moment(g, out, x, n);
             let b = notes::put_opening(o, out, date, opens);
@@ -68,7 +69,7 @@ fn opens_month(m: Months, month: u16, x: f64) -> bool
 }
 
 // A new moon on a date of the year, if it is doubtful.
-fn put_placed(
+fn put_placed_moon(
     p: Page,
     out: &mut [u8],
     table: Table,
@@ -87,10 +88,9 @@ fn put_placed(
     match conversion::month_days(table, rows, date.year, date.month) {
         MonthDays::Days(len) => {
             let opens = opens_month(m, date.month, x.0);
-            put_dated(p, out, x, n, date, len, opens, rules, names)
+            put_dated_moon(p, out, x, n, date, len, opens, rules, names)
         }
-        MonthDays::NoYear => p,
-        MonthDays::NoMonth => p,
+        MonthDays::Refused(_) => p,
     }
 }
 
@@ -115,7 +115,7 @@ fn put_moon(
     if date.year != year {
         return p;
     }
-    put_placed(p, out, table, rows, year, x, n, date, m, rules, names)
+    put_placed_moon(p, out, table, rows, year, x, n, date, m, rules, names)
 }
 
 // The doubtful ones of the first n new moons that were found around a year.
@@ -146,7 +146,7 @@ fn put_moons(
 }
 
 // A lunar month of the year, unless a new moon opens it.
-fn put_unopened(
+fn put_unopened_month(
     p: Page,
     out: &mut [u8],
     opened: bool,
@@ -160,7 +160,7 @@ fn put_unopened(
     if opened {
         return p;
     }
-    let h = page::head(p, out, year);
+    let h = page::put_heading(p, out, year);
     let o = h.out;
     let a = notes::put_no_moon(o, out, year, month);
     let b = notes::put_month_rules(a, out, month, rules, names);
@@ -175,7 +175,14 @@ fn put_unopened(
 }
 
 // The lunar months of the year that no new moon opens.
-fn put_empty(p: Page, out: &mut [u8], year: u16, m: Months, rules: &[u16], names: &[u8]) -> Page
+fn put_unopened_months(
+    p: Page,
+    out: &mut [u8],
+    year: u16,
+    m: Months,
+    rules: &[u16],
+    names: &[u8],
+) -> Page
     ensures { λ r. ⌜ sheet (now (out .exit)) r ≡ monthLines (rulesOf (now (rules .entry))) (now (names .entry)) year (hasPlace m) 0 12 (sheet (now (out .entry)) p) ⌝ }
 {
     let mut q = p;
@@ -183,7 +190,7 @@ fn put_empty(p: Page, out: &mut [u8], year: u16, m: Months, rules: &[u16], names
     while j < 12 {
         let k = j as usize;
         let opened = m.has[k];
-        q = put_unopened(q, out, opened, year, j + 1, rules, names);
+        q = put_unopened_month(q, out, opened, year, j + 1, rules, names);
         j += 1;
     }
     q
@@ -207,7 +214,7 @@ pub fn put_year(
         return p;
     };
     let n = months::new_moons(first, last, &mut found);
-    let m = months::lunar_months(table, rows, year);
+    let m = months::months_of(table, rows, year, &found, n);
     let q = put_moons(
         page::unheaded(p),
         out,
@@ -220,7 +227,7 @@ pub fn put_year(
         rules,
         names,
     );
-    put_empty(q, out, year, m, rules, names)
+    put_unopened_months(q, out, year, m, rules, names)
 }
 
 // The years of an accepted table from one to another.

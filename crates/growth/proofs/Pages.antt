@@ -17,26 +17,26 @@ use Rattle.output.specs.Pieces.{Text, Puts}
 use Rattle.doubtful.specs.declared.page.Page.{Page}
 use Rattle.doubtful.specs.Tallies.{tallyOf, pageWith, countPieces}
 use Rattle.doubtful.specs.Years.{sheet, yearsPage}
-use Rattle.growth.specs.Growth.{lastYear, linePieces, betweenPieces, spanPieces, tablesPieces, gainedPieces, counted, foundPage, addedPage, grownPage}
+use Rattle.growth.specs.Growth.{lastYear, linePieces, betweenPieces, yearsPieces, tablesPieces, gainedPieces, counted, foundPage, addedPage, grownPage}
 
 -- ---- the years from one to another
 
 module _ (c : Calendar) (label : Text) (year last : ℕ) (q : YearDays) (e : daysAre q ≡ yearDays c year) where
-  from-first : {d : Option (ℕ × ℕ)} → daysAre q ≡ d → betweenPieces label year last d (yearDays c last) ≡ spanPieces c label year last
-  unfolding spanPieces
+  from-first : {d : Option (ℕ × ℕ)} → daysAre q ≡ d → betweenPieces label year last d (yearDays c last) ≡ yearsPieces c label year last
+  unfolding yearsPieces
   from-first g = ap (λ (d : Option (ℕ × ℕ)). betweenPieces label year last d (yearDays c last)) (sym g ∙ e)
 
-  pub no-first : q ≡ YD.Nothing → [] ≡ spanPieces c label year last
+  pub no-first : q ≡ YD.Nothing → [] ≡ yearsPieces c label year last
   no-first g = from-first (ap daysAre g)
 
   module _ {a b : ℕ} (g : q ≡ YD.Days a b) (r : YearDays) (f : daysAre r ≡ yearDays c last) where
-    to-last : {d : Option (ℕ × ℕ)} → daysAre r ≡ d → betweenPieces label year last (some (a, b)) d ≡ spanPieces c label year last
+    to-last : {d : Option (ℕ × ℕ)} → daysAre r ≡ d → betweenPieces label year last (some (a, b)) d ≡ yearsPieces c label year last
     to-last h = ap (betweenPieces label year last (some (a, b))) (sym h ∙ f) ∙ from-first (ap daysAre g)
 
-    pub no-last : r ≡ YD.Nothing → [] ≡ spanPieces c label year last
+    pub no-last : r ≡ YD.Nothing → [] ≡ yearsPieces c label year last
     no-last h = to-last (ap daysAre h)
 
-    pub span-is : {x y : ℕ} → r ≡ YD.Days x y → linePieces label year last a y ≡ spanPieces c label year last
+    pub span-is : {x y : ℕ} → r ≡ YD.Days x y → linePieces label year last a y ≡ yearsPieces c label year last
     span-is h = to-last (ap daysAre h)
 
 -- ---- the page

@@ -42,14 +42,14 @@ betweenPieces label year last (some d) none = []
 betweenPieces label year last (some d) (some e) = linePieces label year last (d .0) (e .1)
 
 -- years of a table from one to another
-unfoldable pub spanPieces : Calendar → Text → ℕ → ℕ → List Text
-spanPieces c label year last = betweenPieces label year last (yearDays c year) (yearDays c last)
+unfoldable pub yearsPieces : Calendar → Text → ℕ → ℕ → List Text
+yearsPieces c label year last = betweenPieces label year last (yearDays c year) (yearDays c last)
 
 -- all the years of both tables
 unfoldable pub tablesPieces : Calendar → Calendar → List Text
 tablesPieces old new =
-    spanPieces old (bytes "OLD: accepted, BS ") (old .first) (lastYear old)
-    ++ spanPieces new (bytes "NEW: accepted, BS ") (new .first) (lastYear new)
+    yearsPieces old (bytes "OLD: accepted, BS ") (old .first) (lastYear old)
+    ++ yearsPieces new (bytes "NEW: accepted, BS ") (new .first) (lastYear new)
 
 -- ---- what stays and what is new
 
@@ -68,7 +68,7 @@ newPieces =
 
 -- years that are gained, and both
 unfoldable pub gainedPieces : Calendar → ℕ → ℕ → List Text
-gainedPieces new year last = spanPieces new (bytes "Added: BS ") year last ++ (samePieces ++ newPieces)
+gainedPieces new year last = yearsPieces new (bytes "Added: BS ") year last ++ (samePieces ++ newPieces)
 
 -- ---- the page
 

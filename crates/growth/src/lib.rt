@@ -9,7 +9,7 @@ ghost use Rattle.output.specs.Gathered.{gathered};
 ghost use Rattle.conversion.specs.Flat.{accepted, flat};
 ghost use Rattle.rules.specs.Rules.{rulesOf};
 ghost use Rattle.output.specs.Pieces.{Puts};
-ghost use Rattle.growth.specs.Growth.{sameFirst, lastYear, daysPieces, linePieces, spanPieces, tablesPieces, samePieces, newPieces, gainedPieces, addedPage, grownPage};
+ghost use Rattle.growth.specs.Growth.{sameFirst, lastYear, daysPieces, linePieces, yearsPieces, tablesPieces, samePieces, newPieces, gainedPieces, addedPage, grownPage};
 
 // Whether two tables begin with the same year and day.
 pub fn same_first(a: Table, b: Table) -> bool
@@ -23,11 +23,11 @@ fn last_year(table: Table, rows: &[u16]) -> u16
     requires { ⌜ accepted table (now rows) ≡ true ⌝ }
     ensures { λ r. ⌜ r ≡ lastYear (flat table (now (rows .entry))) ⌝ }
 {
-    table.first_year + (rows.len() / 13 - 1) as u16
+    table.first_year + (conversion::year_count(rows) - 1) as u16
 }
 
 // From one day to another.
-fn put_days(o: Out, out: &mut [u8], first: u32, last: u32) -> Out
+fn put_first_to_last(o: Out, out: &mut [u8], first: u32, last: u32) -> Out
     ensures { λ r. ⌜ Puts (now (out .entry)) o (daysPieces first last) (now (out .exit)) r ⌝ }
 {
     let a = output::put_text(o, out, b", ");
@@ -37,7 +37,7 @@ fn put_days(o: Out, out: &mut [u8], first: u32, last: u32) -> Out
 }
 
 // One line on years and their days.
-fn put_line(
+fn put_years_line(
     o: Out,
     out: &mut [u8],
     label: &[u8],
@@ -50,12 +50,12 @@ fn put_line(
 {
     let a = output::put_labelled(o, out, label, year as u64);
     let b = output::put_labelled(a, out, b" to ", last as u64);
-    let c = put_days(b, out, first_day, last_day);
+    let c = put_first_to_last(b, out, first_day, last_day);
     output::put_text(c, out, b"\n")
 }
 
 // One line on the years of an accepted table from one to another.
-fn put_span(
+fn put_years_of(
     o: Out,
     out: &mut [u8],
     label: &[u8],
@@ -65,7 +65,7 @@ fn put_span(
     last: u16,
 ) -> Out
     requires { ⌜ accepted table (now rows) ≡ true ⌝ }
-    ensures { λ r. ⌜ Puts (now (out .entry)) o (spanPieces (flat table (now (rows .entry))) (now (label .entry)) year last) (now (out .exit)) r ⌝ }
+    ensures { λ r. ⌜ Puts (now (out .entry)) o (yearsPieces (flat table (now (rows .entry))) (now (label .entry)) year last) (now (out .exit)) r ⌝ }
 {
     let YearDays::Days(first_day, _) = months::year_days(table, rows, year) else {
         return o;
@@ -73,16 +73,16 @@ fn put_span(
     let YearDays::Days(_, last_day) = months::year_days(table, rows, last) else {
         return o;
     };
-    put_line(o, out, label, year, last, first_day, last_day)
+    put_years_line(o, out, label, year, last, first_day, last_day)
 }
 
 // The lines on both tables.
-fn put_tables(o: Out, out: &mut [u8], table: Table, old: &[u16], new: &[u16]) -> Out
+fn put_both_tables(o: Out, out: &mut [u8], table: Table, old: &[u16], new: &[u16]) -> Out
     requires { ⌜ (accepted table (now old) ≡ true) × (accepted table (now new) ≡ true) ⌝ }
     ensures { λ r. ⌜ Puts (now (out .entry)) o (tablesPieces (flat table (now (old .entry))) (flat table (now (new .entry)))) (now (out .exit)) r ⌝ }
 {
     let first = table.first_year;
-    let a = put_span(
+    let a = put_years_of(
         o,
         out,
         b"OLD: accepted, BS ",
@@ -91,7 +91,7 @@ fn put_tables(o: Out, out: &mut [u8], table: Table, old: &[u16], new: &[u16]) ->
         first,
         last_year(table, old),
     );
-    put_span(
+    put_years_of(
         a,
         out,
         b"NEW: accepted, BS ",
@@ -103,7 +103,7 @@ fn put_tables(o: Out, out: &mut [u8], table: Table, old: &[u16], new: &[u16]) ->
 }
 
 // What stays, and by which theorem.
-fn put_same(o: Out, out: &mut [u8]) -> Out
+fn put_what_stays(o: Out, out: &mut [u8]) -> Out
     ensures { λ r. ⌜ Puts (now (out .entry)) o samePieces (now (out .exit)) r ⌝ }
 {
     let a = output::put_text(
@@ -124,7 +124,7 @@ fn put_same(o: Out, out: &mut [u8]) -> Out
 }
 
 // What is new, and by which theorem.
-fn put_new(o: Out, out: &mut [u8]) -> Out
+fn put_what_is_new(o: Out, out: &mut [u8]) -> Out
     ensures { λ r. ⌜ Puts (now (out .entry)) o newPieces (now (out .exit)) r ⌝ }
 {
     let a = output::put_text(
@@ -136,17 +136,17 @@ fn put_new(o: Out, out: &mut [u8]) -> Out
 }
 
 // The years from one to another as gained, and what cannot have changed.
-fn put_gained(o: Out, out: &mut [u8], table: Table, new: &[u16], year: u16, last: u16) -> Out
+fn put_gained_years(o: Out, out: &mut [u8], table: Table, new: &[u16], year: u16, last: u16) -> Out
     requires { ⌜ accepted table (now new) ≡ true ⌝ }
     ensures { λ r. ⌜ Puts (now (out .entry)) o (gainedPieces (flat table (now (new .entry))) year last) (now (out .exit)) r ⌝ }
 {
-    let a = put_span(o, out, b"Added: BS ", table, new, year, last);
-    let b = put_same(a, out);
-    put_new(b, out)
+    let a = put_years_of(o, out, b"Added: BS ", table, new, year, last);
+    let b = put_what_stays(a, out);
+    put_what_is_new(b, out)
 }
 
 // The years after one, up to the last: what cannot have changed, the doubtful new moons, and how many there are.
-fn put_added(
+fn put_added_years(
     o: Out,
     out: &mut [u8],
     table: Table,
@@ -163,7 +163,7 @@ fn put_added(
         return output::put_text(o, out, b"Added: nothing\n");
     }
     let next = year + 1;
-    let a = put_gained(o, out, table, new, next, last);
+    let a = put_gained_years(o, out, table, new, next, last);
     let p = doubtful::put_years(
         doubtful::page_with(a),
         out,
@@ -179,7 +179,7 @@ fn put_added(
 }
 
 // The page on an accepted table and the same with rows added.
-pub fn put_page(
+pub fn put_growth(
     o: Out,
     out: &mut [u8],
     table: Table,
@@ -191,8 +191,8 @@ pub fn put_page(
     requires { ⌜ (accepted table (now old) ≡ true) × (accepted table (now new) ≡ true) ⌝ }
     ensures { λ r. ⌜ gathered (now (out .exit)) r ≡ grownPage (flat table (now (new .entry))) (rulesOf (now (rules .entry))) (now (names .entry)) (flat table (now (old .entry))) (gathered (now (out .entry)) o) ⌝ }
 {
-    let a = put_tables(o, out, table, old, new);
+    let a = put_both_tables(o, out, table, old, new);
     let year = last_year(table, old);
     let last = last_year(table, new);
-    put_added(a, out, table, new, year, last, rules, names)
+    put_added_years(a, out, table, new, year, last, rules, names)
 }

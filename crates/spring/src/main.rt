@@ -6,27 +6,29 @@ use libc::STDERR_FILENO;
 use tables::Broken;
 ghost use mathlib.Core.Path.{_≡_};
 ghost use mathlib.Core.Bool.{true};
+ghost use Prim.Native.Nat.{_≤_};
+ghost use lib.ListN.{length};
 ghost use Rattle.conversion.specs.Flat.{accepted};
-
-// The first n bytes of a line, on standard error.
-fn complain(line: &[u8], n: usize) {
-    if n <= line.len() {
-        io::write_all(STDERR_FILENO, &line[..n]);
-    }
-}
 
 // The refusal of a table and the first rule that it breaks, on standard error.
 fn report_broken(which: &[u8], table: Table, b: Broken) {
     let mut line = [0u8; 256];
     let n = tables::put_broken_line(&mut line, 0, which, table, b);
-    complain(&line, n);
+    io::write_all(STDERR_FILENO, &line[..n]);
 }
 
 // The first row that NEW has not as OLD has it, on standard error.
 fn report_change(table: Table, i: usize) {
     let mut line = [0u8; 256];
     let n = tables::put_change_line(&mut line, 0, table, i);
-    complain(&line, n);
+    io::write_all(STDERR_FILENO, &line[..n]);
+}
+
+// The row of a table in which number n stands.
+fn row_at(rows: &[u16], n: usize) -> usize
+    requires { ⌜ n ≤ length (now rows) ⌝ }
+{
+    conversion::year_count(&rows[..n])
 }
 
 // The page on a table and the same with more rows, on standard output.
@@ -35,7 +37,7 @@ fn write_page(table: Table, old: &[u16], new: &[u16], rules: &[u16], names: &[u8
 {
     let p = doubtful::begin();
     let o = p.out;
-    let a = growth::put_page(o, out, table, old, new, rules, names);
+    let a = growth::put_growth(o, out, table, old, new, rules, names);
     a.finish(out);
 }
 
@@ -45,7 +47,7 @@ fn answer_both(table: Table, old: &[u16], new: &[u16], rules: &[u16], names: &[u
 {
     let n = tables::shared(old, new);
     if n < old.len() {
-        report_change(table, n / 13);
+        report_change(table, row_at(old, n));
         return;
     }
     if !rules::accepts_rules(rules) {
@@ -98,44 +100,12 @@ fn answer(
     report_broken(b"OLD", table, tables::first_broken(table, old));
 }
 
-// The same with the parts of the lent buffers that were read.
-fn answer_parts(
-    old_table: Table,
-    old: &[u16],
-    n: usize,
-    new_table: Table,
-    new: &[u16],
-    m: usize,
-    rules: &[u16],
-    k: usize,
-    names: &[u8],
-    out: &mut [u8],
-) {
-    if n <= old.len() {
-        if m <= new.len() {
-            if k <= rules.len() {
-                answer(
-                    old_table,
-                    &old[..n],
-                    new_table,
-                    &new[..m],
-                    &rules[..k],
-                    names,
-                    out,
-                );
-            }
-        }
-    }
-}
-
-// The answer over the tables that were read and the rules that are asked.
+// Reads the rules that are asked, and answers over them and two tables.
 fn answer_with(
-    old_table: Table,
+    table: Table,
     old: &[u16],
-    n: usize,
     new_table: Table,
     new: &[u16],
-    m: usize,
     count: usize,
     rules: &mut [u16],
     names: &mut [u8],
@@ -144,28 +114,27 @@ fn answer_with(
     let RulesRead::Are(k) = files::rules_asked(3, count, rules, names) else {
         return;
     };
-    answer_parts(old_table, old, n, new_table, new, m, rules, k, names, out);
+    answer(table, old, new_table, new, &rules[..k], names, out);
 }
 
+// Reads the tables that the arguments name, and answers over the parts of the lent buffers that were read.
 fn run(old: &mut [u16], new: &mut [u16], rules: &mut [u16], names: &mut [u8], out: &mut [u8]) {
     let count = os::arg_count();
     if (count != 3) & (count != 4) {
         io::write_all(STDERR_FILENO, b"expected arguments: OLD NEW [RULES]\n");
         return;
     }
-    let TableRead::Is(old_table, n) = files::table_at(1, old) else {
+    let TableRead::Is(table, n) = files::table_at(1, old) else {
         return;
     };
     let TableRead::Is(new_table, m) = files::table_at(2, new) else {
         return;
     };
     answer_with(
-        old_table,
-        old,
-        n,
+        table,
+        &old[..n],
         new_table,
-        new,
-        m,
+        &new[..m],
         count,
         rules,
         names,

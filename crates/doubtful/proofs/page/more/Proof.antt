@@ -5,9 +5,6 @@ use borrow.Author.Needs.{needs}
 use Rattle.doubtful.proofs.page.more.Statement.{statement}
 use Rattle.doubtful.proofs.page.more.Tie as tie
 
-add-result : tie.Need-add-result
-add-result c = search needs
-
 returns : tie.Need-returns
 unfolding oneMore
 returns c = rw (lt-ltb (c .before .args .n) 4000000000 (c .if1 .taken))
@@ -17,4 +14,4 @@ unfolding oneMore
 returns-2 c = rw (le-ltb (c .before .args .n) 4000000000 (c .if1 .left))
 
 pub more-spec : {M : Type 1} → statement M
-more-spec = tie.close (tie.spec add-result returns returns-2)
+more-spec = tie.close (tie.spec (λ c. search needs) returns returns-2)

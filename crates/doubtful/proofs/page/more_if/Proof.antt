@@ -3,9 +3,6 @@ use borrow.Author.Needs.{needs}
 use Rattle.doubtful.proofs.page.more_if.Statement.{statement}
 use Rattle.doubtful.proofs.page.more_if.Tie as tie
 
-more-requires : tie.Need-more-requires
-more-requires c κs = search needs
-
 returns : tie.Need-returns
 returns c = rw (c .before .if1 .taken) (c .more .ensures)
 
@@ -13,4 +10,4 @@ returns-2 : tie.Need-returns-2
 returns-2 c = rw (c .if1 .left)
 
 pub more-if-spec : {M : Type 1} → statement M
-more-if-spec = tie.close (tie.spec more-requires returns returns-2)
+more-if-spec = tie.close (tie.spec (λ c κs. search needs) returns returns-2)

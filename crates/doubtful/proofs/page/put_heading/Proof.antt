@@ -15,8 +15,8 @@ returns-2 : tie.Need-returns-2
 unfolding headingPieces
 returns-2 c = (puts-out (ap (λ (q : Page). q .out) (c .written .ensures)) (rw (c .before .before .before .before .before .before .before .before .before .before .before .before .if1 .left) (then (c .before .before .before .before .before .before .before .before .put-labelled .ensures) (c .before .before .before .put-text .ensures))), ap tallyOf (c .written .ensures))
 
-pub put_heading-spec : {M : Type 1} → statement M
-put_heading-spec =
+pub put-heading-spec : {M : Type 1} → statement M
+put-heading-spec =
     tie.close
     (tie.spec
     returns (λ c. search needs) (λ c κs. search needs) (λ c. search needs) (λ c κs. search needs)

@@ -5,18 +5,9 @@ use borrow.Author.Needs.{needs}
 use Rattle.doubtful.proofs.page.tallied.Statement.{statement}
 use Rattle.doubtful.proofs.page.tallied.Tie as tie
 
-more-if-requires : tie.Need-more-if-requires
-more-if-requires c κs = search needs
-
-more-if-requires-2 : tie.Need-more-if-requires-2
-more-if-requires-2 c κs = search needs
-
-more-if-requires-3 : tie.Need-more-if-requires-3
-more-if-requires-3 c κs = search needs
-
 returns : tie.Need-returns
 unfolding doubted
 returns c = (refl, rw (c .before .before .more-if .ensures, c .before .more-if2 .ensures, c .more-if3 .ensures))
 
 pub tallied-spec : {M : Type 1} → statement M
-tallied-spec = tie.close (tie.spec more-if-requires more-if-requires-2 more-if-requires-3 returns)
+tallied-spec = tie.close (tie.spec (λ c κs. search needs) (λ c κs. search needs) (λ c κs. search needs) returns)

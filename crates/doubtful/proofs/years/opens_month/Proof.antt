@@ -10,18 +10,6 @@ returns c = opens-before (c .before .args .t1) (c .before .args .month) (c .befo
 returns-2 : tie.Need-returns-2
 returns-2 c = opens-after (c .before .before .args .t1) (c .before .before .args .month) (c .before .before .args .x) (c .before .if1 .left) (c .if2 .taken)
 
-cast-j : tie.Need-cast-j
-cast-j c = search needs
-
-element-copy-out-result : tie.Need-element-copy-out-result
-element-copy-out-result c = search needs
-
-mul-result : tie.Need-mul-result
-mul-result c = search needs
-
-element-copy-out-result-2 : tie.Need-element-copy-out-result-2
-element-copy-out-result-2 c = search needs
-
 returns-3 : tie.Need-returns-3
 returns-3 c = opens-read (c .before .before .before .before .args .t1) (c .before .before .before .before .args .month) (c .before .before .before .before .args .x) (c .before .before .before .if1 .left) (c .before .before .if2 .left)
 
@@ -29,10 +17,4 @@ pub opens-month-spec : {M : Type 1} → statement M
 opens-month-spec =
     tie.close
     (tie.spec
-    returns
-    returns-2
-    cast-j
-    element-copy-out-result
-    mul-result
-    element-copy-out-result-2
-    returns-3)
+    returns returns-2 (λ c. search needs) (λ c. search needs) (λ c. search needs) (λ c. search needs) returns-3)

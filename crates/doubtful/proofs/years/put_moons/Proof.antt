@@ -22,26 +22,11 @@ abbrev μ-loop : tie.MeasureT-loop
 loop-holds : tie.Need-loop-holds Inv-loop μ-loop
 loop-holds c = (search needs, refl, refl)
 
-mul-t15 : tie.Need-mul-t15 Inv-loop μ-loop
-mul-t15 c = search needs
-
-element-copy-out-t18 : tie.Need-element-copy-out-t18 Inv-loop μ-loop
-element-copy-out-t18 c = search needs
-
 put-moon-requires : tie.Need-put-moon-requires Inv-loop μ-loop
 put-moon-requires c κs = c .before .before .before .before .before .before .before .before .pre .0
 
-add-i : tie.Need-add-i Inv-loop μ-loop
-add-i c = search needs
-
-loop-less : tie.Need-loop-less Inv-loop μ-loop
-loop-less c = search needs
-
 loop-again : tie.Need-loop-again Inv-loop μ-loop
 loop-again c = (search needs, search needs, moons-turn _ _ _ _ (c .before .before .before .before .before .before .before .before .before .before .before .args .found .now) (c .before .before .before .before .before .before .loop .i) (c .before .before .before .before .before .before .before .before .before .before .before .args .n) (c .before .before .before .before .before .loop-test .taken) (omega (arith, c .before .before .before .before .before .before .before .before .before .before .before .pre .1 .0, c .before .before .before .before .before .before .before .before .before .before .before .pre .1 .1)) _ _ _ (c .before .before .put-moon .ensures) (c .before .before .before .before .before .before .loop .inv .2))
-
-same-length : tie.Need-same-length Inv-loop μ-loop
-same-length c = search needs
 
 returns : tie.Need-returns Inv-loop μ-loop
 returns c = moons-end _ _ _ _ (c .before .before .before .before .before .before .args .found .now) (c .before .loop .i) (c .before .before .before .before .before .before .args .n) _ _ (c .before .loop .inv .0) (c .loop-test .left) (c .before .loop .inv .2)
@@ -50,14 +35,5 @@ pub put-moons-spec : {M : Type 1} → statement M
 put-moons-spec =
     tie.close
     (tie.spec
-    Inv-loop
-    μ-loop
-    loop-holds
-    mul-t15
-    element-copy-out-t18
-    put-moon-requires
-    add-i
-    loop-less
-    loop-again
-    same-length
-    returns)
+    Inv-loop μ-loop loop-holds (λ c. search needs) (λ c. search needs) put-moon-requires (λ c. search needs)
+    (λ c. search needs) loop-again (λ c. search needs) returns)

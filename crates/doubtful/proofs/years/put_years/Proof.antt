@@ -23,23 +23,8 @@ returns c = years-none _ _ _ _ _ _ (c .if1 .taken)
 loop-holds : tie.Need-loop-holds Inv-loop μ-loop
 loop-holds c = (search needs, refl, refl)
 
-put-year-requires : tie.Need-put-year-requires Inv-loop μ-loop
-put-year-requires c κs = search needs
-
-add-year : tie.Need-add-year Inv-loop μ-loop
-add-year c = search needs
-
-loop-less : tie.Need-loop-less Inv-loop μ-loop
-loop-less c = search needs
-
 loop-again : tie.Need-loop-again Inv-loop μ-loop
 loop-again c = (search needs, search needs, years-turn _ _ _ (c .before .before .before .before .before .loop .year) (c .before .before .before .before .before .before .before .before .before .before .before .args .last) (c .before .before .before .before .before .loop .inv .0) _ _ _ (c .before .before .put-year .ensures) (c .before .before .before .before .before .loop .inv .2))
-
-put-year-requires-2 : tie.Need-put-year-requires-2 Inv-loop μ-loop
-put-year-requires-2 c κs = search needs
-
-same-length : tie.Need-same-length Inv-loop μ-loop
-same-length c = search needs
 
 returns-2 : tie.Need-returns-2 Inv-loop μ-loop
 returns-2 c = years-last _ _ _ (c .before .before .before .before .before .loop .year) (c .before .before .before .before .before .before .before .before .before .before .before .args .last) (c .before .before .before .before .before .loop .inv .0) (c .before .before .before .before .loop-test .left) _ _ _ (c .before .before .put-year2 .ensures) (c .before .before .before .before .before .loop .inv .2)
@@ -48,14 +33,5 @@ pub put-years-spec : {M : Type 1} → statement M
 put-years-spec =
     tie.close
     (tie.spec
-    Inv-loop
-    μ-loop
-    returns
-    loop-holds
-    put-year-requires
-    add-year
-    loop-less
-    loop-again
-    put-year-requires-2
-    same-length
-    returns-2)
+    Inv-loop μ-loop returns loop-holds (λ c κs. search needs) (λ c. search needs) (λ c. search needs) loop-again
+    (λ c κs. search needs) (λ c. search needs) returns-2)
