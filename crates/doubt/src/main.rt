@@ -39,7 +39,8 @@ fn put_asked_page(
     out: &mut [u8],
 ) -> Out
     requires { ⌜ accepted table (now rows) ≡ true ⌝ }
-    ensures { λ r. ⌜ gathered (now (out .exit)) r ≡ askedPage (flat table (now (rows .entry))) (rulesOf (now (rules .entry))) (now (names .entry)) first last (sheet (now (out .entry)) firstPage) ⌝ }
+    ensures { λ r. ⌜ gathered (now (out .exit)) r ≡ askedPage (flat table (now (rows .entry))) (rulesOf (now (rules .entry)))
+        (now (names .entry)) first last (sheet (now (out .entry)) firstPage) ⌝ }
 {
     let p = doubtful::put_years(
         doubtful::begin(),

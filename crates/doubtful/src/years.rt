@@ -31,7 +31,8 @@ fn put_dated_moon(
     rules: &[u16],
     names: &[u8],
 ) -> Page
-    ensures { λ r. ⌜ sheet (now (out .exit)) r ≡ datedLine (rulesOf (now (rules .entry))) (now (names .entry)) (x .0) «n» date opens len (sheet (now (out .entry)) p) ⌝ }
+    ensures { λ r. ⌜ sheet (now (out .exit)) r ≡ datedLine (rulesOf (now (rules .entry))) (now (names .entry)) (x .0) «n» date opens len
+        (sheet (now (out .entry)) p) ⌝ }
 {
     match notes::near(x, n, date.day, len) {
         Nearness::Beside(after, minutes) => {
@@ -83,7 +84,8 @@ fn put_placed_moon(
     names: &[u8],
 ) -> Page
     requires { ⌜ (accepted table (now rows) ≡ true) × Opened (flat table (now rows)) year m ⌝ }
-    ensures { λ r. ⌜ sheet (now (out .exit)) r ≡ placedLine (flat table (now (rows .entry))) year (rulesOf (now (rules .entry))) (now (names .entry)) (x .0) «n» date (sheet (now (out .entry)) p) ⌝ }
+    ensures { λ r. ⌜ sheet (now (out .exit)) r ≡ placedLine (flat table (now (rows .entry))) year (rulesOf (now (rules .entry))) (now (names .entry))
+        (x .0) «n» date (sheet (now (out .entry)) p) ⌝ }
 {
     match conversion::month_days(table, rows, date.year, date.month) {
         MonthDays::Days(len) => {
@@ -107,7 +109,8 @@ fn put_moon(
     names: &[u8],
 ) -> Page
     requires { ⌜ (accepted table (now rows) ≡ true) × Opened (flat table (now rows)) year m ⌝ }
-    ensures { λ r. ⌜ sheet (now (out .exit)) r ≡ moonLine (flat table (now (rows .entry))) year (rulesOf (now (rules .entry))) (now (names .entry)) (x .0) (sheet (now (out .entry)) p) ⌝ }
+    ensures { λ r. ⌜ sheet (now (out .exit)) r ≡ moonLine (flat table (now (rows .entry))) year (rulesOf (now (rules .entry))) (now (names .entry))
+        (x .0) (sheet (now (out .entry)) p) ⌝ }
 {
     let Dated::On(n, date) = notes::date_of(table, rows, x) else {
         return p;
@@ -133,7 +136,8 @@ fn put_moons(
 ) -> Page
     requires { ⌜ (accepted table (now rows) ≡ true) × Opened (flat table (now rows)) year m ⌝ }
     requires { ⌜ (n ≤ 1024) × (length (now found) ≡ 1024) ⌝ }
-    ensures { λ r. ⌜ sheet (now (out .exit)) r ≡ moonLines (flat table (now (rows .entry))) year (rulesOf (now (rules .entry))) (now (names .entry)) (take «n» (now (found .entry))) (sheet (now (out .entry)) p) ⌝ }
+    ensures { λ r. ⌜ sheet (now (out .exit)) r ≡ moonLines (flat table (now (rows .entry))) year (rulesOf (now (rules .entry))) (now (names .entry))
+        (take «n» (now (found .entry))) (sheet (now (out .entry)) p) ⌝ }
 {
     let mut q = p;
     let mut i = 0;
@@ -155,7 +159,8 @@ fn put_unopened_month(
     rules: &[u16],
     names: &[u8],
 ) -> Page
-    ensures { λ r. ⌜ sheet (now (out .exit)) r ≡ monthLine (rulesOf (now (rules .entry))) (now (names .entry)) year opened month (sheet (now (out .entry)) p) ⌝ }
+    ensures { λ r. ⌜ sheet (now (out .exit)) r ≡ monthLine (rulesOf (now (rules .entry))) (now (names .entry)) year opened month
+        (sheet (now (out .entry)) p) ⌝ }
 {
     if opened {
         return p;
@@ -183,7 +188,8 @@ fn put_unopened_months(
     rules: &[u16],
     names: &[u8],
 ) -> Page
-    ensures { λ r. ⌜ sheet (now (out .exit)) r ≡ monthLines (rulesOf (now (rules .entry))) (now (names .entry)) year (hasPlace m) 0 12 (sheet (now (out .entry)) p) ⌝ }
+    ensures { λ r. ⌜ sheet (now (out .exit)) r ≡ monthLines (rulesOf (now (rules .entry))) (now (names .entry)) year (hasPlace m) 0 12
+        (sheet (now (out .entry)) p) ⌝ }
 {
     let mut q = p;
     let mut j: u16 = 0;
@@ -207,7 +213,8 @@ pub fn put_year(
     names: &[u8],
 ) -> Page
     requires { ⌜ accepted table (now rows) ≡ true ⌝ }
-    ensures { λ r. ⌜ sheet (now (out .exit)) r ≡ yearPage (flat table (now (rows .entry))) year (rulesOf (now (rules .entry))) (now (names .entry)) (sheet (now (out .entry)) p) ⌝ }
+    ensures { λ r. ⌜ sheet (now (out .exit)) r ≡ yearPage (flat table (now (rows .entry))) year (rulesOf (now (rules .entry))) (now (names .entry))
+        (sheet (now (out .entry)) p) ⌝ }
 {
     let mut found = [0.0; 1024];
     let YearDays::Days(first, last) = months::year_days(table, rows, year) else {
@@ -242,7 +249,8 @@ pub fn put_years(
     names: &[u8],
 ) -> Page
     requires { ⌜ accepted table (now rows) ≡ true ⌝ }
-    ensures { λ r. ⌜ sheet (now (out .exit)) r ≡ yearsPage (flat table (now (rows .entry))) (rulesOf (now (rules .entry))) (now (names .entry)) first (last + 1 - first) (sheet (now (out .entry)) p) ⌝ }
+    ensures { λ r. ⌜ sheet (now (out .exit)) r ≡ yearsPage (flat table (now (rows .entry))) (rulesOf (now (rules .entry))) (now (names .entry)) first
+        (last + 1 - first) (sheet (now (out .entry)) p) ⌝ }
 {
     if last < first {
         return p;

@@ -9,7 +9,8 @@ ghost use Rattle.output.specs.Gathered.{gathered};
 ghost use Rattle.conversion.specs.Flat.{accepted, flat};
 ghost use Rattle.rules.specs.Rules.{rulesOf};
 ghost use Rattle.output.specs.Pieces.{Puts};
-ghost use Rattle.growth.specs.Growth.{sameFirst, lastYear, daysPieces, linePieces, yearsPieces, tablesPieces, samePieces, newPieces, gainedPieces, addedPage, grownPage};
+ghost use Rattle.growth.specs.Growth.{sameFirst, lastYear, daysPieces, linePieces, yearsPieces, tablesPieces};
+ghost use Rattle.growth.specs.Growth.{samePieces, newPieces, gainedPieces, addedPage, grownPage};
 
 // Whether two tables begin with the same year and day.
 pub fn same_first(a: Table, b: Table) -> bool
@@ -157,7 +158,8 @@ fn put_added_years(
     names: &[u8],
 ) -> Out
     requires { ⌜ accepted table (now new) ≡ true ⌝ }
-    ensures { λ r. ⌜ gathered (now (out .exit)) r ≡ addedPage (flat table (now (new .entry))) (rulesOf (now (rules .entry))) (now (names .entry)) year last (gathered (now (out .entry)) o) ⌝ }
+    ensures { λ r. ⌜ gathered (now (out .exit)) r ≡ addedPage (flat table (now (new .entry))) (rulesOf (now (rules .entry)))
+        (now (names .entry)) year last (gathered (now (out .entry)) o) ⌝ }
 {
     if last <= year {
         return output::put_text(o, out, b"Added: nothing\n");
@@ -189,7 +191,8 @@ pub fn put_growth(
     names: &[u8],
 ) -> Out
     requires { ⌜ (accepted table (now old) ≡ true) × (accepted table (now new) ≡ true) ⌝ }
-    ensures { λ r. ⌜ gathered (now (out .exit)) r ≡ grownPage (flat table (now (new .entry))) (rulesOf (now (rules .entry))) (now (names .entry)) (flat table (now (old .entry))) (gathered (now (out .entry)) o) ⌝ }
+    ensures { λ r. ⌜ gathered (now (out .exit)) r ≡ grownPage (flat table (now (new .entry))) (rulesOf (now (rules .entry))) (now (names .entry))
+        (flat table (now (old .entry))) (gathered (now (out .entry)) o) ⌝ }
 {
     let a = put_both_tables(o, out, table, old, new);
     let year = last_year(table, old);

@@ -11,7 +11,8 @@ ghost use lib.ListN.{length};
 ghost use Rattle.fields.specs.Line.{nameOf};
 ghost use Rattle.rules.specs.Rules.{ruleAt, rulesOf};
 ghost use Rattle.output.specs.Pieces.{Puts};
-ghost use Rattle.notes.specs.Lines.{monthBefore, monthAfter, earlierOf, laterOf, momentPieces, wherePieces, openingPieces, nonePieces, isOf, endOf, rulePieces, itemPieces, listPieces, rulesPieces, besidePieces};
+ghost use Rattle.notes.specs.Lines.{monthBefore, monthAfter, earlierOf, laterOf, momentPieces, wherePieces, openingPieces, nonePieces};
+ghost use Rattle.notes.specs.Lines.{isOf, endOf, rulePieces, itemPieces, listPieces, rulesPieces, besidePieces};
 
 // The name text of rule i, at most 64 bytes.
 fn put_rule_name(o: Out, out: &mut [u8], names: &[u8], i: usize) -> Out
@@ -176,7 +177,8 @@ pub fn put_beside(
     rules: &[u16],
     names: &[u8],
 ) -> Out
-    ensures { λ r. ⌜ Puts (now (out .entry)) o (besidePieces (rulesOf (now (rules .entry))) (now (names .entry)) date opens after minutes) (now (out .exit)) r ⌝ }
+    ensures { λ r. ⌜ Puts (now (out .entry)) o (besidePieces (rulesOf (now (rules .entry))) (now (names .entry)) date opens after minutes)
+        (now (out .exit)) r ⌝ }
 {
     let a = put_where(o, out, date, after, minutes);
     let b = put_opening(a, out, date, opens);
