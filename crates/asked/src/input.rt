@@ -58,7 +58,8 @@ fn turn_of(input: Input, o: Out, out: &[u8]) -> Turn
 
 // The turn of the first line.
 pub fn first_turn(piece: &mut [u8], line: &mut [u8], out: &[u8]) -> Turn
-    ensures { λ r. ⌜ TurnAfter (started 18446744073709551615) (now (piece .entry)) (now (line .entry)) (now (piece .exit)) (now (line .exit)) (now (out .entry)) (record { buffer = now (out .entry); at = 0; begun = false }) r ⌝ }
+    ensures { λ r. ⌜ TurnAfter (started 18446744073709551615) (now (piece .entry)) (now (line .entry)) (now (piece .exit)) (now (line .exit))
+        (now (out .entry)) (record { buffer = now (out .entry); at = 0; begun = false }) r ⌝ }
 {
     let input = lines::next_line(STDIN_FILENO, lines::start(u64::MAX), piece, line);
     turn_of(input, output::empty(), out)
@@ -76,7 +77,8 @@ fn told(o: Out, more: bool, out: &[u8]) -> Out
 
 // The turn of the next line, after this one was answered. The answers are written out before more input is waited for.
 pub fn next_turn(t: Turn, o: Out, piece: &mut [u8], line: &mut [u8], out: &mut [u8]) -> Turn
-    ensures { λ r. ⌜ TurnAfter (inputOf t) (now (piece .entry)) (now (line .entry)) (now (piece .exit)) (now (line .exit)) (now (out .exit)) (heard (hasFeed (waiting (now (piece .entry)) (inputOf t))) (Gathered.ended (gathered (now (out .entry)) o))) r ⌝ }
+    ensures { λ r. ⌜ TurnAfter (inputOf t) (now (piece .entry)) (now (line .entry)) (now (piece .exit)) (now (line .exit)) (now (out .exit))
+        (heard (hasFeed (waiting (now (piece .entry)) (inputOf t))) (Gathered.ended (gathered (now (out .entry)) o))) r ⌝ }
 {
     let input = Input {
         left: t.left,

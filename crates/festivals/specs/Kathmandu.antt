@@ -20,7 +20,7 @@ use Rattle.conversion.specs.Calendar.{Calendar}
 use Rattle.rules.specs.declared.Rule.{Rule}
 use Rattle.rules.specs.declared.lists.Years.{Years}
 use Rattle.rules.specs.Sky.{Sky}
-use Rattle.rules.specs.Festivals.{Pair, opening, dayList}
+use Rattle.rules.specs.Festivals.{Pair, lastOf, inMonth, opening, dayList}
 use Rattle.rules.specs.Resolved.{resolved, yearsFor}
 
 -- ---- the kalas by their numbers
@@ -98,6 +98,10 @@ kathmandu =
     }
 
 -- ---- festivals under this sky, by a calendar and rules
+
+-- the last of some new moons in month m of year y
+abbrev pub lastIn : Calendar → ℕ → ℕ → List Float → Option Float
+lastIn c y m xs = lastOf (inMonth kathmandu c y m) none xs
 
 -- the new moon that opens lunar month m of year y
 abbrev pub openingIn : Calendar → ℕ → ℕ → Option Float

@@ -78,7 +78,13 @@ fn list_day(
 }
 
 // The list of a day by its number, if the accepted table has it.
-fn list_placed(table: Table, rows: &[u16], rules: &[u16], number: u32, out: &mut [u16]) -> ListAnswer
+fn list_placed(
+    table: Table,
+    rows: &[u16],
+    rules: &[u16],
+    number: u32,
+    out: &mut [u16],
+) -> ListAnswer
     requires { ⌜ (accepted table (now rows) ≡ true) × (acceptedRules (now rules) ≡ true) × (numbered number ≡ true) ⌝ }
     ensures { λ r. ⌜ listSays r ≡ listedAt table (now (rows .entry)) (now (rules .entry)) number (now (out .entry)) .answer ⌝ }
     ensures { λ r. ⌜ now (out .exit) ≡ listedAt table (now (rows .entry)) (now (rules .entry)) number (now (out .entry)) .buffer ⌝ }

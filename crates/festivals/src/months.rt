@@ -10,12 +10,10 @@ use gregorian::UtDay;
 use sky::search;
 ghost use mathlib.Core.Path.{_≡_};
 ghost use mathlib.Core.Bool.{true};
-ghost use mathlib.Core.Option.{none};
 ghost use Prim.Native.Nat.{ℕ, _+_, _≤_, _<_};
 ghost use lib.ListN.{length, take};
 ghost use Rattle.conversion.specs.Flat.{accepted, flat};
-ghost use Rattle.rules.specs.Festivals.{lastOf, inMonth};
-ghost use Rattle.festivals.specs.Kathmandu.{moonsAround, kathmandu, openingIn};
+ghost use Rattle.festivals.specs.Kathmandu.{moonsAround, lastIn, openingIn};
 ghost use Rattle.festivals.specs.Months.{yearDays, monthAt};
 ghost use Rattle.festivals.specs.Answers.{daysAre};
 
@@ -74,7 +72,7 @@ pub fn new_moons(first: u32, last: u32, found: &mut [f64; 1024]) -> usize
 // another year opens none.
 pub fn months_of(table: Table, rows: &[u16], year: u16, found: &[f64; 1024], n: usize) -> Months
     requires { ⌜ (accepted table (now rows) ≡ true) × (n ≤ 1024) × (length (now found) ≡ 1024) ⌝ }
-    ensures { λ r. ⌜ ((j : ℕ) → j < 12 → monthAt r j ≡ lastOf (inMonth kathmandu (flat table (now (rows .entry))) year (j + 1)) none (take n (now (found .entry)))) ⌝ }
+    ensures { λ r. ⌜ ((j : ℕ) → j < 12 → monthAt r j ≡ lastIn (flat table (now (rows .entry))) year (j + 1) (take n (now (found .entry)))) ⌝ }
 {
     let mut m = Months {
         moon: [0.0; 12],

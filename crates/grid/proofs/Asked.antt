@@ -1,13 +1,15 @@
 -- A month that is asked for: which refusal comes first, and what is known where none does. Assumes nothing.
 use Prim.Native.Nat.{ℕ, zero, suc, _+_, _-_, _≤_, _<_}
 use mathlib.Core.Path.{_≡_, refl, ap, _∙_}
-use mathlib.Core.Bool.{Bool, true, false}
+use mathlib.Core.Bool.{Bool, true}
 use mathlib.Core.List.{List}
 use native.Mathlib.Omega.{arith}
+use Rattle.paper.specs.declared.Refusal.{Refusal}
+use Rattle.paper.specs.declared.Refusal.the-variants.{BadTable, BadRules, NoSuchDate, NoRoom}
 use Rattle.paper.specs.Answers.{answered, refused, given, then}
-use Rattle.paper.proofs.Answers.{answered-same, given-answered, given-on, given-off, given-then, then-answered, then-refused}
+use Rattle.paper.proofs.Answers.{answered-same, given-answered, given-on, given-then, then-answered}
 use Rattle.gregorian.specs.declared.Date.{Date}
-use Rattle.gregorian.specs.Answers.{real}
+use Rattle.gregorian.specs.Answers.{real, numberAnswer}
 use Rattle.conversion.specs.declared.Table.{Table}
 use Rattle.conversion.specs.Calendar.{Calendar, ofMonth, dayAt, monthLen}
 use Rattle.conversion.specs.Flat.{accepted, flat}
@@ -15,7 +17,9 @@ use Rattle.conversion.proofs.Accepted.{facts}
 use Rattle.conversion.proofs.Rows.{row-lens}
 use Rattle.conversion.proofs.Days.{InTable, Valid, in-month, valid-on}
 use Rattle.rules.specs.declared.lists.Day.{Day}
+use Rattle.rules.specs.Lent.{accepting}
 use Rattle.rules.specs.Festivals.{Pair}
+use Rattle.rules.proofs.Lent.{given-not, lent-on, lent-told, lent-not}
 use Rattle.panchanga.specs.declared.lunar.Reading.{Reading}
 use Rattle.grid.specs.Cells.{each}
 use Rattle.grid.specs.Month.{Grid, dayOn, listOn, cellOn, gridOf, fitted, monthGrid}
@@ -23,35 +27,26 @@ use Rattle.grid.specs.Month.{Grid, dayOn, listOn, cellOn, gridOf, fitted
 -- ---- the refusals, in their order
 
 module _ (c : Calendar) (ok : Bool) (list : Day → List Pair) (reading : Day → Reading) (today : Date) (y m a b : ℕ) where
-  pub bad-table : c .good ≡ false → monthGrid c ok list reading today y m a b ≡ refused 1
+  -- what is lent is refused
+  pub not-lent : (k : Refusal) → refused k ≡ accepting c ok → monthGrid c ok list reading today y m a b ≡ refused k
   unfolding monthGrid
-  bad-table g = given-off (c .good) 1 _ g
+  not-lent k e = lent-not c ok _ k e
 
-  pub bad-rules : c .good ≡ true → ok ≡ false → monthGrid c ok list reading today y m a b ≡ refused 2
+  -- today has no number
+  pub no-today : c .good ≡ true → ok ≡ true → (k : Refusal) → refused k ≡ numberAnswer today → monthGrid c ok list reading today y m a b ≡ refused k
   unfolding monthGrid
-  bad-rules g h = given-on (c .good) 1 _ g ∙ given-off ok 2 _ h
-
-  pub bad-today : c .good ≡ true → ok ≡ true → real today ≡ false → monthGrid c ok list reading today y m a b ≡ refused 3
-  unfolding monthGrid
-  bad-today g h k = given-on (c .good) 1 _ g ∙ given-on ok 2 _ h ∙ given-off (real today) 3 _ k
+  no-today g o k e = lent-on c ok _ g o ∙ given-not (real today) NoSuchDate k _ _ e
 
   -- the rest is a question about a month, and goes by way of the month's length
   by-month : ok ≡ true → real today ≡ true
       → monthGrid c ok list reading today y m a b ≡ ofMonth c y m (fitted (gridOf list reading today y m (dayAt c (y - c .first) (m - 1) 0) (c .len (y - c .first) (m - 1))) a b)
   unfolding monthGrid
-  by-month h k = ap (given (c .good) 1) (given-on ok 2 _ h ∙ given-on (real today) 3 _ k)
+  by-month h k = ap (given (c .good) BadTable) (given-on ok BadRules _ h ∙ given-on (real today) NoSuchDate _ k)
 
   pub by-length : ok ≡ true → real today ≡ true
       → monthGrid c ok list reading today y m a b ≡ then (monthLen c y m) (λ n. fitted (gridOf list reading today y m (dayAt c (y - c .first) (m - 1) 0) n) a b)
   unfolding monthLen
   by-length h k = by-month h k ∙ simp (given-then, then-answered)
-
-  pub no-length : ok ≡ true → real today ≡ true → (j : ℕ) → refused j ≡ monthLen c y m → monthGrid c ok list reading today y m a b ≡ refused j
-  no-length h k j e = by-length h k ∙ rw (← e) (then-refused j _)
-
-  pub its-length : ok ≡ true → real today ≡ true → (n : ℕ) → answered n ≡ monthLen c y m
-      → monthGrid c ok list reading today y m a b ≡ fitted (gridOf list reading today y m (dayAt c (y - c .first) (m - 1) 0) n) a b
-  its-length h k n e = by-length h k ∙ rw (← e) (then-answered n _)
 
   -- what is known of a month that is answered
   pub record Told (g : Grid) : Type 0 where
@@ -63,11 +58,10 @@ module _ (c : Calendar) (ok : Bool) (list : Day → List Pair) (reading : Day �
   pub told : (g : Grid) → monthGrid c ok list reading today y m a b ≡ answered g → Told g
   unfolding monthGrid fitted
   told g h =
-      let p = given-answered (c .good) 1 _ h in
-      let q = given-answered ok 2 _ (p .1) in
-      let r = given-answered (real today) 3 _ (q .1) in
-      let k = in-month c y m _ (given-on (c .good) 1 _ (p .0) ∙ r .1) in
-      record { month = k .0; rules = q .0; is-date = r .0; grid = answered-same (given-answered _ 9 _ (k .1) .1) }
+      let p = lent-told c ok _ h in
+      let r = given-answered (real today) NoSuchDate _ (p .2) in
+      let k = in-month c y m _ (given-on (c .good) BadTable _ (p .0) ∙ r .1) in
+      record { month = k .0; rules = p .1; is-date = r .0; grid = answered-same (given-answered _ NoRoom _ (k .1) .1) }
 
 -- ---- a month of an accepted table
 

@@ -7,6 +7,8 @@ use borrow.Author.Tests.{le-leb, lt-leb}
 use lib.Dec.{leb}
 use lib.ListN.{length, take, replicate}
 use lib.Seq.{sets}
+use Rattle.paper.specs.declared.Refusal.{Refusal}
+use Rattle.paper.specs.declared.Refusal.the-variants.{NoRoom}
 use Rattle.paper.specs.Answers.{Answer, answered, refused, given}
 use Rattle.paper.proofs.Stores.{sets-front, front-of}
 use Rattle.gregorian.specs.Calendar.{weekdayOf}
@@ -23,11 +25,11 @@ use Rattle.grid.proofs.Weeks.{month-length, month-numbers, month-laid}
 -- ---- what fits
 
 module _ (g : Grid) (a b : ℕ) where
-  pub no-cells : a < length (cellNumbers g) → fitted g a b ≡ refused 9
+  pub no-cells : a < length (cellNumbers g) → fitted g a b ≡ refused NoRoom
   unfolding fitted given
   no-cells h = rw (lt-leb (length (cellNumbers g)) a h)
 
-  pub no-festivals : b < length (festivalNumbers g) → fitted g a b ≡ refused 9
+  pub no-festivals : b < length (festivalNumbers g) → fitted g a b ≡ refused NoRoom
   unfolding fitted given
   no-festivals h = rw (lt-leb (length (festivalNumbers g)) b h, and-false (leb (length (cellNumbers g)) a))
 
@@ -41,8 +43,8 @@ pub record Says (a : Answer Grid) (cells festivals : List ℕ) (r : Answer Month
   pub first : cells′ ≡ shown a cells festivals .cells
   pub second : festivals′ ≡ shown a cells festivals .festivals
 
--- a refusal answers its number and changes nothing
-pub says-refused : (a : Answer Grid) (k : ℕ) (cells festivals : List ℕ) → a ≡ refused k → Says a cells festivals (refused k) cells festivals
+-- a refusal changes nothing
+pub says-refused : (a : Answer Grid) (k : Refusal) (cells festivals : List ℕ) → a ≡ refused k → Says a cells festivals (refused k) cells festivals
 unfolding shown
 says-refused a k cells festivals e = rw e (record { answer = refl; first = refl; second = refl })
 

@@ -5,6 +5,7 @@ use mathlib.Core.Path.{_≡_, sym, ap, _∙_}
 use mathlib.Core.Bool.{Bool, true}
 use mathlib.Core.List.{List, _++_}
 use native.Mathlib.Omega.{arith}
+use Rattle.paper.specs.declared.Refusal.the-variants.{NoYear}
 use Rattle.paper.specs.Answers.{Answer, answered}
 use Rattle.paper.proofs.Answers.{answered-same}
 use Rattle.gregorian.specs.declared.Date.{Date}
@@ -23,7 +24,6 @@ use Rattle.rules.specs.Resolved.{dayNumbered}
 use Rattle.rules.proofs.Following.{then-told, then-longer, then-added}
 use Rattle.rules.proofs.Longer.{Filled, list-same}
 use Rattle.panchanga.specs.declared.lunar.Reading.{Reading}
-use Rattle.festivals.specs.Kathmandu.{kathmandu}
 use Rattle.grid.specs.Month.{Grid, gridOf, fitted, monthGrid, shown}
 use Rattle.grid.specs.Kathmandu.{readingOn, listUnder}
 use Rattle.grid.specs.Steady.{Steady}
@@ -63,19 +63,19 @@ module _ (c e : Calendar) (x : Extends c e) (w : Filled c) (ok : Bool) (list oth
       by-length e ok other reading today y m a b (t .rules) (t .is-date)
       ∙ then-longer (monthLen c y m) (monthLen e y m) _ _ (len-longer c e x y m) fitted-same g (sym (by-length c ok list reading today y m a b (t .rules) (t .is-date)) ∙ h)
 
-  pub grid-added : (g : Grid) → monthGrid e ok other reading today y m a b ≡ answered g → RefusedIf (monthGrid c ok list reading today y m a b) 4 (Added c y)
+  pub grid-added : (g : Grid) → monthGrid e ok other reading today y m a b ≡ answered g → RefusedIf (monthGrid c ok list reading today y m a b) NoYear (Added c y)
   grid-added g h =
       let t = told e ok other reading today y m a b g h in
       let q = sym (by-length e ok other reading today y m a b (t .rules) (t .is-date)) ∙ h in
       let n = then-told (monthLen e y m) _ q in
       rw (by-length c ok list reading today y m a b (t .rules) (t .is-date))
-      (then-added (monthLen c y m) (monthLen e y m) _ _ (len-longer c e x y m) fitted-same 4 (Added c y) (n .0) g (n .1 .0) (len-added c e x y m (n .0) (n .1 .0)) q)
+      (then-added (monthLen c y m) (monthLen e y m) _ _ (len-longer c e x y m) fitted-same NoYear (Added c y) (n .0) g (n .1 .0) (len-added c e x y m (n .0) (n .1 .0)) q)
 
 -- ---- over Kathmandu
 
 module _ (rules : List ℕ) (today : Date) (c e : Calendar) (x : Extends c e) (w : Filled c) where
   list-under : (y m d n : ℕ) → toDay c y m d ≡ answered n → listUnder c rules (dayNumbered (bs y m d) n) ≡ listUnder e rules (dayNumbered (bs y m d) n)
-  list-under y m d n h = list-same kathmandu c e x w (rulesOf rules) n (bs y m d) (from-to c y m d n h)
+  list-under y m d n h = list-same _ c e x w (rulesOf rules) n (bs y m d) (from-to c y m d n h)
 
   pub steady-by : Steady rules today c e
   steady-by =

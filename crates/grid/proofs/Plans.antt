@@ -4,6 +4,7 @@ use mathlib.Core.Path.{_≡_, sym, _∙_}
 use mathlib.Core.Bool.{true}
 use mathlib.Core.List.{List}
 use native.Mathlib.Omega.{arith}
+use Rattle.paper.specs.declared.Refusal.{Refusal}
 use Rattle.paper.specs.Answers.{answered, refused}
 use Rattle.paper.proofs.Answers.{answered-same, refused-answered}
 use Rattle.conversion.specs.declared.Table.{Table}
@@ -37,7 +38,7 @@ module _ (t : Table) (rows : List ℕ) (e : accepted t rows ≡ true) (y m d : �
   pub first-is : (n : ℕ) → answered n ≡ toDay c y m d → n ≡ dayAt c (y - t .«first_year») (m - 1) 0
   first-is n h = answered-same (h ∙ has-first)
 
-  pub always-first : {A : Type 0} (k : ℕ) → refused k ≡ toDay c y m d → A
+  pub always-first : {A : Type 0} (k : Refusal) → refused k ≡ toDay c y m d → A
   always-first k h = absurd (refused-answered (sym h) has-first)
 
 -- ---- the plan

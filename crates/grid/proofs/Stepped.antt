@@ -6,6 +6,7 @@ use native.Mathlib.Omega.{arith}
 use borrow.Author.Tests.{ltb-true, lt-ltb, le-ltb, le-leb, lt-leb}
 use lib.IntN.{ℤ, pos, negsuc, _+ℤ_, _*ℤ_}
 use lib.Signed.{ltZ}
+use Rattle.paper.specs.declared.Refusal.the-variants.{BadTable, OffTable}
 use Rattle.paper.specs.Answers.{answered, refused, given}
 use Rattle.conversion.specs.Calendar.{Calendar}
 use Rattle.grid.specs.Step.{absolute, wholeYears, monthsLeft, monthAt, stepMonth}
@@ -26,16 +27,16 @@ left-below (pos a) = omega arith
 left-below (negsuc a) = omega arith
 
 module _ (first years : ℕ) where
-  pub before-zero : (z : ℤ) → ltZ z (pos 0) ≡ true → monthAt first years z ≡ refused 10
+  pub before-zero : (z : ℤ) → ltZ z (pos 0) ≡ true → monthAt first years z ≡ refused OffTable
   unfolding monthAt given wholeYears
   before-zero (pos n) e = absurd (omega (arith, ltb-true n 0 e))
   before-zero (negsuc n) e = refl
 
-  pub too-early : (n : ℕ) → n / 12 < first → monthAt first years (pos n) ≡ refused 10
+  pub too-early : (n : ℕ) → n / 12 < first → monthAt first years (pos n) ≡ refused OffTable
   unfolding monthAt given wholeYears
   too-early n h = simp (lt-leb first (n / 12) h)
 
-  pub too-late : (n : ℕ) → first + years ≤ n / 12 → monthAt first years (pos n) ≡ refused 10
+  pub too-late : (n : ℕ) → first + years ≤ n / 12 → monthAt first years (pos n) ≡ refused OffTable
   unfolding monthAt given wholeYears
   too-late n h = simp (le-ltb (n / 12) (first + years) h, and-false)
 
@@ -44,7 +45,7 @@ module _ (first years : ℕ) where
   in-time n h k = simp (le-leb first (n / 12) h, lt-ltb (n / 12) (first + years) k)
 
 module _ (c : Calendar) (y m : ℕ) (s : ℤ) where
-  pub step-bad : c .good ≡ false → stepMonth c y m s ≡ refused 1
+  pub step-bad : c .good ≡ false → stepMonth c y m s ≡ refused BadTable
   unfolding stepMonth given
   step-bad e = rw e
 

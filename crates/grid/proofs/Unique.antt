@@ -1,9 +1,7 @@
 -- What an answer says tells the answer: so no second answer meets a contract. Assumes nothing.
 use mathlib.Core.Path.{_≡_, refl, sym, _∙_}
-use mathlib.Core.Bool.{cond}
 use mathlib.Core.List.{List}
 use Prim.Native.Nat.{ℕ}
-use lib.Dec.{eqb}
 use Rattle.paper.specs.Answers.{Answer, answered, refused}
 use Rattle.paper.proofs.Answers.{told-by}
 use Rattle.grid.specs.declared.BsMonth.{BsMonth}
@@ -17,30 +15,22 @@ use Rattle.grid.specs.Month.{Shown, gridSays}
 
 abbrev stepBack : Answer BsMonth → StepAnswer
 stepBack (answered x) = SA.Month x
-stepBack (refused k) = cond (eqb k 1) SA.BadTable SA.OffTable
+stepBack (refused k) = SA.Refused k
 
 step-back : (r : StepAnswer) → stepBack (stepSays r) ≡ r
 step-back (SA.Month x) = refl
-step-back SA.BadTable = refl
-step-back SA.OffTable = refl
+step-back (SA.Refused k) = refl
 
 pub step-only : (r s : StepAnswer) → stepSays r ≡ stepSays s → r ≡ s
 step-only = told-by stepSays stepBack step-back
 
 abbrev gridBack : Answer Month → GridAnswer
 gridBack (answered m) = GA.Is m
-gridBack (refused k) =
-    cond (eqb k 1) GA.BadTable
-    (cond (eqb k 2) GA.BadRules (cond (eqb k 3) GA.NoSuchDate (cond (eqb k 4) GA.NoYear (cond (eqb k 5) GA.NoMonth GA.NoRoom))))
+gridBack (refused k) = GA.Refused k
 
 grid-back : (r : GridAnswer) → gridBack (gridSays r) ≡ r
 grid-back (GA.Is m) = refl
-grid-back GA.BadTable = refl
-grid-back GA.BadRules = refl
-grid-back GA.NoSuchDate = refl
-grid-back GA.NoYear = refl
-grid-back GA.NoMonth = refl
-grid-back GA.NoRoom = refl
+grid-back (GA.Refused k) = refl
 
 pub grid-only : (r s : GridAnswer) → gridSays r ≡ gridSays s → r ≡ s
 grid-only = told-by gridSays gridBack grid-back

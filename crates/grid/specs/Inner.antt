@@ -4,7 +4,12 @@ use mathlib.Core.Bool.{Bool, false, _||_}
 use mathlib.Core.List.{List}
 use lib.Dec.{eqb}
 use lib.ListN.{length, getD}
+use Rattle.paper.specs.Answers.{then}
+use Rattle.gregorian.specs.declared.Date.{Date}
 use Rattle.gregorian.specs.Calendar.{dateOf, weekdayOf}
+use Rattle.conversion.specs.declared.Table.{Table}
+use Rattle.conversion.specs.Calendar.{monthLen}
+use Rattle.conversion.specs.Flat.{flat}
 use Rattle.rules.specs.declared.lists.Day.{Day}
 use Rattle.rules.specs.Festivals.{Pair}
 use Rattle.rules.specs.Rules.{rulesOf}
@@ -13,7 +18,7 @@ use Rattle.grid.specs.declared.page.Plan.{Plan}
 use Rattle.grid.specs.declared.Month.{Month}
 use Rattle.grid.specs.Cells.{toFill}
 use Rattle.grid.specs.Month.{Grid, Shown, listOn, cellOn, gridOf, fitted, shown}
-use Rattle.grid.specs.Kathmandu.{readingOn}
+use Rattle.grid.specs.Kathmandu.{readingOn, gridUnder}
 
 -- a day number from that of 1 January 1900 to that of 31 December 2149
 pub record Dated (n : ℕ) : Type 0 where
@@ -62,3 +67,10 @@ cellsOf p = weekdayOf (p .first) + p .days + toFill (weekdayOf (p .first) + p .d
 abbrev pub monthOf : Plan → ℕ → ℕ → Month
 monthOf p cells festivals =
     record { days = p .days; first = dateOf (p .first); last = dateOf (p .first + (p .days - 1)); cells = cells; festivals = festivals }
+
+-- ---- a month of an accepted table, by its length
+
+abbrev pub monthLaid : Table → List ℕ → List ℕ → Date → ℕ → ℕ → List ℕ → List ℕ → Shown
+monthLaid t rows rules today y m cells festivals =
+    let c = flat t rows in
+    shown (then (monthLen c y m) (λ n. fitted (gridUnder c rules today y m n) (length cells) (length festivals))) cells festivals

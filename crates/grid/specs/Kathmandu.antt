@@ -9,19 +9,20 @@ use Rattle.conversion.specs.Calendar.{Calendar, dayAt}
 use Rattle.conversion.specs.Flat.{flat}
 use Rattle.rules.specs.declared.lists.Day.{Day}
 use Rattle.rules.specs.Rules.{rulesOf, acceptedRules}
-use Rattle.rules.specs.Festivals.{Pair, dayList}
+use Rattle.rules.specs.Festivals.{Pair}
 use Rattle.panchanga.specs.declared.lunar.Reading.{Reading}
+use Rattle.panchanga.specs.Noaa as Noaa
 use Rattle.panchanga.specs.Reading.{readingOf}
-use Rattle.festivals.specs.Kathmandu.{kathmandu}
+use Rattle.festivals.specs.Kathmandu.{dayListOf}
 use Rattle.grid.specs.Month.{Grid, Shown, gridOf, monthGrid, shown}
 
 -- the reading of a day
 abbrev pub readingOn : Day → Reading
-readingOn q = readingOf (q .ad) (q .number)
+readingOn q = readingOf Noaa.kathmandu (q .ad) (q .number)
 
 -- the list of a day by rules
 abbrev pub listUnder : Calendar → List ℕ → Day → List Pair
-listUnder c rules q = dayList kathmandu c (rulesOf rules) (q .bs) (q .number)
+listUnder c rules q = dayListOf c (rulesOf rules) (q .bs) (q .number)
 
 -- month m of year y, which has so many days
 abbrev pub gridUnder : Calendar → List ℕ → Date → ℕ → ℕ → ℕ → Grid

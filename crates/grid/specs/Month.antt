@@ -4,12 +4,14 @@ use mathlib.Core.Bool.{Bool, _&&_}
 use mathlib.Core.List.{List, _++_}
 use lib.Dec.{leb}
 use lib.ListN.{length, drop}
+use Rattle.paper.specs.declared.Refusal.the-variants.{NoSuchDate, NoYear, NoMonth, NoRoom}
 use Rattle.paper.specs.Answers.{Answer, answered, refused, given}
 use Rattle.gregorian.specs.declared.Date.{Date}
 use Rattle.gregorian.specs.Calendar.{dateOf, weekdayOf}
 use Rattle.gregorian.specs.Answers.{real}
 use Rattle.conversion.specs.Calendar.{Calendar, bs, yearOk, monthOk, dayAt}
 use Rattle.rules.specs.declared.lists.Day.{Day}
+use Rattle.rules.specs.Lent.{lent}
 use Rattle.rules.specs.Festivals.{Pair, numbers}
 use Rattle.rules.specs.Resolved.{dayNumbered}
 use Rattle.panchanga.specs.declared.lunar.Reading.{Reading}
@@ -58,18 +60,17 @@ festivalNumbers g = numbers (g .festivals)
 -- the month, where each buffer of these lengths is long enough: refusal 9
 unfoldable pub fitted : Grid → ℕ → ℕ → Answer Grid
 fitted g cellRoom festivalRoom =
-    given (leb (length (cellNumbers g)) cellRoom && leb (length (festivalNumbers g)) festivalRoom) 9 (answered g)
+    given (leb (length (cellNumbers g)) cellRoom && leb (length (festivalNumbers g)) festivalRoom) NoRoom (answered g)
 
 -- month m of year y: refusals 1, 2, 3 (today), 4, 5, 9
 unfoldable pub monthGrid : Calendar → Bool → (Day → List Pair) → (Day → Reading) → Date → ℕ → ℕ → ℕ → ℕ → Answer Grid
 monthGrid c ok list reading today y m cellRoom festivalRoom =
     let first = dayAt c (y - c .first) (m - 1) 0 in
     let days = c .len (y - c .first) (m - 1) in
-    given (c .good) 1
-    (given ok 2
-    (given (real today) 3
-    (given (yearOk c y) 4
-    (given (monthOk m) 5 (fitted (gridOf list reading today y m first days) cellRoom festivalRoom)))))
+    lent c ok
+    (given (real today) NoSuchDate
+    (given (yearOk c y) NoYear
+    (given (monthOk m) NoMonth (fitted (gridOf list reading today y m first days) cellRoom festivalRoom))))
 
 -- what is answered, and the two lent buffers as they then stand
 pub record Shown : Type 0 where
@@ -93,9 +94,4 @@ shown (refused k) cells festivals = record { answer = refused k; cells = cells; 
 
 abbrev pub gridSays : GridAnswer → Answer Month
 gridSays (GA.Is m) = answered m
-gridSays GA.BadTable = refused 1
-gridSays GA.BadRules = refused 2
-gridSays GA.NoSuchDate = refused 3
-gridSays GA.NoYear = refused 4
-gridSays GA.NoMonth = refused 5
-gridSays GA.NoRoom = refused 9
+gridSays (GA.Refused k) = refused k

@@ -3,6 +3,7 @@ use Prim.Native.Nat.{ℕ, _+_, _-_, _*_, _/_, _%_}
 use mathlib.Core.Bool.{Bool, _&&_}
 use lib.IntN.{ℤ, pos, negsuc, natAbs, _+ℤ_, _-ℤ_}
 use lib.Signed.{leZ, ltZ}
+use Rattle.paper.specs.declared.Refusal.the-variants.{BadTable, OffTable}
 use Rattle.paper.specs.Answers.{Answer, answered, refused, given}
 use Rattle.conversion.specs.Calendar.{Calendar}
 use Rattle.grid.specs.declared.BsMonth.{BsMonth}
@@ -31,14 +32,13 @@ inYears first years z = leZ (pos first) z && ltZ z (pos (first + years))
 unfoldable pub monthAt : ℕ → ℕ → ℤ → Answer BsMonth
 unfolding wholeYears monthsLeft
 monthAt first years a =
-    given (inYears first years (wholeYears a)) 10 (answered (record { year = natAbs (wholeYears a); month = monthsLeft a + 1 }))
+    given (inYears first years (wholeYears a)) OffTable (answered (record { year = natAbs (wholeYears a); month = monthsLeft a + 1 }))
 
 -- a month stepped: refusals 1, 10
 unfoldable pub stepMonth : Calendar → ℕ → ℕ → ℤ → Answer BsMonth
 unfolding absolute monthAt
-stepMonth c y m s = given (c .good) 1 (monthAt (c .first) (c .years) (absolute y m s))
+stepMonth c y m s = given (c .good) BadTable (monthAt (c .first) (c .years) (absolute y m s))
 
 abbrev pub stepSays : StepAnswer → Answer BsMonth
 stepSays (SA.Month x) = answered x
-stepSays SA.BadTable = refused 1
-stepSays SA.OffTable = refused 10
+stepSays (SA.Refused k) = refused k

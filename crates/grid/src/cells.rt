@@ -5,11 +5,14 @@ ghost use Prim.Native.Nat.{_+_, _-_, _*_, _≤_, _<_};
 ghost use lib.ListN.{length};
 ghost use Rattle.grid.specs.Cells.{one, same, saturday, cellWith};
 ghost use Rattle.grid.specs.Month.{dayOn};
+ghost use Rattle.grid.specs.Kathmandu.{readingOn};
 ghost use Rattle.grid.specs.Inner.{Dated, anyMark};
 use conversion::BsDate;
 use festivals::day_numbered;
 use gregorian::Date;
+use panchanga::KATHMANDU;
 use panchanga::lunar::Reading;
+use panchanga::lunar::reading_of;
 use rules::lists::Day;
 
 // Day d, from 0, of a month whose first day has the number first.
@@ -23,6 +26,13 @@ pub fn day_on(year: u16, month: u16, first: u32, d: u16) -> Day
         day: d + 1,
     };
     day_numbered(bs, first + d as u32)
+}
+
+// The reading of a day at Kathmandu.
+pub fn reading_on(day: Day) -> Reading
+    ensures { λ r. ⌜ r ≡ readingOn day ⌝ }
+{
+    reading_of(KATHMANDU, day.ad, day.number)
 }
 
 // Whether two records are the same date.
@@ -55,10 +65,10 @@ fn any_holiday(lists: &[u16], at: usize, end: usize) -> bool
 
 // Whether a day is a holiday: a Saturday, or one of the pairs of its list, from at to before end, is a holiday.
 pub fn is_holiday(number: u32, lists: &[u16], at: usize, end: usize) -> bool
-    requires { ⌜ Dated number × (at ≤ end) × (end * 2 ≤ length (now lists)) ⌝ }
+    requires { ⌜ (at ≤ end) × (end * 2 ≤ length (now lists)) ⌝ }
     ensures { λ r. ⌜ r ≡ (saturday number || anyMark (now (lists .entry)) at (end - at)) ⌝ }
 {
-    if (number + 1) % 7 == 6 {
+    if gregorian::weekday_of(number) == 6 {
         return true;
     }
     any_holiday(lists, at, end)
@@ -66,10 +76,9 @@ pub fn is_holiday(number: u32, lists: &[u16], at: usize, end: usize) -> bool
 
 // The cell of a day: how many festivals it has, whether it is a holiday, and its reading.
 pub fn day_cell(today: Date, day: Day, festivals: u16, holiday: bool, reading: Reading) -> [u16; 12]
-    requires { ⌜ Dated (day .number) ⌝ }
     ensures { λ r. ⌜ r ≡ cellWith today day festivals holiday reading ⌝ }
 {
-    let weekday = ((day.number + 1) % 7) as u16;
+    let weekday = gregorian::weekday_of(day.number) as u16;
     let ad = day.ad;
     [
         day.bs.day,

@@ -15,8 +15,9 @@ use crate::Month;
 use crate::cells::day_cell;
 use crate::cells::day_on;
 use crate::cells::is_holiday;
+use crate::cells::reading_on;
 use gregorian::Date;
-use panchanga::lunar::reading_of;
+use paper::Refusal;
 use rules::lists::Years;
 use rules::lists::put_day_list;
 
@@ -44,10 +45,9 @@ fn put_at(out: &mut [u16], at: usize, src: &[u16])
 
 // How many blanks stand before a day in its week.
 fn lead_of(n: u32) -> usize
-    requires { ⌜ n < 2506332 ⌝ }
     ensures { λ r. ⌜ r ≡ weekdayOf n ⌝ }
 {
-    ((n + 1) % 7) as usize
+    gregorian::weekday_of(n) as usize
 }
 
 // Day d, from 0: its list in lists after the pairs that stand there, and its cell in its place of page; how many pairs stand in lists then.
@@ -70,7 +70,7 @@ fn put_cell(
     let day = day_on(plan.year, plan.month, plan.first, d);
     let end = put_day_list(rules, day, plan.years, lists, at);
     let holiday = is_holiday(day.number, lists, at, end);
-    let reading = reading_of(day.ad, day.number);
+    let reading = reading_on(day);
     let cell = day_cell(plan.today, day, (end - at) as u16, holiday, reading);
     put_at(page, (lead_of(plan.first) + d as usize) * 12, &cell);
     end
@@ -80,7 +80,8 @@ fn put_cell(
 fn fill(rules: &[u16], plan: Plan, page: &mut [u16], lists: &mut [u16]) -> usize
     requires { ⌜ acceptedRules (now rules) ≡ true ⌝ }
     requires { ⌜ Planned plan × Roomy (now page) (now lists) ⌝ }
-    ensures { λ r. ⌜ now (page .exit) ≡ sets (now (page .entry)) (weekdayOf (plan .first) * 12) (joined (each (cellAt (now (rules .entry)) plan) 0 (plan .days))) ⌝ }
+    ensures { λ r. ⌜ now (page .exit)
+        ≡ sets (now (page .entry)) (weekdayOf (plan .first) * 12) (joined (each (cellAt (now (rules .entry)) plan) 0 (plan .days))) ⌝ }
     ensures { λ r. ⌜ now (lists .exit) ≡ sets (now (lists .entry)) 0 (numbers (joined (each (listAt (now (rules .entry)) plan) 0 (plan .days)))) ⌝ }
     ensures { λ r. ⌜ r ≡ length (joined (each (listAt (now (rules .entry)) plan) 0 (plan .days))) ⌝ }
     ensures { λ r. ⌜ r ≤ 12288 ⌝ }
@@ -148,11 +149,11 @@ fn copy_month(
 {
     let total = cell_count(plan);
     if cells.len() < total * 12 {
-        return GridAnswer::NoRoom;
+        return GridAnswer::Refused(Refusal::NoRoom);
     }
     let count = fill(rules, plan, page, lists);
     if festivals.len() < count * 2 {
-        return GridAnswer::NoRoom;
+        return GridAnswer::Refused(Refusal::NoRoom);
     }
     put_front(cells, page, total * 12);
     put_front(festivals, lists, count * 2);

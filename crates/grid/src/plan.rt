@@ -11,10 +11,10 @@ ghost use Rattle.grid.specs.Kathmandu.{gridUnder};
 ghost use Rattle.grid.specs.Inner.{Planned, gridBy};
 use crate::page::Plan;
 use conversion::BsDate;
-use conversion::DayAnswer;
 use conversion::Table;
 use festivals::years::years_for;
 use gregorian::Date;
+use gregorian::NumberAnswer;
 
 // The number of a month's first day.
 fn first_of(table: Table, rows: &[u16], first: BsDate) -> u32
@@ -22,7 +22,7 @@ fn first_of(table: Table, rows: &[u16], first: BsDate) -> u32
     requires { ⌜ YearIn (flat table (now rows)) (first .year) × MonthIn (first .month) × (first .day ≡ 1) ⌝ }
     ensures { λ r. ⌜ r ≡ dayAt (flat table (now (rows .entry))) (first .year - table .«first_year») (first .month - 1) 0 ⌝ }
 {
-    let DayAnswer::Day(n) = conversion::day_of(table, rows, first) else {
+    let NumberAnswer::Number(n) = conversion::day_of(table, rows, first) else {
         return 0;
     };
     n

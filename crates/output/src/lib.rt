@@ -110,7 +110,8 @@ impl Out {
 
     // Room for a word, and the space before it.
     fn space(self, buffer: &mut [u8]) -> Out
-        ensures { λ r. ⌜ Wrote (now (buffer .entry)) (Gathered.room 32 (now (buffer .entry)) (self .at)) (spaceOf (self .begun)) (now (buffer .exit)) (r .at) ⌝ }
+        ensures { λ r. ⌜ Wrote (now (buffer .entry)) (Gathered.room 32 (now (buffer .entry)) (self .at)) (spaceOf (self .begun))
+            (now (buffer .exit)) (r .at) ⌝ }
     {
         let o = self.room(buffer, 32);
         Out {

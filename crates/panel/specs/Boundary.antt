@@ -6,6 +6,9 @@ use mathlib.Core.Option.{Option, some, none}
 use lib.Dec.{leb}
 use lib.Ieee.{Float}
 use Rattle.paper.specs.Answers.{Answer, answered, refused, given}
+use Rattle.paper.specs.Refusals.{number}
+use Rattle.paper.specs.declared.Refusal.{Refusal}
+use Rattle.paper.specs.declared.Refusal.the-variants.{BadRules}
 use Rattle.gregorian.specs.declared.Date.{Date}
 use Rattle.conversion.specs.declared.BsDate.{BsDate}
 use Rattle.conversion.specs.declared.Table.{Table}
@@ -22,26 +25,24 @@ use Rattle.grid.specs.Month.{Shown}
 -- 0 for an answer, or the number of the refusal
 abbrev pub code : {A : Type 0} → Answer A → ℕ
 code (answered x) = 0
-code (refused k) = k
+code (refused k) = number k
 
 -- 0 and the lent places with the parts of the answer; or the number of the refusal, and the places as they were
 abbrev pub gives : {A P : Type 0} → Answer A → (A → P) → P → ℕ × P
 gives (answered x) parts old = (0, parts x)
-gives (refused k) parts old = (k, old)
+gives (refused k) parts old = (number k, old)
 
 -- the same of an answer that may be none: a first place says whether there is something, 1, or nothing, 0, which leaves the others
 abbrev pub givesSome : {A P : Type 0} → Answer (Option A) → (A → P) → ℕ × P → ℕ × (ℕ × P)
 givesSome (answered (some x)) parts old = (0, (1, parts x))
 givesSome (answered none) parts old = (0, (0, old .1))
-givesSome (refused k) parts old = (k, old)
+givesSome (refused k) parts old = (number k, old)
 
 -- a day's list: its count, and the lent buffer
 abbrev pub givesList : Listed → ℕ → (ℕ × ℕ) × List ℕ
 givesList l old = (gives (l .answer) (λ n. n) old, l .buffer)
 
-abbrev pub date : ℕ → ℕ → ℕ → Date
-date y m d = record { year = y; month = m; day = d }
-
+-- what is written of a Gregorian date, a BS date, a BS month and a reading
 abbrev pub numbers : Date → ℕ × ℕ × ℕ
 numbers x = (x .year, x .month, x .day)
 
@@ -55,12 +56,15 @@ abbrev pub readings : Reading → ℕ × ℕ × ℕ × ℕ
 readings x = (x .tithi, x .end, x .sunrise, x .sunset)
 
 -- a month's days, the numbers of its first and last Gregorian date, and how many cells and festivals
-abbrev pub monthNumbers : Month → ℕ × (ℕ × ℕ × ℕ) × (ℕ × ℕ × ℕ) × ℕ × ℕ
+abbrev pub MonthPlaces : Type 0
+MonthPlaces = ℕ × (ℕ × ℕ × ℕ) × (ℕ × ℕ × ℕ) × ℕ × ℕ
+
+abbrev pub monthNumbers : Month → MonthPlaces
 monthNumbers x = (x .days, numbers (x .first), numbers (x .last), x .cells, x .festivals)
 
 -- a month: its numbers, and the two lent buffers
-abbrev pub givesMonth : Shown → ℕ × (ℕ × ℕ × ℕ) × (ℕ × ℕ × ℕ) × ℕ × ℕ → (ℕ × (ℕ × (ℕ × ℕ × ℕ) × (ℕ × ℕ × ℕ) × ℕ × ℕ)) × List ℕ × List ℕ
-givesMonth m old = (gives (m .answer) monthNumbers old, m .cells, m .festivals)
+abbrev pub givesMonth : Shown → MonthPlaces → (ℕ × MonthPlaces) × (List ℕ × List ℕ)
+givesMonth m old = (gives (m .answer) monthNumbers old, (m .cells, m .festivals))
 
 -- a lent table without its rows: its first year, and the Gregorian date of its first day
 abbrev pub table : ℕ → ℕ → ℕ → ℕ → Table
@@ -72,9 +76,9 @@ lent first y m d rows = flat (table first y m d) rows
 
 -- the instant of a kala by its number in a rule; a number that a rule may not have is refused as that rule is
 unfoldable pub kalaBy : ℕ → Date → Answer (Option Float)
-kalaBy k x = given (leb k 5) 2 (kalaAnswer (kalaNamed k) x)
+kalaBy k x = given (leb k 5) BadRules (kalaAnswer (kalaNamed k) x)
 
 -- whether what is lent is accepted: yes, or the refusal k
-abbrev pub accepting : Bool → ℕ → Answer Unit
+abbrev pub accepting : Bool → Refusal → Answer Unit
 accepting true k = answered tt
 accepting false k = refused k

@@ -1,15 +1,18 @@
 // Sunrise and sunset over Kathmandu, kalas, the clock and a date's reading.
 ghost use mathlib.Core.Path.{_≡_};
-ghost use Rattle.panchanga.specs.Answers.{spanSays, instantSays, minutesSays, readingSays, eventsAnswer, riseAnswer, setAnswer, nishitaAnswer, clockAnswer, readingAnswer};
+ghost use Rattle.panchanga.specs.Answers.{spanSays, readingSays};
+ghost use Rattle.panchanga.specs.Answers.{eventsAnswer, riseAnswer, setAnswer, nishitaAnswer, clockAnswer, readingAnswer};
 ghost use Rattle.panchanga.specs.Clock.{minutesOf};
-ghost use Rattle.panel.specs.Boundary.{gives, givesSome, readings, date, kalaBy};
+ghost use Rattle.conversion.specs.Flat.{date};
+ghost use Rattle.panel.specs.Boundary.{gives, givesSome, readings, kalaBy};
+use crate::heavens::give_instant;
+use crate::heavens::give_small;
 use festivals::days::kala_named;
 use gregorian::Date;
 use gregorian::UtDay;
-use panchanga::InstantAnswer;
-use panchanga::MinutesAnswer;
 use panchanga::ReadingAnswer;
 use panchanga::SpanAnswer;
+use paper::Refusal;
 
 // Two instants where they are asked for, if there are some, and whether there are.
 fn give_span(answer: SpanAnswer, found: &mut u16, from: &mut f64, to: &mut f64) -> u16
@@ -27,37 +30,8 @@ fn give_span(answer: SpanAnswer, found: &mut u16, from: &mut f64, to: &mut f64) 
             *found = 0;
             0
         }
-        SpanAnswer::NoSuchDate => 3,
+        SpanAnswer::Refused(k) => k.number(),
     }
-}
-
-// An instant where it is asked for, if there is one, and whether there is.
-fn give_instant(answer: InstantAnswer, found: &mut u16, ut: &mut f64) -> u16
-    ensures { λ r. ⌜ (r, (now (found .exit), now (ut .exit))) ≡ givesSome (instantSays answer) (λ x. x) (now (found .entry), now (ut .entry)) ⌝ }
-{
-    match answer {
-        InstantAnswer::At(at) => {
-            *found = 1;
-            *ut = at.0;
-            0
-        }
-        InstantAnswer::Nothing => {
-            *found = 0;
-            0
-        }
-        InstantAnswer::NoSuchDate => 3,
-    }
-}
-
-// Minutes where they are asked for.
-fn give_minutes(answer: MinutesAnswer, minutes: &mut u16) -> u16
-    ensures { λ r. ⌜ (r, now (minutes .exit)) ≡ gives (minutesSays answer) (λ x. x) (now (minutes .entry)) ⌝ }
-{
-    let MinutesAnswer::Is(n) = answer else {
-        return 8;
-    };
-    *minutes = n;
-    0
 }
 
 // A reading's four numbers where they are asked for.
@@ -71,14 +45,16 @@ fn give_reading(
     ensures { λ r. ⌜ (r, (now (tithi .exit), now (end .exit), now (sunrise .exit), now (sunset .exit)))
         ≡ gives (readingSays answer) readings (now (tithi .entry), now (end .entry), now (sunrise .entry), now (sunset .entry)) ⌝ }
 {
-    let ReadingAnswer::Is(reading) = answer else {
-        return 3;
-    };
-    *tithi = reading.tithi;
-    *end = reading.end;
-    *sunrise = reading.sunrise;
-    *sunset = reading.sunset;
-    0
+    match answer {
+        ReadingAnswer::Is(reading) => {
+            *tithi = reading.tithi;
+            *end = reading.end;
+            *sunrise = reading.sunrise;
+            *sunset = reading.sunset;
+            0
+        }
+        ReadingAnswer::Refused(k) => k.number(),
+    }
 }
 
 // Sunrise and sunset on a date, if there are some: 3.
@@ -165,7 +141,7 @@ pub extern "C" fn panel_kala_instant(
         ≡ givesSome (kalaBy kala (date year month day)) (λ x. x) (now (found .entry), now (ut .entry)) ⌝ }
 {
     if 5 < kala {
-        return 2;
+        return Refusal::BadRules.number();
     }
     let named = kala_named(kala);
     give_instant(
@@ -180,7 +156,7 @@ pub extern "C" fn panel_kala_instant(
 pub extern "C" fn panel_npt_clock(ut: f64, minutes: &mut u16) -> u16
     ensures { λ r. ⌜ (r, now (minutes .exit)) ≡ gives (clockAnswer ut) (λ x. x) (now (minutes .entry)) ⌝ }
 {
-    give_minutes(panchanga::npt_clock(UtDay(ut)), minutes)
+    give_small(panchanga::npt_clock(UtDay(ut)), minutes)
 }
 
 // The minutes of a fraction of the day. It refuses nothing.

@@ -1,28 +1,29 @@
 // Bikram Sambat dates over a lent year table: its first year, the Gregorian date of its first day, and rows of thirteen numbers.
 ghost use mathlib.Core.Path.{_≡_};
+ghost use Rattle.paper.specs.declared.Refusal.the-variants.{BadTable};
 ghost use Rattle.conversion.specs.Flat.{accepted};
 ghost use Rattle.conversion.specs.Calendar.{monthLen, validBs, toAd, fromAd};
-ghost use Rattle.conversion.specs.Answers.{monthLenSays, validSays, adSays, bsSays};
+ghost use Rattle.conversion.specs.Answers.{daysSays, validSays, bsSays};
 ghost use Rattle.panel.specs.Boundary.{code, gives, numbers, bsNumbers, table, lent, accepting};
+use crate::acceptance;
+use crate::dates::give_date;
 use crate::table_of;
-use conversion::AdAnswer;
 use conversion::BsAnswer;
 use conversion::BsDate;
-use conversion::MonthLen;
+use conversion::MonthDays;
 use conversion::Validity;
+use paper::Refusal;
 
 // A month's length where it is asked for.
-fn give_month_len(answer: MonthLen, days: &mut u16) -> u16
-    ensures { λ r. ⌜ (r, now (days .exit)) ≡ gives (monthLenSays answer) (λ x. x) (now (days .entry)) ⌝ }
+fn give_month_len(answer: MonthDays, days: &mut u16) -> u16
+    ensures { λ r. ⌜ (r, now (days .exit)) ≡ gives (daysSays answer) (λ x. x) (now (days .entry)) ⌝ }
 {
     match answer {
-        MonthLen::Days(n) => {
+        MonthDays::Days(n) => {
             *days = n;
             0
         }
-        MonthLen::BadTable => 1,
-        MonthLen::NoYear => 4,
-        MonthLen::NoMonth => 5,
+        MonthDays::Refused(k) => k.number(),
     }
 }
 
@@ -32,29 +33,7 @@ fn give_validity(answer: Validity) -> u16
 {
     match answer {
         Validity::Valid => 0,
-        Validity::BadTable => 1,
-        Validity::NoYear => 4,
-        Validity::NoMonth => 5,
-        Validity::NoDay => 6,
-    }
-}
-
-// A Gregorian date's three numbers where they are asked for.
-fn give_ad(answer: AdAnswer, year: &mut u16, month: &mut u16, day: &mut u16) -> u16
-    ensures { λ r. ⌜ (r, (now (year .exit), now (month .exit), now (day .exit)))
-        ≡ gives (adSays answer) numbers (now (year .entry), now (month .entry), now (day .entry)) ⌝ }
-{
-    match answer {
-        AdAnswer::Is(date) => {
-            *year = date.year;
-            *month = date.month;
-            *day = date.day;
-            0
-        }
-        AdAnswer::BadTable => 1,
-        AdAnswer::NoYear => 4,
-        AdAnswer::NoMonth => 5,
-        AdAnswer::NoDay => 6,
+        Validity::Refused(k) => k.number(),
     }
 }
 
@@ -70,9 +49,7 @@ fn give_bs(answer: BsAnswer, year: &mut u16, month: &mut u16, day: &mut u16) -> 
             *day = date.day;
             0
         }
-        BsAnswer::BadTable => 1,
-        BsAnswer::NoSuchDate => 3,
-        BsAnswer::Outside => 7,
+        BsAnswer::Refused(k) => k.number(),
     }
 }
 
@@ -85,14 +62,10 @@ pub extern "C" fn panel_check_table(
     first_ad_day: u16,
     rows: &[u16],
 ) -> u16
-    ensures { λ r. ⌜ r ≡ code (accepting (accepted (table «first_year» «first_ad_year» «first_ad_month» «first_ad_day») (now (rows .entry))) 1) ⌝ }
+    ensures { λ r. ⌜ r ≡ code (accepting (accepted (table «first_year» «first_ad_year» «first_ad_month» «first_ad_day») (now (rows .entry))) BadTable) ⌝ }
 {
     let table = table_of(first_year, first_ad_year, first_ad_month, first_ad_day);
-    if conversion::accepts(table, rows) {
-        0
-    } else {
-        1
-    }
+    acceptance(conversion::accepts(table, rows), Refusal::BadTable)
 }
 
 // The length of a month: 1, 4, 5.
@@ -153,7 +126,7 @@ pub extern "C" fn panel_bs_to_ad(
         (now («ad_year» .entry), now («ad_month» .entry), now («ad_day» .entry)) ⌝ }
 {
     let table = table_of(first_year, first_ad_year, first_ad_month, first_ad_day);
-    give_ad(
+    give_date(
         conversion::bs_to_ad(table, rows, BsDate { year, month, day }),
         ad_year,
         ad_month,

@@ -1,38 +1,42 @@
 // Gregorian dates from 1900 to 2149, and instants, which are Julian days of universal time.
 ghost use mathlib.Core.Path.{_≡_};
 ghost use Rattle.gregorian.specs.Answers.{dateSays, numberSays, newDate, numberAnswer, weekdayAnswer, nextAnswer, dateAnswer};
-ghost use Rattle.gregorian.specs.Instants.{julianSays, nptSays, julianAnswer, nptAnswer};
-ghost use Rattle.panel.specs.Boundary.{gives, numbers, date};
+ghost use Rattle.gregorian.specs.Instants.{julianSays, julianAnswer, nptAnswer};
+ghost use Rattle.conversion.specs.Flat.{date};
+ghost use Rattle.panel.specs.Boundary.{gives, numbers};
 use gregorian::Date;
 use gregorian::DateAnswer;
 use gregorian::JulianAnswer;
-use gregorian::NptAnswer;
 use gregorian::NumberAnswer;
 use gregorian::UtDay;
 
 // A date's three numbers where they are asked for.
-fn give_date(answer: DateAnswer, year: &mut u16, month: &mut u16, day: &mut u16) -> u16
+pub fn give_date(answer: DateAnswer, year: &mut u16, month: &mut u16, day: &mut u16) -> u16
     ensures { λ r. ⌜ (r, (now (year .exit), now (month .exit), now (day .exit)))
         ≡ gives (dateSays answer) numbers (now (year .entry), now (month .entry), now (day .entry)) ⌝ }
 {
-    let DateAnswer::Is(date) = answer else {
-        return 3;
-    };
-    *year = date.year;
-    *month = date.month;
-    *day = date.day;
-    0
+    match answer {
+        DateAnswer::Is(date) => {
+            *year = date.year;
+            *month = date.month;
+            *day = date.day;
+            0
+        }
+        DateAnswer::Refused(k) => k.number(),
+    }
 }
 
 // A number where it is asked for.
 fn give_number(answer: NumberAnswer, number: &mut u32) -> u16
     ensures { λ r. ⌜ (r, now (number .exit)) ≡ gives (numberSays answer) (λ x. x) (now (number .entry)) ⌝ }
 {
-    let NumberAnswer::Number(n) = answer else {
-        return 3;
-    };
-    *number = n;
-    0
+    match answer {
+        NumberAnswer::Number(n) => {
+            *number = n;
+            0
+        }
+        NumberAnswer::Refused(k) => k.number(),
+    }
 }
 
 // An instant where it is asked for.
@@ -44,25 +48,7 @@ fn give_julian(answer: JulianAnswer, ut: &mut f64) -> u16
             *ut = at.0;
             0
         }
-        JulianAnswer::NoSuchDate => 3,
-        JulianAnswer::OutOfRange => 8,
-    }
-}
-
-// A date in Nepal where it is asked for.
-fn give_npt(answer: NptAnswer, year: &mut u16, month: &mut u16, day: &mut u16) -> u16
-    ensures { λ r. ⌜ (r, (now (year .exit), now (month .exit), now (day .exit)))
-        ≡ gives (nptSays answer) numbers (now (year .entry), now (month .entry), now (day .entry)) ⌝ }
-{
-    match answer {
-        NptAnswer::Is(date) => {
-            *year = date.year;
-            *month = date.month;
-            *day = date.day;
-            0
-        }
-        NptAnswer::NoSuchDate => 3,
-        NptAnswer::OutOfRange => 8,
+        JulianAnswer::Refused(k) => k.number(),
     }
 }
 
@@ -156,5 +142,5 @@ pub extern "C" fn panel_npt_date(ut: f64, year: &mut u16, month: &mut u16, day: 
     ensures { λ r. ⌜ (r, (now (year .exit), now (month .exit), now (day .exit)))
         ≡ gives (nptAnswer ut) numbers (now (year .entry), now (month .entry), now (day .entry)) ⌝ }
 {
-    give_npt(gregorian::npt_date(UtDay(ut)), year, month, day)
+    give_date(gregorian::npt_date(UtDay(ut)), year, month, day)
 }

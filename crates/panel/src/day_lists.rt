@@ -1,10 +1,13 @@
 // Festival rules, and a day's festivals from a lent year table and lent rules.
 ghost use mathlib.Core.Path.{_≡_};
+ghost use Rattle.paper.specs.declared.Refusal.the-variants.{BadRules};
 ghost use Rattle.rules.specs.Rules.{acceptedRules};
 ghost use Rattle.festivals.specs.Answers.{listSays, onBs, onAd};
 ghost use Rattle.panel.specs.Boundary.{code, gives, givesList, table, accepting};
+use crate::acceptance;
 use crate::table_of;
 use festivals::ListAnswer;
+use paper::Refusal;
 
 // The number of festivals where it is asked for.
 fn give_count(answer: ListAnswer, count: &mut usize) -> u16
@@ -15,23 +18,16 @@ fn give_count(answer: ListAnswer, count: &mut usize) -> u16
             *count = n;
             0
         }
-        ListAnswer::BadTable => 1,
-        ListAnswer::BadRules => 2,
-        ListAnswer::NoSuchDate => 3,
-        ListAnswer::NoYear => 4,
-        ListAnswer::NoMonth => 5,
-        ListAnswer::NoDay => 6,
-        ListAnswer::Outside => 7,
-        ListAnswer::NoRoom => 9,
+        ListAnswer::Refused(k) => k.number(),
     }
 }
 
 // Whether lent rules are accepted: 2.
 #[no_mangle]
 pub extern "C" fn panel_check_rules(rules: &[u16]) -> u16
-    ensures { λ r. ⌜ r ≡ code (accepting (acceptedRules (now (rules .entry))) 2) ⌝ }
+    ensures { λ r. ⌜ r ≡ code (accepting (acceptedRules (now (rules .entry))) BadRules) ⌝ }
 {
-    if rules::accepts_rules(rules) { 0 } else { 2 }
+    acceptance(rules::accepts_rules(rules), Refusal::BadRules)
 }
 
 // The festivals of a BS date, as name, holiday, at the front of a lent buffer, and how many: 1, 2, 4, 5, 6, 9.

@@ -3,13 +3,14 @@ ghost use mathlib.Core.Path.{_≡_};
 ghost use lib.ListN.{length};
 ghost use Rattle.sky.specs.Time.{deltaT};
 ghost use Rattle.sky.specs.Tithi.{tithiOf};
-ghost use Rattle.sky.specs.Answers.{ttSays, ttAnswer, degreesSays, sunAnswer, moonAnswer, elongationAnswer, tithiSays, tithiAnswer, startsSays, startsAnswer, startsBuffer, endSays, endAnswer};
+ghost use Rattle.sky.specs.Answers.{ttSays, degreesSays, smallSays, startsSays, instantSays};
+ghost use Rattle.sky.specs.Answers.{ttAnswer, sunAnswer, moonAnswer, elongationAnswer, tithiAnswer, startsAnswer, startsBuffer, endAnswer};
 ghost use Rattle.panel.specs.Boundary.{gives, givesSome};
 use gregorian::UtDay;
 use sky::DegreesAnswer;
-use sky::EndAnswer;
+use sky::InstantAnswer;
+use sky::SmallAnswer;
 use sky::StartsAnswer;
-use sky::TithiAnswer;
 use sky::TtAnswer;
 use sky::TtDay;
 
@@ -17,33 +18,39 @@ use sky::TtDay;
 fn give_tt(answer: TtAnswer, tt: &mut f64) -> u16
     ensures { λ r. ⌜ (r, now (tt .exit)) ≡ gives (ttSays answer) (λ x. x) (now (tt .entry)) ⌝ }
 {
-    let TtAnswer::At(day) = answer else {
-        return 8;
-    };
-    *tt = day.0;
-    0
+    match answer {
+        TtAnswer::At(day) => {
+            *tt = day.0;
+            0
+        }
+        TtAnswer::Refused(k) => k.number(),
+    }
 }
 
 // An angle where it is asked for.
 fn give_degrees(answer: DegreesAnswer, degrees: &mut f64) -> u16
     ensures { λ r. ⌜ (r, now (degrees .exit)) ≡ gives (degreesSays answer) (λ x. x) (now (degrees .entry)) ⌝ }
 {
-    let DegreesAnswer::Is(angle) = answer else {
-        return 8;
-    };
-    *degrees = angle;
-    0
+    match answer {
+        DegreesAnswer::Is(angle) => {
+            *degrees = angle;
+            0
+        }
+        DegreesAnswer::Refused(k) => k.number(),
+    }
 }
 
-// A tithi's number where it is asked for.
-fn give_tithi(answer: TithiAnswer, tithi: &mut u16) -> u16
-    ensures { λ r. ⌜ (r, now (tithi .exit)) ≡ gives (tithiSays answer) (λ x. x) (now (tithi .entry)) ⌝ }
+// A small number where it is asked for.
+pub fn give_small(answer: SmallAnswer, small: &mut u16) -> u16
+    ensures { λ r. ⌜ (r, now (small .exit)) ≡ gives (smallSays answer) (λ x. x) (now (small .entry)) ⌝ }
 {
-    let TithiAnswer::Is(n) = answer else {
-        return 8;
-    };
-    *tithi = n;
-    0
+    match answer {
+        SmallAnswer::Is(n) => {
+            *small = n;
+            0
+        }
+        SmallAnswer::Refused(k) => k.number(),
+    }
 }
 
 // The numbers of starts and of steps where they are asked for.
@@ -56,27 +63,25 @@ fn give_starts(answer: StartsAnswer, count: &mut usize, steps: &mut usize) -> u1
             *steps = k;
             0
         }
-        StartsAnswer::OutOfRange => 8,
-        StartsAnswer::NotEnded => 11,
-        StartsAnswer::NoRoom => 9,
+        StartsAnswer::Refused(k) => k.number(),
     }
 }
 
 // An instant where it is asked for, if there is one, and whether there is.
-fn give_end(answer: EndAnswer, found: &mut u16, end: &mut f64) -> u16
-    ensures { λ r. ⌜ (r, (now (found .exit), now (end .exit))) ≡ givesSome (endSays answer) (λ x. x) (now (found .entry), now (end .entry)) ⌝ }
+pub fn give_instant(answer: InstantAnswer, found: &mut u16, ut: &mut f64) -> u16
+    ensures { λ r. ⌜ (r, (now (found .exit), now (ut .exit))) ≡ givesSome (instantSays answer) (λ x. x) (now (found .entry), now (ut .entry)) ⌝ }
 {
     match answer {
-        EndAnswer::At(at) => {
+        InstantAnswer::At(at) => {
             *found = 1;
-            *end = at.0;
+            *ut = at.0;
             0
         }
-        EndAnswer::Nothing => {
+        InstantAnswer::Nothing => {
             *found = 0;
             0
         }
-        EndAnswer::OutOfRange => 8,
+        InstantAnswer::Refused(k) => k.number(),
     }
 }
 
@@ -137,7 +142,7 @@ pub extern "C" fn panel_tithi_of(degrees: f64, tithi: &mut u16) -> u16
 pub extern "C" fn panel_tithi_at(ut: f64, tithi: &mut u16) -> u16
     ensures { λ r. ⌜ (r, now (tithi .exit)) ≡ gives (tithiAnswer ut) (λ x. x) (now (tithi .entry)) ⌝ }
 {
-    give_tithi(sky::tithi_at(UtDay(ut)), tithi)
+    give_small(sky::tithi_at(UtDay(ut)), tithi)
 }
 
 // Every instant from one to another at which a tithi begins, at the front of a lent buffer; how many, and how many steps were walked: 8, 11, 9.
@@ -166,5 +171,5 @@ pub extern "C" fn panel_tithi_starts_between(
 pub extern "C" fn panel_tithi_end(ut: f64, found: &mut u16, end: &mut f64) -> u16
     ensures { λ r. ⌜ (r, (now (found .exit), now (end .exit))) ≡ givesSome (endAnswer ut) (λ x. x) (now (found .entry), now (end .entry)) ⌝ }
 {
-    give_end(sky::tithi_end(UtDay(ut)), found, end)
+    give_instant(sky::tithi_end(UtDay(ut)), found, end)
 }

@@ -1,8 +1,9 @@
 // The engine for C: numbers, lent slices and lent places alone. Each function answers 0 or the number of a refusal of document 01; a refusal changes
 // no lent place. Each promises what the engine's function of that name promises, by the same definition.
 ghost use mathlib.Core.Path.{_≡_};
-ghost use Rattle.panel.specs.Boundary.{table};
+ghost use Rattle.panel.specs.Boundary.{code, accepting, table};
 use conversion::Table;
+use paper::Refusal;
 
 mod almanac;
 mod conversions;
@@ -22,4 +23,11 @@ fn table_of(first_year: u16, year: u16, month: u16, day: u16) -> Table
         month,
         day,
     }
+}
+
+// 0 for what is accepted, or the number of the refusal.
+fn acceptance(good: bool, refusal: Refusal) -> u16
+    ensures { λ r. ⌜ r ≡ code (accepting good refusal) ⌝ }
+{
+    if good { 0 } else { refusal.number() }
 }

@@ -3,7 +3,8 @@ ghost use mathlib.Core.Path.{_≡_};
 ghost use Rattle.grid.specs.Step.{stepMonth, stepSays};
 ghost use Rattle.grid.specs.Month.{gridSays};
 ghost use Rattle.grid.specs.Kathmandu.{monthShown};
-ghost use Rattle.panel.specs.Boundary.{gives, monthOf, monthNumbers, givesMonth, date, table, lent};
+ghost use Rattle.conversion.specs.Flat.{date};
+ghost use Rattle.panel.specs.Boundary.{gives, monthOf, monthNumbers, givesMonth, table, lent};
 use crate::table_of;
 use gregorian::Date;
 use grid::GridAnswer;
@@ -20,8 +21,7 @@ fn give_month(answer: StepAnswer, year: &mut u16, month: &mut u8) -> u16
             *month = stepped.month;
             0
         }
-        StepAnswer::BadTable => 1,
-        StepAnswer::OffTable => 10,
+        StepAnswer::Refused(k) => k.number(),
     }
 }
 
@@ -69,12 +69,7 @@ fn give_grid(
             *festival_count = shown.festivals;
             0
         }
-        GridAnswer::BadTable => 1,
-        GridAnswer::BadRules => 2,
-        GridAnswer::NoSuchDate => 3,
-        GridAnswer::NoYear => 4,
-        GridAnswer::NoMonth => 5,
-        GridAnswer::NoRoom => 9,
+        GridAnswer::Refused(k) => k.number(),
     }
 }
 
@@ -142,8 +137,7 @@ pub extern "C" fn panel_month_grid(
           now («festival_count» .exit),
         ),
       ),
-      now (cells .exit),
-      now (festivals .exit),
+      (now (cells .exit), now (festivals .exit)),
     )
         ≡ givesMonth (monthShown (table «first_year» «first_ad_year» «first_ad_month» «first_ad_day») (now (rows .entry)) (now (rules .entry))
         (date «today_year» «today_month» «today_day») year month (now (cells .entry)) (now (festivals .entry))) (

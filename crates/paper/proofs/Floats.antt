@@ -1,18 +1,16 @@
 -- Sums of floats above zero: what they are, that they grow with a summand, and how a whole part is cut. Assumes nothing.
-use mathlib.Core.Path.{_≡_, refl, sym, ap, _∙_, subst}
+use mathlib.Core.Path.{_≡_, refl, sym, subst}
 use Prim.Native.Nat.{ℕ, _+_, _-_, _*_, _/_, _^_, _≤_, _<_, min}
-use native.Mathlib.Nat.{le-trans, le-of-eq, mul-comm, mul-pos, mul-mul-mul-comm, add-mul, mul-le-mul-right, add-le-add, div-lt-iff-lt-mul}
+use native.Mathlib.Nat.{le-trans, le-of-eq, mul-pos, mul-mul-mul-comm, add-mul, mul-le-mul-right, add-le-add, div-lt-iff-lt-mul}
 use native.Mathlib.Omega.{arith}
 use mathlib.Core.Bool.{true, false}
 use lib.IntN.{pos}
 use lib.Dec.{T, ltb, lt→ltb}
 use lib.Ieee.{Float, nan, inf, fin, Format, up, down, round, add, le, lt, toUnsigned}
 use lib.Ieee.Fits.{down-pos}
-use lib.Ieee.Exact.{HasValue}
 use lib.Ieee.Nearest.{div-mono}
 use lib.Ieee.Order.{round-mono}
-use lib.Ieee.Positive.{num, den, den-pos, positive, value→cross, le→cross}
-use lib.Ieee.Scale.{round-same}
+use lib.Ieee.Positive.{num, den, den-pos, positive, le→cross}
 use Rattle.paper.specs.Floats.{floorOf}
 
 pub add-is : (f : Format) (x y : Float) → T (positive x) → T (positive y) → add f x y ≡ round f false (num x * den y + num y * den x) (den x * den y)
@@ -24,22 +22,6 @@ add-is f (fin false m e) nan p q = absurd q
 add-is f (fin false m e) (inf t) p q = absurd q
 add-is f (fin false m e) (fin true n d) p q = absurd q
 add-is f (fin false m e) (fin false n d) p q = refl
-
--- X / p and Y / q are a / c and b / d, so their sums are equal
-cross : (X p Y q a c b d : ℕ) → X * c ≡ a * p → Y * d ≡ b * q → (X * q + Y * p) * (c * d) ≡ (a * d + b * c) * (p * q)
-cross X p Y q a c b d h k =
-    let u : X * q * (c * d) ≡ a * d * (p * q) =
-    mul-mul-mul-comm X q c d ∙ ap (λ (z : ℕ). z * (q * d)) h ∙ ap (λ (z : ℕ). a * p * z) (mul-comm q d) ∙ mul-mul-mul-comm a p d q in
-    let v : Y * p * (c * d) ≡ b * c * (p * q) =
-    ap (λ (z : ℕ). Y * p * z) (mul-comm c d) ∙ mul-mul-mul-comm Y p d c ∙ ap (λ (z : ℕ). z * (p * c)) k ∙ ap (λ (z : ℕ). b * q * z) (mul-comm p c) ∙ mul-mul-mul-comm b q c p ∙ ap (λ (z : ℕ). b * c * z) (mul-comm q p) in
-    add-mul (X * q) (Y * p) (c * d) ∙ ap (λ (z : ℕ). z + Y * p * (c * d)) u ∙ ap (λ (z : ℕ). a * d * (p * q) + z) v ∙ sym (add-mul (a * d) (b * c) (p * q))
-
--- by any fractions that the summands equal
-pub add-at : (f : Format) (x y : Float) (a c b d : ℕ) → T (positive x) → T (positive y) → 0 < c → 0 < d → HasValue x false a c → HasValue y false b d → add f x y ≡ round f false (a * d + b * c) (c * d)
-add-at f x y a c b d p q C D h k =
-    add-is f x y p q
-    ∙ round-same f false (num x * den y + num y * den x) (den x * den y) (a * d + b * c) (c * d) (mul-pos (den-pos x) (den-pos y)) (mul-pos C D)
-    (cross (num x) (den x) (num y) (den y) a c b d (value→cross x a c h) (value→cross y b d k))
 
 -- X / p ≤ Z / r, so X / p + Y / q ≤ Z / r + Y / q
 grow : (X p Z r Y q : ℕ) → X * r ≤ Z * p → (X * q + Y * p) * (r * q) ≤ (Z * q + Y * r) * (p * q)

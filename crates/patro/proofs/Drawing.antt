@@ -1,14 +1,16 @@
 -- A page drawn in a buffer of its own, and laid in another. Assumes nothing.
 use Prim.Native.Nat.{ℕ, _≤_, _<_, min}
 use mathlib.Core.Path.{_≡_, refl, sym, ap, _∙_}
-use mathlib.Core.Bool.{and-false}
+use mathlib.Core.Bool.{Bool, true, false, cond, _&&_, and-false}
 use mathlib.Core.List.{List}
 use mathlib.Core.Logic.{⊎-elim}
 use native.Mathlib.Omega.{arith}
 use borrow.Author.Tests.{le-leb, lt-leb}
 use lib.Dec.{leb}
-use lib.ListN.{length, take}
+use lib.ListN.{length, take, length-append}
 use lib.Seq.{length-sets, length-take-le}
+use Rattle.paper.specs.declared.Refusal.{Refusal}
+use Rattle.paper.specs.declared.Refusal.the-variants as R
 use Rattle.paper.specs.Answers.{Answer, answered, refused}
 use Rattle.paper.proofs.Answers.{answered-same, refused-answered}
 use Rattle.paper.proofs.Tests.{split}
@@ -17,16 +19,16 @@ use Rattle.text.specs.Written.{Wrote}
 use Rattle.text.proofs.Writes.{wrote-front}
 use Rattle.patro.specs.declared.pages.Laid.{Laid}
 use Rattle.patro.specs.declared.pages.Laid.the-variants as L
-use Rattle.patro.specs.declared.refusals.Refusal.{Refusal}
-use Rattle.patro.specs.declared.refusals.Refusal.the-variants as R
-use Rattle.patro.specs.Pages.{laid, laidSays, drawn, Lays}
+use Rattle.grid.specs.Month.{over}
+use Rattle.patro.specs.Pages.{Laying, laid, laidSays, Lays}
+use Rattle.patro.specs.Inner.{drawn}
 
 -- ---- drawn
 
 -- a refusal is said and nothing is stored
-pub draws-refused : {a : Answer (List ℕ)} {k : ℕ} {l : List ℕ} {r : Laid} → a ≡ refused k → laidSays r ≡ refused k → Lays (drawn a l) l r
+pub draws-refused : {a : Answer (List ℕ)} {k : Refusal} {l : List ℕ} → a ≡ refused k → Lays (drawn a l) l (L.Refused k)
 unfolding drawn
-draws-refused e h = rw e (record { says = h; stored = refl })
+draws-refused e = rw e (record { says = refl; stored = refl })
 
 -- a page is written as far as the buffer goes
 pub draws-page : {a : Answer (List ℕ)} {text l m : List ℕ} {n : ℕ} → a ≡ answered text → Wrote l 0 text m n → Lays (drawn a l) m (L.Bytes n)
@@ -90,3 +92,18 @@ pub lays-refused : (a : Answer (List ℕ)) (l out : List ℕ) {page : List ℕ} 
 unfolding drawn laid
 lays-refused (answered text) l out w e = absurd (refused-answered (ap laidSays e) (w .says))
 lays-refused (refused k) l out w e = record { says = ap laidSays (sym e) ∙ w .says; stored = refl }
+
+-- the page where it has room, or the buffer as it was
+abbrev roomed : List ℕ → List ℕ → Bool → Laying
+roomed text out b = cond b (record { answer = answered (length text); out = over text out }) (record { answer = refused R.NoRoom; out = out })
+
+roomed-fits : (text out : List ℕ) (b : Bool) {after : List ℕ} {n : ℕ} → answered n ≡ roomed text out b .answer → after ≡ roomed text out b .out → n ≤ length after
+roomed-fits text out true {after} {n} p q = let k : n ≡ length text = answered-same p in rw (q, length-append) (omega arith)
+roomed-fits text out false p q = absurd (refused-answered refl (sym p))
+
+-- a page that is laid lies in the buffer
+pub laid-fits : (a : Answer (List ℕ)) (out : List ℕ) {after : List ℕ} {r : Laid} {n : ℕ} → Lays (laid a out) after r → r ≡ L.Bytes n → n ≤ length after
+unfolding laid
+laid-fits (answered text) out w e =
+    roomed-fits text out (leb (length text) 65535 && leb (length text) (length out)) (sym (ap laidSays e) ∙ w .says) (w .stored)
+laid-fits (refused k) out w e = absurd (refused-answered (w .says) (ap laidSays e))

@@ -2,3 +2,4 @@
 pub mod Refusals
 pub mod Words
 pub mod Pages
+pub mod Inner

@@ -1,12 +1,12 @@
 -- The page that is asked for, and the page in a lent buffer. Assumes nothing.
-use Prim.Native.Nat.{ℕ, _/_, min}
+use Prim.Native.Nat.{ℕ, _/_}
 use mathlib.Core.Path.{_≡_}
 use mathlib.Core.Bool.{cond, _&&_}
 use mathlib.Core.List.{List}
 use lib.Dec.{leb}
 use lib.ListN.{length, replicate}
-use lib.Seq.{sets}
 use Rattle.paper.specs.Answers.{Answer, answered, refused, given, then}
+use Rattle.paper.specs.declared.Refusal.the-variants.{NoDay, NoRoom}
 use Rattle.gregorian.specs.declared.Date.{Date}
 use Rattle.conversion.specs.declared.Table.{Table}
 use Rattle.conversion.specs.Calendar.{fromAd}
@@ -22,11 +22,8 @@ use Rattle.patro.specs.declared.words.Asked.{Asked}
 use Rattle.patro.specs.declared.words.Asked.the-variants as A
 use Rattle.patro.specs.declared.pages.Part.{Part}
 use Rattle.patro.specs.declared.pages.Part.the-variants as P
-use Rattle.patro.specs.declared.pages.Worked.{Worked}
-use Rattle.patro.specs.declared.pages.Worked.the-variants as W
 use Rattle.patro.specs.declared.pages.Laid.{Laid}
 use Rattle.patro.specs.declared.pages.Laid.the-variants as L
-use Rattle.patro.specs.Refusals.{refusalNumber}
 
 -- ---- a page
 
@@ -46,7 +43,7 @@ titled y m x = record { year = y; month = m; first = x .first; last = x .last; w
 unfoldable pub partPage : List ℕ → List ℕ → ℕ → ℕ → Part → Month → List ℕ → List ℕ → Answer (List ℕ)
 partPage rules names y m P.Whole x cells festivals = answered (monthPage (titled y m x) rules names cells festivals)
 partPage rules names y m (P.Day d) x cells festivals =
-    given (leb 1 d && leb d (x .days)) 6 (answered (dayPage y m (cellOf d cells) rules names cells festivals))
+    given (leb 1 d && leb d (x .days)) NoDay (answered (dayPage y m (cellOf d cells) rules names cells festivals))
 
 -- the month as the engine shows it in buffers of zeros for six weeks and for every list of a month: refusals 1, 2, 3 (today), 4, 5, 9
 abbrev pub monthIn : Table → List ℕ → List ℕ → Date → ℕ → ℕ → Shown
@@ -59,12 +56,11 @@ module _ (t : Table) (rows rules names : List ℕ) (today : Date) where
       let shown = monthIn t rows rules today y m in
       then (shown .answer) (λ x. partPage rules names y m part x (shown .cells) (shown .festivals))
 
-  -- a BS month, a BS date, a Gregorian date by its BS date (refusals 1, 3, 7 come first); words of another form have no page
+  -- a BS month, a BS date, a Gregorian date by its BS date (refusals 1, 3, 7 come first)
   unfoldable pub pageAsked : Asked → Answer (List ℕ)
   pageAsked (A.Month y m) = pageBs y m P.Whole
   pageAsked (A.Day y m d) = pageBs y m (P.Day d)
   pageAsked (A.Date x) = then (fromAd (flat t rows) (x .year) (x .month) (x .day)) (λ b. pageBs (b .year) (b .month) (P.Day (b .day)))
-  pageAsked A.Other = refused 0
 
 -- ---- a page in a lent buffer
 
@@ -76,25 +72,16 @@ pub record Laying : Type 0 where
 -- a page of at most 65,535 bytes that is no longer than the buffer stands at its front: refusal 9. A refusal changes nothing
 unfoldable pub laid : Answer (List ℕ) → List ℕ → Laying
 laid (answered text) out =
-    cond (leb (length text) 65535 && leb (length text) (length out)) (record { answer = answered (length text); out = over text out }) (record { answer = refused 9; out = out })
+    cond (leb (length text) 65535 && leb (length text) (length out))
+    (record { answer = answered (length text); out = over text out })
+    (record { answer = refused NoRoom; out = out })
 laid (refused k) out = record { answer = refused k; out = out }
 
 abbrev pub laidSays : Laid → Answer ℕ
 laidSays (L.Bytes n) = answered n
-laidSays (L.Refused why) = refused (refusalNumber why)
+laidSays (L.Refused why) = refused why
 
 -- an answer and a buffer as they are to be
 pub record Lays (w : Laying) (after : List ℕ) (r : Laid) : Type 0 where
   pub says : laidSays r ≡ w .answer
   pub stored : after ≡ w .out
-
--- ---- inside
-
-abbrev pub workedSays : Worked → Answer Month
-workedSays (W.Out x) = answered x
-workedSays (W.Refused why) = refused (refusalNumber why)
-
--- as much of a page as the buffer holds, stored from its front on, and how many bytes that is
-unfoldable pub drawn : Answer (List ℕ) → List ℕ → Laying
-drawn (answered text) out = record { answer = answered (min (length text) (length out)); out = sets out 0 text }
-drawn (refused k) out = record { answer = refused k; out = out }

@@ -1,30 +1,26 @@
--- Why there is no page: its number, and the line that says so. Assumes nothing.
+-- Why there is no page: the line that says so. Assumes nothing.
 use Prim.Native.Nat.{ℕ}
-use mathlib.Core.List.{List}
+use mathlib.Core.List.{List, _++_}
+use Rattle.paper.specs.declared.Refusal.{Refusal}
+use Rattle.paper.specs.declared.Refusal.the-variants as R
+use Rattle.paper.specs.Refusals.{number}
+use Rattle.text.specs.Digits.{digits}
 use Rattle.text.specs.Quoted.{bytes}
-use Rattle.patro.specs.declared.refusals.Refusal.{Refusal}
-use Rattle.patro.specs.declared.refusals.Refusal.the-variants as R
 
--- document 01's number; words of another form are none of its refusals
-abbrev pub refusalNumber : Refusal → ℕ
-refusalNumber R.BadTable = 1
-refusalNumber R.BadRules = 2
-refusalNumber R.NoSuchDate = 3
-refusalNumber R.NoYear = 4
-refusalNumber R.NoMonth = 5
-refusalNumber R.NoDay = 6
-refusalNumber R.Outside = 7
-refusalNumber R.NoRoom = 9
-refusalNumber R.OtherWords = 0
+-- what a refusal means for a page; 8, 10 and 11 are none of a page's
+abbrev pub reasonText : Refusal → List ℕ
+reasonText R.BadTable = bytes "the year table is not good"
+reasonText R.BadRules = bytes "the rules are not good"
+reasonText R.NoSuchDate = bytes "there is no such Gregorian date from 1900 to 2149"
+reasonText R.NoYear = bytes "the BS year is not in the year table"
+reasonText R.NoMonth = bytes "the BS month is not 1 to 12"
+reasonText R.NoDay = bytes "the BS day is 0 or past the month's end"
+reasonText R.Outside = bytes "the Gregorian date is before or after the year table"
+reasonText R.OutOfRange = bytes "an instant is out of range"
+reasonText R.NoRoom = bytes "the page is longer than this program can hold"
+reasonText R.OffTable = bytes "the month is not in the year table"
+reasonText R.NotEnded = bytes "a search did not end"
 
-abbrev pub refusalText : Refusal → List ℕ
-refusalText R.BadTable = bytes "patro: refused, 1: the year table is not good\n"
-refusalText R.BadRules = bytes "patro: refused, 2: the rules are not good\n"
-refusalText R.NoSuchDate = bytes "patro: refused, 3: there is no such Gregorian date from 1900 to 2149\n"
-refusalText R.NoYear = bytes "patro: refused, 4: the BS year is not in the year table\n"
-refusalText R.NoMonth = bytes "patro: refused, 5: the BS month is not 1 to 12\n"
-refusalText R.NoDay = bytes "patro: refused, 6: the BS day is 0 or past the month's end\n"
-refusalText R.Outside = bytes "patro: refused, 7: the Gregorian date is before or after the year table\n"
-refusalText R.NoRoom = bytes "patro: refused, 9: the page is longer than this program can hold\n"
-refusalText R.OtherWords =
-    bytes "patro: not in form: give a BS year and month (2083 7), a BS date (2083 7 29) or a Gregorian date (2026-11-15)\n"
+-- patro: refused, 5: the BS month is not 1 to 12
+unfoldable pub refusalText : Refusal → List ℕ
+refusalText why = bytes "patro: refused, " ++ (digits (number why) ++ (bytes ": " ++ (reasonText why ++ bytes "\n")))

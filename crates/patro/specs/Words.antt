@@ -9,8 +9,9 @@ use Rattle.text.specs.Dashed.{numbers, ended}
 use Rattle.text.specs.declared.triples.Numbers.{Numbers}
 use Rattle.text.specs.declared.triples.Numbers.the-variants as N
 use Rattle.gregorian.specs.declared.Date.{Date}
-use Rattle.patro.specs.declared.words.Asked.{Asked}
 use Rattle.patro.specs.declared.words.Asked.the-variants as A
+use Rattle.patro.specs.declared.words.Words.{Words}
+use Rattle.patro.specs.declared.words.Words.the-variants as W
 use Rattle.patro.specs.declared.words.InForm.{InForm}
 use Rattle.patro.specs.declared.words.InForm.the-variants as F
 use Rattle.patro.specs.declared.words.Pair.{Pair}
@@ -48,23 +49,23 @@ orFirst F.Not = record { year = 1900; month = 1; day = 1 }
 
 -- ---- one, two or three words
 
-abbrev pub askedDate : InForm → Asked
-askedDate (F.Is x) = A.Date x
-askedDate F.Not = A.Other
+abbrev pub askedDate : InForm → Words
+askedDate (F.Is x) = W.Ask (A.Date x)
+askedDate F.Not = W.Other
 
 -- two numbers are a BS year and a month
-abbrev pub askedMonth : Pair → Asked
-askedMonth (T.Are y m) = A.Month y m
-askedMonth T.Not = A.Other
+abbrev pub askedMonth : Pair → Words
+askedMonth (T.Are y m) = W.Ask (A.Month y m)
+askedMonth T.Not = W.Other
 
 -- and with a third the day
-abbrev pub askedDay : Pair → Option ℕ → Asked
-askedDay (T.Are y m) (some d) = A.Day y m d
-askedDay (T.Are y m) none = A.Other
-askedDay T.Not d = A.Other
+abbrev pub askedDay : Pair → Option ℕ → Words
+askedDay (T.Are y m) (some d) = W.Ask (A.Day y m d)
+askedDay (T.Are y m) none = W.Other
+askedDay T.Not d = W.Other
 
 -- one word is a Gregorian date, two are a BS month, three a BS date
-unfoldable pub askedBy : ℕ → List ℕ → List ℕ → List ℕ → Asked
+unfoldable pub askedBy : ℕ → List ℕ → List ℕ → List ℕ → Words
 askedBy count a b c =
     cond (eqb count 1) (askedDate (dateIn a))
-    (cond (eqb count 2) (askedMonth (pairIn a b)) (cond (eqb count 3) (askedDay (pairIn a b) (numberIn c)) A.Other))
+    (cond (eqb count 2) (askedMonth (pairIn a b)) (cond (eqb count 3) (askedDay (pairIn a b) (numberIn c)) W.Other))

@@ -11,8 +11,9 @@ use gregorian::Date;
 use libc::STDERR_FILENO;
 use libc::STDOUT_FILENO;
 use pages::Laid;
-use refusals::Refusal;
+use paper::Refusal;
 use words::Asked;
+use words::Words;
 
 // Today by the third argument.
 fn today() -> Date {
@@ -22,7 +23,7 @@ fn today() -> Date {
 }
 
 // What the words from the fourth argument on ask. A word that is longer than its buffer is empty.
-fn from_words() -> Asked {
+fn from_words() -> Words {
     let mut first = [0u8; 16];
     let mut second = [0u8; 16];
     let mut third = [0u8; 16];
@@ -31,7 +32,7 @@ fn from_words() -> Asked {
     let c = os::arg(6, &mut third);
     let count = os::arg_count();
     if count < 4 {
-        return Asked::Other;
+        return Words::Other;
     }
     words::asked_by(count - 4, &first[..a], &second[..b], &third[..c])
 }
@@ -43,39 +44,26 @@ fn refuse(why: Refusal) {
     io::write_all(STDERR_FILENO, &line[..n]);
 }
 
-// Writes the first n bytes of a page to standard output.
-fn write_page(page: &[u8], n: usize) {
-    if n <= page.len() {
-        if !io::write_all(STDOUT_FILENO, &page[..n]) {
-            io::write_all(
-                STDERR_FILENO,
-                b"patro: standard output could not be written\n",
-            );
-        }
+// Writes a page to standard output.
+fn write_page(page: &[u8]) {
+    if !io::write_all(STDOUT_FILENO, page) {
+        io::write_all(
+            STDERR_FILENO,
+            b"patro: standard output could not be written\n",
+        );
     }
 }
 
-// Writes what is asked, by the numbers at the front of the two buffers.
-fn show(asked: Asked, table: Table, rows: &[u16], n: usize, rules: &[u16], k: usize, names: &[u8]) {
+// Writes what is asked.
+fn show(asked: Asked, table: Table, rows: &[u16], rules: &[u16], names: &[u8]) {
     let mut page = [0u8; 65535];
-    if n <= rows.len() {
-        if k <= rules.len() {
-            match pages::lay(
-                asked,
-                today(),
-                table,
-                &rows[..n],
-                &rules[..k],
-                names,
-                &mut page,
-            ) {
-                Laid::Bytes(bytes) => write_page(&page, bytes),
-                Laid::Refused(why) => refuse(why),
-            }
-        }
+    match pages::lay(asked, today(), table, rows, rules, names, &mut page) {
+        Laid::Bytes(n) => write_page(&page[..n]),
+        Laid::Refused(why) => refuse(why),
     }
 }
 
+// Reads the two files and writes what is asked.
 fn run(asked: Asked, rows: &mut [u16], rules: &mut [u16], names: &mut [u8]) {
     let TableRead::Is(table, n) = files::table_at(1, rows) else {
         return;
@@ -83,7 +71,7 @@ fn run(asked: Asked, rows: &mut [u16], rules: &mut [u16], names: &mut [u8]) {
     let RulesRead::Are(k) = files::rules_at(2, rules, names) else {
         return;
     };
-    show(asked, table, rows, n, rules, k, names);
+    show(asked, table, &rows[..n], &rules[..k], names);
 }
 
 fn main() {
@@ -91,7 +79,12 @@ fn main() {
     let mut rules = [0u16; 2600];
     let mut names = [0u8; 20800];
     match from_words() {
-        Asked::Other => refuse(Refusal::OtherWords),
-        question => run(question, &mut rows, &mut rules, &mut names),
+        Words::Ask(asked) => run(asked, &mut rows, &mut rules, &mut names),
+        Words::Other => {
+            io::write_all(
+                STDERR_FILENO,
+                b"patro: not in form: give a BS year and month (2083 7), a BS date (2083 7 29) or a Gregorian date (2026-11-15)\n",
+            );
+        }
     }
 }

@@ -3,15 +3,15 @@ ghost use mathlib.Core.Path.{_≡_};
 ghost use Prim.Native.Nat.{_≤_};
 ghost use lib.ListN.{length, take};
 ghost use Rattle.paper.specs.Answers.{answered};
-ghost use Rattle.grid.specs.Month.{gridSays};
-ghost use Rattle.patro.specs.Pages.{cellOf, titled, partPage, pageBs, pageAsked, laid, workedSays, drawn, Lays};
-use crate::refusals::Refusal;
+ghost use Rattle.patro.specs.Pages.{cellOf, titled, partPage, pageBs, pageAsked, laid, Lays};
+ghost use Rattle.patro.specs.Inner.{drawn};
 use crate::words::Asked;
 use conversion::BsAnswer;
 use conversion::Table;
 use gregorian::Date;
 use grid::GridAnswer;
 use grid::Month;
+use paper::Refusal;
 use wall::Page;
 
 // How many bytes of the front of a lent buffer a page takes, or why there is none.
@@ -20,31 +20,10 @@ pub enum Laid {
     Refused(Refusal),
 }
 
-// A month of the engine, or its refusal.
-enum Worked {
-    Out(Month),
-    Refused(Refusal),
-}
-
 // The whole month, or one of its days.
 enum Part {
     Whole,
     Day(u16),
-}
-
-// What the engine answered.
-fn told(answer: GridAnswer) -> Worked
-    ensures { λ r. ⌜ workedSays r ≡ gridSays answer ⌝ }
-{
-    match answer {
-        GridAnswer::Is(month) => Worked::Out(month),
-        GridAnswer::BadTable => Worked::Refused(Refusal::BadTable),
-        GridAnswer::BadRules => Worked::Refused(Refusal::BadRules),
-        GridAnswer::NoSuchDate => Worked::Refused(Refusal::NoSuchDate),
-        GridAnswer::NoYear => Worked::Refused(Refusal::NoYear),
-        GridAnswer::NoMonth => Worked::Refused(Refusal::NoMonth),
-        GridAnswer::NoRoom => Worked::Refused(Refusal::NoRoom),
-    }
 }
 
 // What the page of a month says beside its cells.
@@ -91,7 +70,8 @@ fn draw_part(
     page: &mut [u8],
 ) -> Laid
     requires { ⌜ (m .cells ≤ 42) × (length (now cells) ≡ 504) ⌝ }
-    ensures { λ r. ⌜ Lays (drawn (partPage (now (rules .entry)) (now (names .entry)) year month part m (now (cells .entry)) (now (festivals .entry))) (now (page .entry))) (now (page .exit)) r ⌝ }
+    ensures { λ r. ⌜ Lays (drawn (partPage (now (rules .entry)) (now (names .entry)) year month part m (now (cells .entry)) (now (festivals .entry)))
+        (now (page .entry))) (now (page .exit)) r ⌝ }
 {
     match part {
         Part::Whole => {
@@ -133,11 +113,12 @@ fn draw_bs(
     names: &[u8],
     page: &mut [u8],
 ) -> Laid
-    ensures { λ r. ⌜ Lays (drawn (pageBs table (now (rows .entry)) (now (rules .entry)) (now (names .entry)) today year month part) (now (page .entry))) (now (page .exit)) r ⌝ }
+    ensures { λ r. ⌜ Lays (drawn (pageBs table (now (rows .entry)) (now (rules .entry)) (now (names .entry)) today year month part)
+        (now (page .entry))) (now (page .exit)) r ⌝ }
 {
     let mut cells = [0u16; 504];
     let mut festivals = [0u16; 24576];
-    let answer = grid::month_grid(
+    match grid::month_grid(
         table,
         rows,
         rules,
@@ -146,10 +127,19 @@ fn draw_bs(
         month,
         &mut cells,
         &mut festivals,
-    );
-    match told(answer) {
-        Worked::Out(m) => draw_part(rules, names, year, month, part, m, &cells, &festivals, page),
-        Worked::Refused(why) => Laid::Refused(why),
+    ) {
+        GridAnswer::Is(m) => draw_part(
+            rules,
+            names,
+            year,
+            month,
+            part,
+            m,
+            &cells,
+            &festivals,
+            page,
+        ),
+        GridAnswer::Refused(why) => Laid::Refused(why),
     }
 }
 
@@ -163,7 +153,8 @@ fn draw_ad(
     names: &[u8],
     page: &mut [u8],
 ) -> Laid
-    ensures { λ r. ⌜ Lays (drawn (pageAsked table (now (rows .entry)) (now (rules .entry)) (now (names .entry)) today (Asked.Date date)) (now (page .entry))) (now (page .exit)) r ⌝ }
+    ensures { λ r. ⌜ Lays (drawn (pageAsked table (now (rows .entry)) (now (rules .entry)) (now (names .entry)) today (Asked.Date date))
+        (now (page .entry))) (now (page .exit)) r ⌝ }
 {
     match conversion::ad_to_bs(table, rows, date.year, date.month, date.day) {
         BsAnswer::Is(bs) => draw_bs(
@@ -177,9 +168,7 @@ fn draw_ad(
             names,
             page,
         ),
-        BsAnswer::BadTable => Laid::Refused(Refusal::BadTable),
-        BsAnswer::NoSuchDate => Laid::Refused(Refusal::NoSuchDate),
-        BsAnswer::Outside => Laid::Refused(Refusal::Outside),
+        BsAnswer::Refused(why) => Laid::Refused(why),
     }
 }
 
@@ -193,13 +182,13 @@ fn draw(
     names: &[u8],
     page: &mut [u8],
 ) -> Laid
-    ensures { λ r. ⌜ Lays (drawn (pageAsked table (now (rows .entry)) (now (rules .entry)) (now (names .entry)) today asked) (now (page .entry))) (now (page .exit)) r ⌝ }
+    ensures { λ r. ⌜ Lays (drawn (pageAsked table (now (rows .entry)) (now (rules .entry)) (now (names .entry)) today asked)
+        (now (page .entry))) (now (page .exit)) r ⌝ }
 {
     match asked {
         Asked::Month(y, m) => draw_bs(today, y, m, Part::Whole, table, rows, rules, names, page),
         Asked::Day(y, m, d) => draw_bs(today, y, m, Part::Day(d), table, rows, rules, names, page),
         Asked::Date(date) => draw_ad(today, date, table, rows, rules, names, page),
-        Asked::Other => Laid::Refused(Refusal::OtherWords),
     }
 }
 
@@ -227,7 +216,8 @@ pub fn lay(
     names: &[u8],
     out: &mut [u8],
 ) -> Laid
-    ensures { λ r. ⌜ Lays (laid (pageAsked table (now (rows .entry)) (now (rules .entry)) (now (names .entry)) today asked) (now (out .entry))) (now (out .exit)) r ⌝ }
+    ensures { λ r. ⌜ Lays (laid (pageAsked table (now (rows .entry)) (now (rules .entry)) (now (names .entry)) today asked)
+        (now (out .entry))) (now (out .exit)) r ⌝ }
 {
     let mut page = [0u8; 65536];
     match draw(asked, today, table, rows, rules, names, &mut page) {

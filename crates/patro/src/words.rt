@@ -5,11 +5,16 @@ use gregorian::Date;
 use text::Numbers;
 use text::Whole;
 
-// A BS month, a BS date, a Gregorian date, or words of another form.
+// A BS month, a BS date or a Gregorian date.
 pub enum Asked {
     Month(u16, u16),
     Day(u16, u16, u16),
     Date(Date),
+}
+
+// What words ask, or that they are of another form.
+pub enum Words {
+    Ask(Asked),
     Other,
 }
 
@@ -50,13 +55,13 @@ pub fn today(s: &[u8]) -> Date
 }
 
 // One word: a Gregorian date.
-fn one_word(s: &[u8]) -> Asked
+fn one_word(s: &[u8]) -> Words
     ensures { λ r. ⌜ r ≡ askedDate (dateIn (now (s .entry))) ⌝ }
 {
     let InForm::Is(date) = date_of(s) else {
-        return Asked::Other;
+        return Words::Other;
     };
-    Asked::Date(date)
+    Words::Ask(Asked::Date(date))
 }
 
 // Two words as numbers.
@@ -73,30 +78,30 @@ fn pair_of(a: &[u8], b: &[u8]) -> Pair
 }
 
 // Two words: a BS month.
-fn two_words(a: &[u8], b: &[u8]) -> Asked
+fn two_words(a: &[u8], b: &[u8]) -> Words
     ensures { λ r. ⌜ r ≡ askedMonth (pairIn (now (a .entry)) (now (b .entry))) ⌝ }
 {
     let Pair::Are(y, m) = pair_of(a, b) else {
-        return Asked::Other;
+        return Words::Other;
     };
-    Asked::Month(y, m)
+    Words::Ask(Asked::Month(y, m))
 }
 
 // Three words: a BS date.
-fn three_words(a: &[u8], b: &[u8], c: &[u8]) -> Asked
+fn three_words(a: &[u8], b: &[u8], c: &[u8]) -> Words
     ensures { λ r. ⌜ r ≡ askedDay (pairIn (now (a .entry)) (now (b .entry))) (numberIn (now (c .entry))) ⌝ }
 {
     let Pair::Are(y, m) = pair_of(a, b) else {
-        return Asked::Other;
+        return Words::Other;
     };
     let Whole::Is(d) = text::whole_number(c, 65535) else {
-        return Asked::Other;
+        return Words::Other;
     };
-    Asked::Day(y, m, d)
+    Words::Ask(Asked::Day(y, m, d))
 }
 
 // What is asked by so many words, three at most.
-pub fn asked_by(count: usize, a: &[u8], b: &[u8], c: &[u8]) -> Asked
+pub fn asked_by(count: usize, a: &[u8], b: &[u8], c: &[u8]) -> Words
     ensures { λ r. ⌜ r ≡ askedBy count (now (a .entry)) (now (b .entry)) (now (c .entry)) ⌝ }
 {
     if count == 1 {
@@ -108,5 +113,5 @@ pub fn asked_by(count: usize, a: &[u8], b: &[u8], c: &[u8]) -> Asked
     if count == 3 {
         return three_words(a, b, c);
     }
-    Asked::Other
+    Words::Other
 }

@@ -7,7 +7,8 @@ use lib.ListN.{take}
 use Rattle.conversion.specs.declared.Table.{Table}
 use Rattle.conversion.specs.Calendar.{Calendar}
 use Rattle.conversion.specs.Flat.{flat}
-use Rattle.asked.specs.Tags.{CHECK, CHECKRULES, BS, AD, LEN, VALID, STEP, STARTS, LISTBS, LISTAD, GRID, DAY, DATE, JD, NPT, EVENTS, RISE, SET, KALA, NISHITA, READ, SIN, COS, ASIN, ACOS, TAN}
+use Rattle.asked.specs.Tags.{CHECK, CHECKRULES, BS, AD, LEN, VALID, STEP, STARTS, LISTBS, LISTAD, GRID, DAY, DATE}
+use Rattle.asked.specs.Tags.{JD, NPT, EVENTS, RISE, SET, KALA, NISHITA, READ, SIN, COS, ASIN, ACOS, TAN}
 use Rattle.asked.specs.declared.words.Words.{Words}
 use Rattle.replies.specs.declared.Reply.{Reply}
 use Rattle.replies.specs.Replies.{replyWords}

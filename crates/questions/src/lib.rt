@@ -92,7 +92,8 @@ fn step(
     line: &mut [u8],
     out: &mut [u8],
 ) -> Stepped
-    ensures { λ r. ⌜ TurnDone t (record { lent = lent; rows = now (rows .entry); rules = now (rules .entry) }) (now (piece .entry)) (now (line .entry)) (now (out .entry)) (now (rows .exit)) (now (rules .exit)) (now (piece .exit)) (now (line .exit)) (now (out .exit)) r ⌝ }
+    ensures { λ r. ⌜ TurnDone t (record { lent = lent; rows = now (rows .entry); rules = now (rules .entry) }) (now (piece .entry))
+        (now (line .entry)) (now (out .entry)) (now (rows .exit)) (now (rules .exit)) (now (piece .exit)) (now (line .exit)) (now (out .exit)) r ⌝ }
 {
     let w = asked::split(line, t.len);
     let o = t.out;
@@ -113,7 +114,8 @@ fn run(
     line: &mut [u8],
     out: &mut [u8],
 )
-    ensures { λ _. ⌜ Answers (record { lent = «first»; rows = now (rows .entry); rules = now (rules .entry) }) (now (out .entry)) (now (rows .exit)) (now (rules .exit)) (now (out .exit)) ⌝ }
+    ensures { λ _. ⌜ Answers (record { lent = «first»; rows = now (rows .entry); rules = now (rules .entry) }) (now (out .entry)) (now (rows .exit))
+        (now (rules .exit)) (now (out .exit)) ⌝ }
 {
     let mut t = asked::first_turn(piece, line, out);
     let mut lent = first;

@@ -70,7 +70,8 @@ fn put_asked(
     rules: &[u16],
     list: &mut [u16],
 ) -> Out
-    ensures { λ r. ⌜ Gathers (now (out .entry)) o (listedWords (listAsked table (now (rows .entry)) (now (rules .entry)) w (now (list .entry)))) (now (out .exit)) r ⌝ }
+    ensures { λ r. ⌜ Gathers (now (out .entry)) o (listedWords (listAsked table (now (rows .entry)) (now (rules .entry)) w (now (list .entry))))
+        (now (out .exit)) r ⌝ }
 {
     let counted = count(asked(w, table, rows, rules, list)).put(o, out);
     replies::put_list(counted, out, list)

@@ -91,7 +91,8 @@ fn put_asked(
     cells: &mut [u16],
     list: &mut [u16],
 ) -> Out
-    ensures { λ r. ⌜ Gathers (now (out .entry)) o (shownWords (monthShown table (now (rows .entry)) (now (rules .entry)) (dateIn w) (small w 4) (small w 5) (now (cells .entry)) (now (list .entry)))) (now (out .exit)) r ⌝ }
+    ensures { λ r. ⌜ Gathers (now (out .entry)) o (shownWords (monthShown table (now (rows .entry)) (now (rules .entry)) (dateIn w) (small w 4)
+        (small w 5) (now (cells .entry)) (now (list .entry)))) (now (out .exit)) r ⌝ }
 {
     let today = replies::date_of(w);
     let a = grid::month_grid(

@@ -37,8 +37,11 @@ module _ {I : Type 0} (s : Sky I) (rs : List Rule) (ok : Bool) (out : List ℕ) 
     pub opens : (y m : ℕ) → y < short .first + short .years → opening s short y m ≡ opening s long y m
     pub entries : (y : ℕ) (r : Rule) → y < short .first + short .years → SameEntry short long (entry s short y r) (entry s long y r)
     -- every list that the shorter answers
-    pub on-bs : (y m d : ℕ) (l : List Pair) → listOnBs s short rs ok y m d ≡ answered l → SameList (listOnBs s short rs ok y m d) (listOnBs s long rs ok y m d) out l
-    pub on-ad : (y m d : ℕ) (l : List Pair) → listOnAd s short rs ok y m d ≡ answered l → SameList (listOnAd s short rs ok y m d) (listOnAd s long rs ok y m d) out l
+    pub on-bs : (y m d : ℕ) (l : List Pair) → listOnBs s short rs ok y m d ≡ answered l
+        → SameList (listOnBs s short rs ok y m d) (listOnBs s long rs ok y m d) out l
+    pub on-ad : (y m d : ℕ) (l : List Pair) → listOnAd s short rs ok y m d ≡ answered l
+        → SameList (listOnAd s short rs ok y m d) (listOnAd s long rs ok y m d) out l
     -- a list that the longer answers is refused by the shorter exactly if its day lies in an added year
     pub on-bs-added : (y m d : ℕ) (l : List Pair) → listOnBs s long rs ok y m d ≡ answered l → RefusedIf (listOnBs s short rs ok y m d) NoYear (Added short y)
-    pub on-ad-added : (y m d : ℕ) (l : List Pair) → listOnAd s long rs ok y m d ≡ answered l → RefusedIf (listOnAd s short rs ok y m d) Outside (AddedDay short long (dayNumber (date y m d)))
+    pub on-ad-added : (y m d : ℕ) (l : List Pair) → listOnAd s long rs ok y m d ≡ answered l
+        → RefusedIf (listOnAd s short rs ok y m d) Outside (AddedDay short long (dayNumber (date y m d)))

@@ -4,7 +4,7 @@ use Prim.Native.Nat.{ℕ, zero, suc, _+_}
 use mathlib.Core.Bool.{Bool, true, false, cond, not, _&&_}
 use mathlib.Core.List.{List, [], _∷_, _++_}
 use mathlib.Core.Option.{Option, none, some}
-use lib.Dec.{eqb}
+use lib.Dec.{ltb}
 use lib.IntN.{pos}
 use lib.Ieee.{Float, lt, le, neg}
 use Rattle.paper.specs.Floats.{_⊕_, _⊖_, _⊗_, _⊘_, dec, whole}
@@ -75,9 +75,9 @@ first (x ∷ xs) = some x
 abbrev pub startsOf : ℕ → Float → Float → Walk
 startsOf n a b = searched (offset elongationOf (targetOf n)) a b
 
--- the tithi after n
+-- the tithi after n; the first comes after the thirtieth
 unfoldable pub nextTithi : ℕ → ℕ
-nextTithi n = cond (eqb n 30) 1 (n + 1)
+nextTithi n = cond (ltb n 30) (n + 1) 1
 
 -- where tithi n, which runs at a day of universal time, ends: the next one's first start in two and a half days
 unfoldable pub endOf : ℕ → Float → Option Float

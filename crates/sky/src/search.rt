@@ -2,7 +2,6 @@
 ghost use mathlib.Core.Path.{_≡_};
 ghost use mathlib.Core.List.{_++_};
 ghost use lib.ListN.{length, drop};
-ghost use Prim.Native.Nat.{_≤_};
 ghost use Rattle.sky.specs.Tithi.{elongationOf};
 ghost use Rattle.sky.specs.Search.{turned, offset, targetOf, halved, stepEnd, crosses, first, startsOf, nextTithi, endOf};
 ghost use Rattle.sky.specs.Answers.{firstSays};
@@ -192,17 +191,15 @@ pub fn first_start(tithi: u16, from: UtDay, to: UtDay) -> FirstStart
     FirstStart::Nothing
 }
 
-// The tithi after another.
+// The tithi after another; the first comes after the thirtieth.
 pub fn next_tithi(tithi: u16) -> u16
-    requires { ⌜ tithi ≤ 30 ⌝ }
     ensures { λ r. ⌜ r ≡ nextTithi tithi ⌝ }
 {
-    if tithi == 30 { 1 } else { tithi + 1 }
+    if tithi < 30 { tithi + 1 } else { 1 }
 }
 
 // Where a tithi that runs at a day of universal time ends: the next one's first start in two and a half days.
 pub fn end_of(tithi: u16, ut: UtDay) -> FirstStart
-    requires { ⌜ tithi ≤ 30 ⌝ }
     ensures { λ r. ⌜ firstSays r ≡ endOf tithi (ut .0) ⌝ }
 {
     first_start(next_tithi(tithi), ut, UtDay(ut.0 + 2.5))

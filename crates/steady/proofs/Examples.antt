@@ -23,7 +23,7 @@ use Rattle.grid.specs.Month.{Grid, gridOf}
 use Rattle.grid.specs.Kathmandu.{monthUnder}
 use Rattle.grid.specs.Step.{absolute, wholeYears, monthsLeft, monthAt, stepMonth}
 use Rattle.grid.proofs.Theorems.{InWeeks, laid-out, month-weeks}
-use Rattle.steady.specs.Own.{ownTable, firstRow, secondRow, ownRows, own}
+use Rattle.conversion.specs.Own.{ownTable, firstRow, secondRow, ownRows, own}
 use Rattle.steady.specs.Examples.{Says, AllSay, is, examples}
 use Rattle.steady.specs.Steady.{Steady}
 use Rattle.steady.proofs.Steady.{steady}

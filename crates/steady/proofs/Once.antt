@@ -12,13 +12,13 @@ use Rattle.gregorian.proofs.Date.from_day_number.Reads as FromDayNumber
 use Rattle.gregorian.proofs.is_instant.Reads as IsInstant
 use Rattle.gregorian.proofs.julian_day.Reads as JulianDay
 use Rattle.gregorian.proofs.npt_date.Reads as NptDate
-use Rattle.gregorian.proofs.Unique.{date-only, number-only, julian-only, npt-only}
+use Rattle.gregorian.proofs.Unique.{date-only, number-only, julian-only}
 use Rattle.conversion.proofs.accepts.Reads as Accepts
 use Rattle.conversion.proofs.bs_month_len.Reads as BsMonthLen
 use Rattle.conversion.proofs.validate_bs_date.Reads as ValidateBsDate
 use Rattle.conversion.proofs.bs_to_ad.Reads as BsToAd
 use Rattle.conversion.proofs.ad_to_bs.Reads as AdToBs
-use Rattle.conversion.proofs.Unique.{month-len-only, valid-only, ad-only, bs-only}
+use Rattle.conversion.proofs.Unique.{days-only, valid-only, bs-only}
 use Rattle.trig.proofs.sine.Reads as Sine
 use Rattle.trig.proofs.cosine.Reads as Cosine
 use Rattle.trig.proofs.tangent.Reads as Tangent
@@ -33,7 +33,7 @@ use Rattle.sky.proofs.tithi_at.Reads as TithiAt
 use Rattle.sky.proofs.tithi.tithi_of.Reads as TithiOf
 use Rattle.sky.proofs.tithi_starts_between.Reads as TithiStarts
 use Rattle.sky.proofs.tithi_end.Reads as TithiEnd
-use Rattle.sky.proofs.Unique.{tt-only, degrees-only, tithi-only, starts-only, end-only}
+use Rattle.sky.proofs.Unique.{tt-only, degrees-only, small-only, starts-only, instant-only}
 use Rattle.panchanga.proofs.sun_events.Reads as SunEvents
 use Rattle.panchanga.proofs.sunrise.Reads as Sunrise
 use Rattle.panchanga.proofs.sunset.Reads as Sunset
@@ -42,7 +42,7 @@ use Rattle.panchanga.proofs.kala_instant.Reads as KalaInstant
 use Rattle.panchanga.proofs.clock.minutes_of.Reads as MinutesOf
 use Rattle.panchanga.proofs.npt_clock.Reads as NptClock
 use Rattle.panchanga.proofs.reading.Reads as Reading
-use Rattle.panchanga.proofs.Unique.{span-only, instant-only, minutes-only, reading-only}
+use Rattle.panchanga.proofs.Unique.{span-only, reading-only}
 use Rattle.rules.proofs.accepts_rules.Reads as AcceptsRules
 use Rattle.festivals.proofs.festivals_on.Reads as FestivalsOn
 use Rattle.festivals.proofs.festivals_on_ad.Reads as FestivalsOnAd
@@ -79,7 +79,7 @@ pub julian-day : OneAnswer JulianDay.Learnt
 julian-day k a x y s t p q = julian-only x y (p ∙ sym q)
 
 pub npt-date : OneAnswer NptDate.Learnt
-npt-date k a x y s t p q = npt-only x y (p ∙ sym q)
+npt-date k a x y s t p q = date-only x y (p ∙ sym q)
 
 -- ---- conversion
 
@@ -87,13 +87,13 @@ pub accepts : OneAnswer Accepts.Learnt
 accepts k a x y s t p q = p ∙ sym q
 
 pub bs-month-len : OneAnswer BsMonthLen.Learnt
-bs-month-len k a x y s t p q = month-len-only x y (p ∙ sym q)
+bs-month-len k a x y s t p q = days-only x y (p ∙ sym q)
 
 pub validate-bs-date : OneAnswer ValidateBsDate.Learnt
 validate-bs-date k a x y s t p q = valid-only x y (p ∙ sym q)
 
 pub bs-to-ad : OneAnswer BsToAd.Learnt
-bs-to-ad k a x y s t p q = ad-only x y (p ∙ sym q)
+bs-to-ad k a x y s t p q = date-only x y (p ∙ sym q)
 
 pub ad-to-bs : OneAnswer AdToBs.Learnt
 ad-to-bs k a x y s t p q = bs-only x y (p ∙ sym q)
@@ -133,7 +133,7 @@ pub elongation : OneAnswer Elongation.Learnt
 elongation k a x y s t p q = degrees-only x y (p ∙ sym q)
 
 pub tithi-at : OneAnswer TithiAt.Learnt
-tithi-at k a x y s t p q = tithi-only x y (p ∙ sym q)
+tithi-at k a x y s t p q = small-only x y (p ∙ sym q)
 
 pub tithi-of : OneAnswer TithiOf.Learnt
 tithi-of k a x y s t p q = p ∙ sym q
@@ -143,7 +143,7 @@ pub tithi-starts-between : OneOutcome TithiStarts.Learnt (λ k s. now (s .1 .1 .
 tithi-starts-between k a x y s t p q = (starts-only x y (p .0 ∙ sym (q .0)), p .1 ∙ sym (q .1))
 
 pub tithi-end : OneAnswer TithiEnd.Learnt
-tithi-end k a x y s t p q = end-only x y (p ∙ sym q)
+tithi-end k a x y s t p q = instant-only x y (p ∙ sym q)
 
 -- ---- panchanga
 
@@ -166,7 +166,7 @@ pub minutes-of : OneAnswer MinutesOf.Learnt
 minutes-of k a x y s t p q = p ∙ sym q
 
 pub npt-clock : OneAnswer NptClock.Learnt
-npt-clock k a x y s t p q = minutes-only x y (p ∙ sym q)
+npt-clock k a x y s t p q = small-only x y (p ∙ sym q)
 
 pub reading : OneAnswer Reading.Learnt
 reading k a x y s t p q = reading-only x y (p ∙ sym q)

@@ -3,6 +3,7 @@ use Prim.Native.Nat.{ℕ}
 use mathlib.Core.Path.{_≡_, refl, sym, ap, _∙_}
 use mathlib.Core.Bool.{true}
 use mathlib.Core.List.{List, _++_}
+use Rattle.paper.specs.declared.Refusal.{Refusal}
 use Rattle.paper.specs.Answers.{Answer, answered, refused}
 use Rattle.paper.proofs.Answers.{refused-answered}
 use Rattle.gregorian.specs.declared.Date.{Date}
@@ -21,16 +22,16 @@ use Rattle.steady.specs.Steady.{Stays, AnswerStays, Steady}
 use Rattle.steady.proofs.Stepping.{step-longer, step-added}
 
 -- an answer alone
-stays : {A : Type 0} {a b : Answer A} {k : ℕ} {P : A → Type 0} → ((x : A) → a ≡ answered x → b ≡ answered x) → ((x : A) → b ≡ answered x → RefusedIf a k (P x)) → AnswerStays a b k P
+stays : {A : Type 0} {a b : Answer A} {k : Refusal} {P : A → Type 0} → ((x : A) → a ≡ answered x → b ≡ answered x) → ((x : A) → b ≡ answered x → RefusedIf a k (P x)) → AnswerStays a b k P
 stays longer added = record { same = λ x h. longer x h ∙ sym h; added = added }
 
 -- an answer from which w makes all that is told, a refusal of a refusal
-module _ {X W A : Type 0} (w : Answer X → W) (answer : W → Answer A) (refuses : (k : ℕ) → answer (w (refused k)) ≡ refused k) where
+module _ {X W A : Type 0} (w : Answer X → W) (answer : W → Answer A) (refuses : (k : Refusal) → answer (w (refused k)) ≡ refused k) where
   tells : (u : Answer X) (v : A) → answer (w u) ≡ answered v → (x : X) × (u ≡ answered x)
   tells (answered x) v h = (x, refl)
   tells (refused j) v h = absurd (refused-answered (refuses j) h)
 
-  told-stays : {a b : Answer X} {k : ℕ} {P : Type 0} → ((x : X) → a ≡ answered x → b ≡ answered x) → ((x : X) → b ≡ answered x → RefusedIf a k P) → Stays answer (w a) (w b) k (λ v. P)
+  told-stays : {a b : Answer X} {k : Refusal} {P : Type 0} → ((x : X) → a ≡ answered x → b ≡ answered x) → ((x : X) → b ≡ answered x → RefusedIf a k P) → Stays answer (w a) (w b) k (λ v. P)
   told-stays {a} {b} {k} {P} longer added =
       record {
         same = λ v h. let x = tells a v h in ap w (longer (x .0) (x .1) ∙ sym (x .1));
@@ -40,15 +41,15 @@ module _ {X W A : Type 0} (w : Answer X → W) (answer : W → Answer A) (refuse
             record { when = λ p. ap (λ (z : Answer X). answer (w z)) (r .when p) ∙ refuses k; only = λ j q. go v h r j q a refl };
       }
     where
-      go : (v : A) → answer (w b) ≡ answered v → RefusedIf a k P → (j : ℕ) → answer (w a) ≡ refused j → (c : Answer X) → a ≡ c → P
+      go : (v : A) → answer (w b) ≡ answered v → RefusedIf a k P → (j : Refusal) → answer (w a) ≡ refused j → (c : Answer X) → a ≡ c → P
       go v h r j q (answered z) p = absurd (refused-answered q (ap (λ (u : Answer X). answer (w u)) (p ∙ sym (longer z p)) ∙ h))
       go v h r j q (refused i) p = r .only i p
 
-listed-refused : (out : List ℕ) (k : ℕ) → listed (refused k) out .answer ≡ refused k
+listed-refused : (out : List ℕ) (k : Refusal) → listed (refused k) out .answer ≡ refused k
 unfolding listed
 listed-refused out k = refl
 
-shown-refused : (cells festivals : List ℕ) (k : ℕ) → shown (refused k) cells festivals .answer ≡ refused k
+shown-refused : (cells festivals : List ℕ) (k : Refusal) → shown (refused k) cells festivals .answer ≡ refused k
 unfolding shown
 shown-refused cells festivals k = refl
 

@@ -7,6 +7,7 @@ use native.Mathlib.Omega.{arith}
 use borrow.Author.Tests.{leb-true, ltb-true, lt-ltb, le-ltb, le-leb}
 use lib.Dec.{leb}
 use lib.IntN.{ℤ, pos, negsuc, natAbs}
+use Rattle.paper.specs.declared.Refusal.the-variants.{BadTable, OffTable}
 use Rattle.paper.specs.Answers.{answered, given}
 use Rattle.paper.proofs.Answers.{answered-same, refused-answered, given-answered, given-on, given-off}
 use Rattle.paper.proofs.Tests.{and-left, and-right, split}
@@ -37,18 +38,18 @@ stepped a = record { year = natAbs (wholeYears a); month = monthsLeft a + 1 }
 
 module _ (c : Calendar) (y m : ℕ) (s : ℤ) where
   -- a step is answered exactly if the table is good and the year is one of its years
-  step-is : stepMonth c y m s ≡ given (c .good) 1 (given (inYears (c .first) (c .years) (wholeYears (absolute y m s))) 10 (answered (stepped (absolute y m s))))
+  step-is : stepMonth c y m s ≡ given (c .good) BadTable (given (inYears (c .first) (c .years) (wholeYears (absolute y m s))) OffTable (answered (stepped (absolute y m s))))
   unfolding stepMonth monthAt stepped
   step-is = refl
 
   told : (x : BsMonth) → stepMonth c y m s ≡ answered x → (c .good ≡ true) × (inYears (c .first) (c .years) (wholeYears (absolute y m s)) ≡ true) × (stepped (absolute y m s) ≡ x)
   told x e =
-      let a = given-answered (c .good) 1 _ (sym step-is ∙ e) in
-      let b = given-answered (inYears (c .first) (c .years) (wholeYears (absolute y m s))) 10 _ (a .1) in
+      let a = given-answered (c .good) BadTable _ (sym step-is ∙ e) in
+      let b = given-answered (inYears (c .first) (c .years) (wholeYears (absolute y m s))) OffTable _ (a .1) in
       (a .0, b .0, answered-same (b .1))
 
   tells : (x : BsMonth) → c .good ≡ true → inYears (c .first) (c .years) (wholeYears (absolute y m s)) ≡ true → stepped (absolute y m s) ≡ x → stepMonth c y m s ≡ answered x
-  tells x g i e = step-is ∙ given-on (c .good) 1 _ g ∙ given-on _ 10 _ i ∙ ap answered e
+  tells x g i e = step-is ∙ given-on (c .good) BadTable _ g ∙ given-on _ OffTable _ i ∙ ap answered e
 
 year-of : (a : ℤ) → stepped a .year ≡ natAbs (wholeYears a)
 unfolding stepped
@@ -67,7 +68,7 @@ module _ (c e : Calendar) (w : Extends c e) (y m : ℕ) (s : ℤ) (x : BsMonth) 
       tells e y m s x (w .good-too) (subst (λ (v : ℤ). inYears (e .first) (e .years) v ≡ true) (sym (i .0)) k) (t .2)
 
   -- what the longer answers, the shorter refuses exactly if the month lies in an added year
-  pub step-added : stepMonth e y m s ≡ answered x → RefusedIf (stepMonth c y m s) 10 (Added c (x .year))
+  pub step-added : stepMonth e y m s ≡ answered x → RefusedIf (stepMonth c y m s) OffTable (Added c (x .year))
   step-added h =
       let t = told e y m s x h in
       let z = wholeYears (absolute y m s) in
@@ -76,6 +77,6 @@ module _ (c e : Calendar) (w : Extends c e) (y m : ℕ) (s : ℤ) (x : BsMonth) 
       let in-c : natAbs z < c .first + c .years → stepMonth c y m s ≡ answered x =
       λ k. tells c y m s x (w .good) (subst (λ (v : ℤ). inYears (c .first) (c .years) v ≡ true) (sym (i .0)) (years-in (c .first) (c .years) (natAbs z) (omega (arith, i .1, w .first)) k)) (t .2) in
       record {
-        when = λ a. step-is c y m s ∙ given-on (c .good) 1 _ (w .good) ∙ given-off _ 10 _ (subst (λ (v : ℤ). inYears (c .first) (c .years) v ≡ false) (sym (i .0)) (years-past (c .first) (c .years) (natAbs z) (omega arith)));
+        when = λ a. step-is c y m s ∙ given-on (c .good) BadTable _ (w .good) ∙ given-off _ OffTable _ (subst (λ (v : ℤ). inYears (c .first) (c .years) v ≡ false) (sym (i .0)) (years-past (c .first) (c .years) (natAbs z) (omega arith)));
         only = λ j r. ⊎-elim (λ a. omega (arith, n, a)) (λ b. absurd (refused-answered r (in-c b))) (split (c .first + c .years) (natAbs z));
       }

@@ -3,6 +3,8 @@ use Prim.Native.Nat.{ℕ}
 use mathlib.Core.Path.{_≡_}
 use mathlib.Core.List.{List, [], _∷_}
 use lib.IntN.{ℤ, pos, negsuc}
+use Rattle.paper.specs.declared.Refusal.{Refusal}
+use Rattle.paper.specs.declared.Refusal.the-variants.{NoYear, NoMonth, NoDay, Outside, OffTable}
 use Rattle.paper.specs.Answers.{answered, refused}
 use Rattle.gregorian.specs.declared.Date.{Date}
 use Rattle.conversion.specs.declared.BsDate.{BsDate}
@@ -10,17 +12,17 @@ use Rattle.conversion.specs.Calendar.{bs, toAd, fromAd}
 use Rattle.conversion.specs.Flat.{date}
 use Rattle.grid.specs.declared.BsMonth.{BsMonth}
 use Rattle.grid.specs.Step.{stepMonth}
-use Rattle.steady.specs.Own.{own}
+use Rattle.conversion.specs.Own.{own}
 
 pub data Example : Type 0 where
   -- a BS date is a Gregorian date, asked either way
   is : BsDate → Date → Example
-  -- a BS date, a Gregorian date, is refused with a number
-  noBs : BsDate → ℕ → Example
-  noAd : Date → ℕ → Example
-  -- a month stepped is a month, or refused with a number
+  -- a BS date, a Gregorian date, is refused
+  noBs : BsDate → Refusal → Example
+  noAd : Date → Refusal → Example
+  -- a month stepped is a month, or refused
   step : ℕ → ℕ → ℤ → BsMonth → Example
-  noStep : ℕ → ℕ → ℤ → ℕ → Example
+  noStep : ℕ → ℕ → ℤ → Refusal → Example
 
 -- what an example says of the own table
 unfoldable pub Says : Example → Type 0
@@ -43,11 +45,11 @@ examples =
     ∷ is (bs 100 12 30) (date 1950 12 31)
     ∷ is (bs 101 1 1) (date 1951 1 1)
     ∷ is (bs 101 12 31) (date 1952 1 1)
-    ∷ noBs (bs 100 12 31) 6
-    ∷ noBs (bs 100 13 40) 5
-    ∷ noBs (bs 102 13 1) 4
-    ∷ noAd (date 1952 1 2) 7
-    ∷ noAd (date 1949 12 31) 7
+    ∷ noBs (bs 100 12 31) NoDay
+    ∷ noBs (bs 100 13 40) NoMonth
+    ∷ noBs (bs 102 13 1) NoYear
+    ∷ noAd (date 1952 1 2) Outside
+    ∷ noAd (date 1949 12 31) Outside
     ∷ step 100 12 (pos 1) (record { year = 101; month = 1 })
-    ∷ noStep 100 1 (negsuc 0) 10
+    ∷ noStep 100 1 (negsuc 0) OffTable
     ∷ []

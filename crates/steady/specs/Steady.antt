@@ -4,6 +4,8 @@ use Prim.Native.Nat.{ℕ}
 use mathlib.Core.Path.{_≡_}
 use mathlib.Core.List.{List, _++_}
 use lib.IntN.{ℤ}
+use Rattle.paper.specs.declared.Refusal.{Refusal}
+use Rattle.paper.specs.declared.Refusal.the-variants.{NoYear, Outside, OffTable}
 use Rattle.paper.specs.Answers.{Answer, answered}
 use Rattle.gregorian.specs.declared.Date.{Date}
 use Rattle.gregorian.specs.Calendar.{dayNumber}
@@ -17,13 +19,13 @@ use Rattle.grid.specs.Step.{stepMonth}
 use Rattle.grid.specs.Kathmandu.{monthShown}
 
 -- One question under the shorter and under the longer. `answer` reads the answer of all that is told, which may hold lent buffers as they then stand.
--- P says of an answer of the longer that it lies in an added year; k is the number with which the shorter then refuses.
-pub record Stays {W A : Type 0} (answer : W → Answer A) (short long : W) (k : ℕ) (P : A → Type 0) : Type 0 where
+-- P says of an answer of the longer that it lies in an added year; k is the refusal that the shorter then gives.
+pub record Stays {W A : Type 0} (answer : W → Answer A) (short long : W) (k : Refusal) (P : A → Type 0) : Type 0 where
   pub same : (x : A) → answer short ≡ answered x → long ≡ short
   pub added : (x : A) → answer long ≡ answered x → RefusedIf (answer short) k (P x)
 
 -- where nothing is lent to write to, the answer is all that is told
-abbrev pub AnswerStays : {A : Type 0} → Answer A → Answer A → ℕ → (A → Type 0) → Type 0
+abbrev pub AnswerStays : {A : Type 0} → Answer A → Answer A → Refusal → (A → Type 0) → Type 0
 AnswerStays {A} short long k P = Stays {W = Answer A} (λ a. a) short long k P
 
 module _ (t : Table) (rows more rules : List ℕ) (today : Date) where
@@ -36,13 +38,16 @@ module _ (t : Table) (rows more rules : List ℕ) (today : Date) where
   -- the same table with more rows, the same rules, the same today and the same buffers: every question that asks a year table
   pub record Steady : Type 0 where
     -- `bs_month_len`, `validate_bs_date`, `bs_to_ad`, `ad_to_bs`, `step_month`
-    pub month-len : (y m : ℕ) → AnswerStays (monthLen short y m) (monthLen long y m) 4 (λ n. Added short y)
-    pub valid : (y m d : ℕ) → AnswerStays (validBs short y m d) (validBs long y m d) 4 (λ u. Added short y)
-    pub to-ad : (y m d : ℕ) → AnswerStays (toAd short y m d) (toAd long y m d) 4 (λ x. Added short y)
-    pub to-bs : (y m d : ℕ) → AnswerStays (fromAd short y m d) (fromAd long y m d) 7 (λ x. Added short (x .year))
-    pub step : (y m : ℕ) (s : ℤ) → AnswerStays (stepMonth short y m s) (stepMonth long y m s) 10 (λ x. Added short (x .year))
+    pub month-len : (y m : ℕ) → AnswerStays (monthLen short y m) (monthLen long y m) NoYear (λ n. Added short y)
+    pub valid : (y m d : ℕ) → AnswerStays (validBs short y m d) (validBs long y m d) NoYear (λ u. Added short y)
+    pub to-ad : (y m d : ℕ) → AnswerStays (toAd short y m d) (toAd long y m d) NoYear (λ x. Added short y)
+    pub to-bs : (y m d : ℕ) → AnswerStays (fromAd short y m d) (fromAd long y m d) Outside (λ x. Added short (x .year))
+    pub step : (y m : ℕ) (s : ℤ) → AnswerStays (stepMonth short y m s) (stepMonth long y m s) OffTable (λ x. Added short (x .year))
     -- `festivals_on`, `festivals_on_ad`: the answer and the buffer
-    pub list : (y m d : ℕ) (out : List ℕ) → Stays (λ w. w .answer) (onBs t rows rules y m d out) (onBs t (rows ++ more) rules y m d out) 4 (λ n. Added short y)
-    pub list-ad : (y m d : ℕ) (out : List ℕ) → Stays (λ w. w .answer) (onAd t rows rules y m d out) (onAd t (rows ++ more) rules y m d out) 7 (λ n. AddedDay short long (dayNumber (date y m d)))
+    pub list : (y m d : ℕ) (out : List ℕ) → Stays (λ w. w .answer) (onBs t rows rules y m d out) (onBs t (rows ++ more) rules y m d out) NoYear
+        (λ n. Added short y)
+    pub list-ad : (y m d : ℕ) (out : List ℕ) → Stays (λ w. w .answer) (onAd t rows rules y m d out) (onAd t (rows ++ more) rules y m d out) Outside
+        (λ n. AddedDay short long (dayNumber (date y m d)))
     -- `month_grid`: the answer and both buffers
-    pub month : (y m : ℕ) (cells festivals : List ℕ) → Stays (λ w. w .answer) (monthShown t rows rules today y m cells festivals) (monthShown t (rows ++ more) rules today y m cells festivals) 4 (λ n. Added short y)
+    pub month : (y m : ℕ) (cells festivals : List ℕ) → Stays (λ w. w .answer) (monthShown t rows rules today y m cells festivals)
+        (monthShown t (rows ++ more) rules today y m cells festivals) NoYear (λ n. Added short y)

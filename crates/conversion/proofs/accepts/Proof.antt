@@ -3,14 +3,8 @@ use Rattle.conversion.proofs.Accepted.{by-zero}
 use Rattle.conversion.proofs.accepts.Statement.{statement}
 use Rattle.conversion.proofs.accepts.Tie as tie
 
-frame-requires : tie.Need-frame-requires
-frame-requires c κs = search needs
-
-pass-table-requires : tie.Need-pass-table-requires
-pass-table-requires c κs = search needs
-
 returns : tie.Need-returns
 returns c = let s = c .before .pass-table .ensures in by-zero _ _ (s .bad) (s .good)
 
 pub accepts-spec : {M : Type 1} → statement M
-accepts-spec = tie.close (tie.spec frame-requires pass-table-requires returns)
+accepts-spec = tie.close (tie.spec (λ c κs. search needs) (λ c κs. search needs) returns)

@@ -16,18 +16,6 @@ use Rattle.conversion.proofs.Days.{insideOnly, from-placed}
 use Rattle.conversion.proofs.ad_to_bs.Statement.{statement}
 use Rattle.conversion.proofs.ad_to_bs.Tie as tie
 
-frame-requires : tie.Need-frame-requires
-frame-requires c κs = search needs
-
-number-or-zero-requires : tie.Need-number-or-zero-requires
-number-or-zero-requires c κs = search needs
-
-days-from-requires : tie.Need-days-from-requires
-days-from-requires c κs = search needs
-
-pass-table-requires : tie.Need-pass-table-requires
-pass-table-requires c κs = search needs
-
 returns : tie.Need-returns
 unfolding fromAd
 returns c = sym (given-off _ BadTable _ (c .before .before .pass-table .ensures .bad (c .if1 .taken)))
@@ -59,15 +47,6 @@ place-in-requires c κs =
       found = rw (← c .before .before .before .before .before .days-from .ensures) (reached (c .before .before));
     }
 
-enum-known-place : tie.Need-enum-known-place
-enum-known-place c = search needs
-
-enum-told : tie.Need-enum-told
-enum-told c = search needs
-
-enum-told-2 : tie.Need-enum-told-2
-enum-told-2 c = search needs
-
 -- the answer, by where the day lies
 answer : (c : tie.After-place-in) → let a = c .before .before .before .before .before .before .before .before .before .before .args in fromAd (flat (a .table) (now (a .rows))) (a .year) (a .month) (a .day) ≡ insideOnly (c .place-in .result)
 unfolding fromAd
@@ -93,17 +72,5 @@ pub ad-to-bs-spec : {M : Type 1} → statement M
 ad-to-bs-spec =
     tie.close
     (tie.spec
-    frame-requires
-    number-or-zero-requires
-    days-from-requires
-    pass-table-requires
-    returns
-    returns-2
-    sub-place-in
-    place-in-requires
-    enum-known-place
-    enum-told
-    enum-told-2
-    returns-3
-    returns-4
-    returns-5)
+    (λ c κs. search needs) (λ c κs. search needs) (λ c κs. search needs) (λ c κs. search needs) returns returns-2 sub-place-in place-in-requires
+    (λ c. search needs) (λ c. search needs) (λ c. search needs) returns-3 returns-4 returns-5)

@@ -8,9 +8,6 @@ use Rattle.conversion.proofs.Days.{no-table}
 use Rattle.conversion.proofs.bs_month_len.Statement.{statement}
 use Rattle.conversion.proofs.bs_month_len.Tie as tie
 
-accepts-requires : tie.Need-accepts-requires
-accepts-requires c κs = search needs
-
 returns : tie.Need-returns
 unfolding monthLen
 returns c =
@@ -20,8 +17,5 @@ returns c =
 month-days-requires : tie.Need-month-days-requires
 month-days-requires c κs = sym (c .before .accepts .ensures) ∙ not-false _ (c .if1 .left)
 
-returns-2 : tie.Need-returns-2
-returns-2 c = search needs
-
 pub bs-month-len-spec : {M : Type 1} → statement M
-bs-month-len-spec = tie.close (tie.spec accepts-requires returns month-days-requires returns-2)
+bs-month-len-spec = tie.close (tie.spec (λ c κs. search needs) returns month-days-requires (λ c. search needs))

@@ -15,15 +15,6 @@ use Rattle.conversion.proofs.Days.{Valid, no-table, valid-told, valid-r
 use Rattle.conversion.proofs.bs_to_ad.Statement.{statement}
 use Rattle.conversion.proofs.bs_to_ad.Tie as tie
 
-frame-requires : tie.Need-frame-requires
-frame-requires c κs = search needs
-
-row-of-requires : tie.Need-row-of-requires
-row-of-requires c κs = search needs
-
-pass-table-requires : tie.Need-pass-table-requires
-pass-table-requires c κs = search needs
-
 returns : tie.Need-returns
 unfolding toAd
 returns c =
@@ -32,12 +23,6 @@ returns c =
 
 date-check-requires : tie.Need-date-check-requires
 date-check-requires c κs = c .before .before .pass-table .ensures .good (c .if1 .left)
-
-enum-known-check : tie.Need-enum-known-check
-enum-known-check c = search needs
-
-enum-told : tie.Need-enum-told
-enum-told c = search needs
 
 -- where the date is one of the table: its facts, its row and the days before it, and the number of the first day
 known : (c : tie.After-enum-told) → let a = c .before .before .before .before .before .before .before .before .before .args in Valid (flat (a .table) (now (a .rows))) (a .date .year) (a .date .month) (a .date .day)
@@ -100,15 +85,5 @@ pub bs-to-ad-spec : {M : Type 1} → statement M
 bs-to-ad-spec =
     tie.close
     (tie.spec
-    frame-requires
-    row-of-requires
-    pass-table-requires
-    returns
-    date-check-requires
-    enum-known-check
-    enum-told
-    add-day-in-row
-    day-in-row-requires
-    date-of-requires
-    returns-2
-    returns-3)
+    (λ c κs. search needs) (λ c κs. search needs) (λ c κs. search needs) returns date-check-requires (λ c. search needs) (λ c. search needs)
+    add-day-in-row day-in-row-requires date-of-requires returns-2 returns-3)

@@ -11,15 +11,6 @@ use Rattle.conversion.proofs.Days.{InTable, len-told, no-day, of-date, 
 use Rattle.conversion.proofs.date_check.Statement.{statement}
 use Rattle.conversion.proofs.date_check.Tie as tie
 
-month-days-requires : tie.Need-month-days-requires
-month-days-requires c κs = search needs
-
-enum-known-days : tie.Need-enum-known-days
-enum-known-days c = search needs
-
-enum-known-days-2 : tie.Need-enum-known-days-2
-enum-known-days-2 c = search needs
-
 abbrev cal : tie.Start → Calendar
 cal c = flat (c .args .table) (now (c .args .rows))
 
@@ -55,13 +46,4 @@ returns-4 c =
     sym (of-date (cal s) (d .year) (d .month) (d .day) tt (record { month = k .0; day-from = omega arith; day-to = omega (arith, k .1) }))
 
 pub date-check-spec : {M : Type 1} → statement M
-date-check-spec =
-    tie.close
-    (tie.spec
-    month-days-requires
-    enum-known-days
-    enum-known-days-2
-    returns
-    returns-2
-    returns-3
-    returns-4)
+date-check-spec = tie.close (tie.spec (λ c κs. search needs) (λ c. search needs) (λ c. search needs) returns returns-2 returns-3 returns-4)

@@ -8,12 +8,6 @@ use Rattle.conversion.proofs.Days.{date-is}
 use Rattle.conversion.proofs.date_in_row.Statement.{statement}
 use Rattle.conversion.proofs.date_in_row.Tie as tie
 
-mul-find : tie.Need-mul-find
-mul-find c = search needs
-
-find-requires : tie.Need-find-requires
-find-requires c κs = search needs
-
 table : (c : tie.After-find) → let a = c .before .before .args in Facts (a .table) (now (a .rows))
 table c = facts _ _ (c .before .before .pre .0)
 
@@ -26,12 +20,6 @@ cast-t7 c = omega (arith, table c)
 
 add-t8 : tie.Need-add-t8
 add-t8 c = omega (arith, table (c .before))
-
-cast-t9 : tie.Need-cast-t9
-cast-t9 c = search needs
-
-add-t10 : tie.Need-add-t10
-add-t10 c = search needs
 
 cast-t11 : tie.Need-cast-t11
 cast-t11 c = omega (arith, spot (c .before .before .before) .short)
@@ -48,4 +36,5 @@ returns c =
 pub date-in-row-spec : {M : Type 1} → statement M
 date-in-row-spec =
     tie.close
-    (tie.spec mul-find find-requires cast-t7 add-t8 cast-t9 add-t10 cast-t11 add-t12 returns)
+    (tie.spec
+    (λ c. search needs) (λ c κs. search needs) cast-t7 add-t8 (λ c. search needs) (λ c. search needs) cast-t11 add-t12 returns)

@@ -6,15 +6,6 @@ use Rattle.paper.proofs.Answers.{said}
 use Rattle.conversion.proofs.date_of.Statement.{statement}
 use Rattle.conversion.proofs.date_of.Tie as tie
 
-from-day-number-requires : tie.Need-from-day-number-requires
-from-day-number-requires c κs = search needs
-
-enum-known-date : tie.Need-enum-known-date
-enum-known-date c = search needs
-
-enum-told : tie.Need-enum-told
-enum-told c = search needs
-
 returns : tie.Need-returns
 returns c =
     answered-same (said dateSays (c .before .date .given .1) (c .before .before .before .from-day-number .ensures) ∙ given-on _ _ _ (c .before .before .before .before .pre))
@@ -24,5 +15,4 @@ returns-2 c =
     absurd (refused-answered (ap dateSays (c .enum-told .given .1)) (c .before .before .from-day-number .ensures ∙ given-on _ _ _ (c .before .before .before .pre)))
 
 pub date-of-spec : {M : Type 1} → statement M
-date-of-spec =
-    tie.close (tie.spec from-day-number-requires enum-known-date enum-told returns returns-2)
+date-of-spec = tie.close (tie.spec (λ c κs. search needs) (λ c. search needs) (λ c. search needs) returns returns-2)

@@ -12,15 +12,6 @@ use Rattle.conversion.proofs.Days.{Valid, valid-told, valid-refused, co
 use Rattle.conversion.proofs.day_of.Statement.{statement}
 use Rattle.conversion.proofs.day_of.Tie as tie
 
-date-check-requires : tie.Need-date-check-requires
-date-check-requires c κs = search needs
-
-enum-known-check : tie.Need-enum-known-check
-enum-known-check c = search needs
-
-enum-told : tie.Need-enum-told
-enum-told c = search needs
-
 -- where the date is one of the table
 known : (c : tie.After-enum-told) → let a = c .before .before .before .before .args in Valid (flat (a .table) (now (a .rows))) (a .date .year) (a .date .month) (a .date .day)
 known c = valid-told _ _ _ _ (said validSays (c .enum-told .given .1) (c .before .before .date-check .ensures))
@@ -30,12 +21,6 @@ table c = facts _ _ (c .before .before .before .before .pre)
 
 sub-i : tie.Need-sub-i
 sub-i c = known (c .before .before) .month .year-from
-
-cast-i : tie.Need-cast-i
-cast-i c = search needs
-
-first-day-requires : tie.Need-first-day-requires
-first-day-requires c κs = search needs
 
 span-requires : tie.Need-span-requires
 span-requires c κs =
@@ -79,14 +64,5 @@ pub day-of-spec : {M : Type 1} → statement M
 day-of-spec =
     tie.close
     (tie.spec
-    date-check-requires
-    enum-known-check
-    enum-told
-    sub-i
-    cast-i
-    first-day-requires
-    span-requires
-    add-first
-    day-in-row-requires
-    returns
-    returns-2)
+    (λ c κs. search needs) (λ c. search needs) (λ c. search needs) sub-i (λ c. search needs) (λ c κs. search needs) span-requires add-first
+    day-in-row-requires returns returns-2)

@@ -14,9 +14,6 @@ use Rattle.conversion.proofs.month_days.Tie as tie
 abbrev cal : tie.Start → Calendar
 cal c = flat (c .args .table) (now (c .args .rows))
 
-is-year-requires : tie.Need-is-year-requires
-is-year-requires c κs = search needs
-
 returns : tie.Need-returns
 unfolding monthLen
 returns c =
@@ -40,15 +37,6 @@ returns-3 c =
     let y = year-told (cal s) (s .args .year) (known (c .before .before)) in
     sym (no-month (cal s) (s .args .year) (s .args .month) _ (s .pre) (y .0) (y .1) (λ f t. omega arith))
 
-row-of-requires : tie.Need-row-of-requires
-row-of-requires c κs = search needs
-
-cast-number-at : tie.Need-cast-number-at
-cast-number-at c = search needs
-
-number-at-requires : tie.Need-number-at-requires
-number-at-requires c κs = search needs
-
 returns-4 : tie.Need-returns-4
 unfolding monthLen
 returns-4 c =
@@ -66,11 +54,4 @@ pub month-days-spec : {M : Type 1} → statement M
 month-days-spec =
     tie.close
     (tie.spec
-    is-year-requires
-    returns
-    returns-2
-    returns-3
-    row-of-requires
-    cast-number-at
-    number-at-requires
-    returns-4)
+    (λ c κs. search needs) returns returns-2 returns-3 (λ c κs. search needs) (λ c. search needs) (λ c κs. search needs) returns-4)

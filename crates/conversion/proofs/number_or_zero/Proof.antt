@@ -5,15 +5,6 @@ use Rattle.conversion.proofs.Accepted.{number-told, number-none}
 use Rattle.conversion.proofs.number_or_zero.Statement.{statement}
 use Rattle.conversion.proofs.number_or_zero.Tie as tie
 
-day-number-requires : tie.Need-day-number-requires
-day-number-requires c κs = search needs
-
-enum-known-n : tie.Need-enum-known-n
-enum-known-n c = search needs
-
-enum-told : tie.Need-enum-told
-enum-told c = search needs
-
 returns : tie.Need-returns
 returns c = number-told _ _ _ (said numberSays (c .before .n .given .1) (c .before .before .before .day-number .ensures))
 
@@ -21,4 +12,4 @@ returns-2 : tie.Need-returns-2
 returns-2 c = number-none _ _ _ (said numberSays (c .enum-told .given .1) (c .before .before .day-number .ensures))
 
 pub number-or-zero-spec : {M : Type 1} → statement M
-number-or-zero-spec = tie.close (tie.spec day-number-requires enum-known-n enum-told returns returns-2)
+number-or-zero-spec = tie.close (tie.spec (λ c κs. search needs) (λ c. search needs) (λ c. search needs) returns returns-2)

@@ -9,12 +9,6 @@ use Rattle.conversion.proofs.place.Tie as tie
 table : (c : tie.After-first-day) → let a = c .before .before .args in Facts (a .table) (now (a .rows))
 table c = facts _ _ (c .before .before .pre)
 
-first-day-requires : tie.Need-first-day-requires
-first-day-requires c κs = search needs
-
-days-from-requires : tie.Need-days-from-requires
-days-from-requires c κs = search needs
-
 find-requires : tie.Need-find-requires
 find-requires c κs = years-in _ _ (table (c .before)) _ (omega arith)
 
@@ -24,10 +18,5 @@ place-in-requires c κs =
     let first = c .before .before .first-day .ensures ∙ starts _ _ (f .frame) in
     record { good = c .before .before .before .before .pre; first = first; found = rw (← c .before .days-from .ensures) (year-found _ _ f _ _ _ (c .find .ensures)) }
 
-returns : tie.Need-returns
-returns c = search needs
-
 pub place-spec : {M : Type 1} → statement M
-place-spec =
-    tie.close
-    (tie.spec first-day-requires days-from-requires find-requires place-in-requires returns)
+place-spec = tie.close (tie.spec (λ c κs. search needs) (λ c κs. search needs) find-requires place-in-requires (λ c. search needs))

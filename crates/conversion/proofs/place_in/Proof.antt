@@ -10,9 +10,6 @@ use Rattle.conversion.proofs.Days.{placed-in, placed-before, placed-aft
 use Rattle.conversion.proofs.place_in.Statement.{statement}
 use Rattle.conversion.proofs.place_in.Tie as tie
 
-sub-t9 : tie.Need-sub-t9
-sub-t9 c = search needs
-
 returns : tie.Need-returns
 returns c =
     let s = c .before .before in
@@ -48,5 +45,4 @@ returns-3 c =
     ∙ sym (placed-in (flat (a .table) (now (a .rows))) (a .i) (a .rest) (a .n) (c .before .if2 .left) (k .within (c .before .if2 .left)) (omega (arith, s .pre .first, k .whole)))
 
 pub place-in-spec : {M : Type 1} → statement M
-place-in-spec =
-    tie.close (tie.spec sub-t9 returns add-t11 returns-2 date-in-row-requires returns-3)
+place-in-spec = tie.close (tie.spec (λ c. search needs) returns add-t11 returns-2 date-in-row-requires returns-3)

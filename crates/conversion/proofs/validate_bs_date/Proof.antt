@@ -8,9 +8,6 @@ use Rattle.conversion.proofs.Days.{no-table}
 use Rattle.conversion.proofs.validate_bs_date.Statement.{statement}
 use Rattle.conversion.proofs.validate_bs_date.Tie as tie
 
-accepts-requires : tie.Need-accepts-requires
-accepts-requires c κs = search needs
-
 returns : tie.Need-returns
 unfolding validBs
 returns c =
@@ -20,8 +17,5 @@ returns c =
 date-check-requires : tie.Need-date-check-requires
 date-check-requires c κs = sym (c .before .accepts .ensures) ∙ not-false _ (c .if1 .left)
 
-returns-2 : tie.Need-returns-2
-returns-2 c = search needs
-
 pub validate-bs-date-spec : {M : Type 1} → statement M
-validate-bs-date-spec = tie.close (tie.spec accepts-requires returns date-check-requires returns-2)
+validate-bs-date-spec = tie.close (tie.spec (λ c κs. search needs) returns date-check-requires (λ c. search needs))

@@ -4,17 +4,8 @@ use borrow.Author.Needs.{needs}
 use Rattle.convert.proofs.answer.Statement.{statement}
 use Rattle.convert.proofs.answer.Tie as tie
 
-room-requires : tie.Need-room-requires
-room-requires c κs = search needs
-
-put-line-requires : tie.Need-put-line-requires
-put-line-requires c κs = search needs
-
-same-length : tie.Need-same-length
-same-length c = search needs
-
 returns : tie.Need-returns
 returns c = λ h. gathered _ _ _ (c .before .before .before .before .room .result .at) _ (c .before .before .put-line .ensures) (c .before .before .before .before .room .ensures .0 h)
 
 pub answer-spec : {M : Type 1} → statement M
-answer-spec = tie.close (tie.spec room-requires put-line-requires same-length returns)
+answer-spec = tie.close (tie.spec (λ c κs. search needs) (λ c κs. search needs) (λ c. search needs) returns)

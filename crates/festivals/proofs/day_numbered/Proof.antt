@@ -6,15 +6,6 @@ use Rattle.festivals.proofs.Numbered.{is-date, always-date}
 use Rattle.festivals.proofs.day_numbered.Statement.{statement}
 use Rattle.festivals.proofs.day_numbered.Tie as tie
 
-from-day-number-requires : tie.Need-from-day-number-requires
-from-day-number-requires c κs = search needs
-
-enum-known-date : tie.Need-enum-known-date
-enum-known-date c = search needs
-
-enum-told : tie.Need-enum-told
-enum-told c = search needs
-
 returns : tie.Need-returns
 returns c =
     let f = c .before .before .before in
@@ -28,4 +19,5 @@ returns-2 c =
 
 pub day-numbered-spec : {M : Type 1} → statement M
 day-numbered-spec =
-    tie.close (tie.spec from-day-number-requires enum-known-date enum-told returns returns-2)
+    tie.close
+    (tie.spec (λ c κs. search needs) (λ c. search needs) (λ c. search needs) returns returns-2)

@@ -14,15 +14,6 @@ use Rattle.festivals.proofs.Numbered.{to-numbered}
 use Rattle.festivals.proofs.festivals_on.Statement.{statement}
 use Rattle.festivals.proofs.festivals_on.Tie as tie
 
-accept-requires : tie.Need-accept-requires
-accept-requires c κs = search needs
-
-enum-known-lent : tie.Need-enum-known-lent
-enum-known-lent c = search needs
-
-enum-told : tie.Need-enum-told
-enum-told c = search needs
-
 -- what is lent was accepted
 both : (e : tie.After-enum-told) → let a = e .before .before .before .before .before .before .args in (accepted (a .table) (a .rows .now) ≡ true) × (acceptedRules (a .rules .now) ≡ true)
 both e =
@@ -31,12 +22,6 @@ both e =
 
 day-of-requires : tie.Need-day-of-requires
 day-of-requires c κs = both c .0
-
-enum-known-number : tie.Need-enum-known-number
-enum-known-number c = search needs
-
-enum-known-number-2 : tie.Need-enum-known-number-2
-enum-known-number-2 c = search needs
 
 list-day-requires : tie.Need-list-day-requires
 list-day-requires c κs =
@@ -65,9 +50,6 @@ returns-2 c =
     let s = says-by e (says-refused _ (a .out .now)) in
     (s .answer, s .buffer)
 
-same-length : tie.Need-same-length
-same-length c = search needs
-
 returns-3 : tie.Need-returns-3
 returns-3 c =
     let l = c .before .before in
@@ -83,15 +65,5 @@ returns-3 c =
 pub festivals-on-spec : {M : Type 1} → statement M
 festivals-on-spec =
     tie.close
-    (tie.spec
-    accept-requires
-    enum-known-lent
-    enum-told
-    day-of-requires
-    enum-known-number
-    enum-known-number-2
-    list-day-requires
-    returns
-    returns-2
-    same-length
-    returns-3)
+    (tie.spec (λ c κs. search needs) (λ c. search needs) (λ c. search needs) day-of-requires (λ c. search needs) (λ c. search needs) list-day-requires
+    returns returns-2 (λ c. search needs) returns-3)

@@ -15,29 +15,11 @@ use Rattle.festivals.proofs.Numbered.{its-number, real-numbered}
 use Rattle.festivals.proofs.festivals_on_ad.Statement.{statement}
 use Rattle.festivals.proofs.festivals_on_ad.Tie as tie
 
-accept-requires : tie.Need-accept-requires
-accept-requires c κs = search needs
-
-enum-known-lent : tie.Need-enum-known-lent
-enum-known-lent c = search needs
-
-enum-told : tie.Need-enum-told
-enum-told c = search needs
-
 -- what is lent was accepted
 both : (e : tie.After-enum-told) → let a = e .before .before .before .before .before .before .args in (accepted (a .table) (a .rows .now) ≡ true) × (acceptedRules (a .rules .now) ≡ true)
 both e =
     let a = e .before .before .before .before .before .before .args in
     accepted-both (flat (a .table) (a .rows .now)) _ (said validSays (e .enum-told .given .1) (e .before .before .accept .ensures))
-
-day-number-requires : tie.Need-day-number-requires
-day-number-requires c κs = search needs
-
-enum-known-number : tie.Need-enum-known-number
-enum-known-number c = search needs
-
-enum-known-number-2 : tie.Need-enum-known-number-2
-enum-known-number-2 c = search needs
 
 -- the date's number
 number : (n : tie.After-number2) →
@@ -71,9 +53,6 @@ returns-2 c =
     let s = says-by e (says-refused _ (a .out .now)) in
     (s .answer, s .buffer)
 
-same-length : tie.Need-same-length
-same-length c = search needs
-
 returns-3 : tie.Need-returns-3
 returns-3 c =
     let l = c .before .before in
@@ -89,15 +68,5 @@ returns-3 c =
 pub festivals-on-ad-spec : {M : Type 1} → statement M
 festivals-on-ad-spec =
     tie.close
-    (tie.spec
-    accept-requires
-    enum-known-lent
-    enum-told
-    day-number-requires
-    enum-known-number
-    enum-known-number-2
-    list-placed-requires
-    returns
-    returns-2
-    same-length
-    returns-3)
+    (tie.spec (λ c κs. search needs) (λ c. search needs) (λ c. search needs) (λ c κs. search needs) (λ c. search needs) (λ c. search needs)
+    list-placed-requires returns returns-2 (λ c. search needs) returns-3)

@@ -18,21 +18,6 @@ use Rattle.festivals.proofs.Numbered.{numbered-from}
 use Rattle.festivals.proofs.list_day.Statement.{statement}
 use Rattle.festivals.proofs.list_day.Tie as tie
 
-day-numbered-requires : tie.Need-day-numbered-requires
-day-numbered-requires c κs = search needs
-
-years-for-requires : tie.Need-years-for-requires
-years-for-requires c κs = search needs
-
-slice-aggregate-put-day-list : tie.Need-slice-aggregate-put-day-list
-slice-aggregate-put-day-list c = search needs
-
-put-day-list-requires : tie.Need-put-day-list-requires
-put-day-list-requires c κs = search needs
-
-mul-if1 : tie.Need-mul-if1
-mul-if1 c = search needs
-
 -- the list from the two resolved years is the day's list
 resolved-list : (t : tie.After-years-for) →
     let d = t .before in
@@ -55,12 +40,6 @@ returns c =
     let s = says-short l (a .out .now) (omega (arith, n, c .if1 .taken)) in
     (s .answer, s .buffer)
 
-put-day-list-requires-2 : tie.Need-put-day-list-requires-2
-put-day-list-requires-2 c κs = search needs
-
-same-length : tie.Need-same-length
-same-length c = search needs
-
 returns-2 : tie.Need-returns-2
 returns-2 c =
     let w = c .before .before in
@@ -77,13 +56,5 @@ returns-2 c =
 pub list-day-spec : {M : Type 1} → statement M
 list-day-spec =
     tie.close
-    (tie.spec
-    day-numbered-requires
-    years-for-requires
-    slice-aggregate-put-day-list
-    put-day-list-requires
-    mul-if1
-    returns
-    put-day-list-requires-2
-    same-length
-    returns-2)
+    (tie.spec (λ c κs. search needs) (λ c κs. search needs) (λ c. search needs) (λ c κs. search needs) (λ c. search needs) returns
+    (λ c κs. search needs) (λ c. search needs) returns-2)

@@ -7,21 +7,6 @@ use Rattle.festivals.proofs.Placed.{inside, before-first, after-last}
 use Rattle.festivals.proofs.list_placed.Statement.{statement}
 use Rattle.festivals.proofs.list_placed.Tie as tie
 
-place-requires : tie.Need-place-requires
-place-requires c κs = search needs
-
-enum-told : tie.Need-enum-told
-enum-told c = search needs
-
-enum-told-2 : tie.Need-enum-told-2
-enum-told-2 c = search needs
-
-enum-known-place : tie.Need-enum-known-place
-enum-known-place c = search needs
-
-list-day-requires : tie.Need-list-day-requires
-list-day-requires c κs = search needs
-
 returns : tie.Need-returns
 returns c =
     let p = c .before .before in
@@ -38,9 +23,6 @@ returns-2 c =
     let s = says-by (then-not _ _ Outside e) (says-refused Outside (o .args .out .now)) in
     (s .answer, s .buffer)
 
-same-length : tie.Need-same-length
-same-length c = search needs
-
 returns-3 : tie.Need-returns-3
 returns-3 c =
     let l = c .before .before in
@@ -54,13 +36,5 @@ returns-3 c =
 pub list-placed-spec : {M : Type 1} → statement M
 list-placed-spec =
     tie.close
-    (tie.spec
-    place-requires
-    enum-told
-    enum-told-2
-    enum-known-place
-    list-day-requires
-    returns
-    returns-2
-    same-length
-    returns-3)
+    (tie.spec (λ c κs. search needs) (λ c. search needs) (λ c. search needs) (λ c. search needs) (λ c κs. search needs) returns returns-2
+    (λ c. search needs) returns-3)

@@ -45,33 +45,12 @@ counted c =
 year-of-requires : tie.Need-year-of-requires
 year-of-requires c κs = c .pre
 
-year-start-requires : tie.Need-year-start-requires
-year-start-requires c κs = search needs
-
-sub-rest : tie.Need-sub-rest
-sub-rest c = search needs
-
-add-y : tie.Need-add-y
-add-y c = search needs
-
-cast-y : tie.Need-cast-y
-cast-y c = search needs
-
-is-leap-requires : tie.Need-is-leap-requires
-is-leap-requires c κs = search needs
-
 month-of-requires : tie.Need-month-of-requires
 month-of-requires c κs =
     let k = c .before .before .year-of .result in
     let e = c .before .before .year-of .ensures .2 in
     let a : yearStart (k + 1) ≡ yearStart k + yearLength (leap (1900 + k)) = ap yearStart (add-one k) ∙ years-suc k in
     rw (c .before .year-start .ensures, c .is-leap .ensures) (omega arith)
-
-month-start-requires : tie.Need-month-start-requires
-month-start-requires c κs = search needs
-
-sub-d : tie.Need-sub-d
-sub-d c = search needs
 
 add-d : tie.Need-add-d
 add-d c =
@@ -92,15 +71,5 @@ pub date-after-spec : {M : Type 1} → statement M
 date-after-spec =
     tie.close
     (tie.spec
-    year-of-requires
-    year-start-requires
-    sub-rest
-    add-y
-    cast-y
-    is-leap-requires
-    month-of-requires
-    month-start-requires
-    sub-d
-    add-d
-    cast-d
-    returns)
+    year-of-requires (λ c κs. search needs) (λ c. search needs) (λ c. search needs) (λ c. search needs) (λ c κs. search needs) month-of-requires
+    (λ c κs. search needs) (λ c. search needs) add-d cast-d returns)

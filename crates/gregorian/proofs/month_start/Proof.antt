@@ -31,12 +31,6 @@ table : (l : Bool) (m : ℕ) → m < 14 → cond (l && ltb 2 m) (getD starts m 0
 unfolding right
 table l m h = eqb→eq (cond (l && ltb 2 m) (getD starts m 0 + 1) (getD starts m 0)) (monthStart l m) (at-each right 14 tt l m h)
 
-mul-common : tie.Need-mul-common
-mul-common c = search needs
-
-array-read-common : tie.Need-array-read-common
-array-read-common c = search needs
-
 cast-common : tie.Need-cast-common
 cast-common c = omega (arith, bound (c .args .m) (c .pre))
 
@@ -59,6 +53,4 @@ returns-3 c =
     rw (← table (a .l) (a .m) (c .before .pre)) (simp (c .if1 .left))
 
 pub month-start-spec : {M : Type 1} → statement M
-month-start-spec =
-    tie.close
-    (tie.spec mul-common array-read-common cast-common add-result returns returns-2 returns-3)
+month-start-spec = tie.close (tie.spec (λ c. search needs) (λ c. search needs) cast-common add-result returns returns-2 returns-3)

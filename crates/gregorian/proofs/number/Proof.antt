@@ -30,14 +30,8 @@ small c =
 sub-year-start : tie.Need-sub-year-start
 sub-year-start c = let k = known c .low in omega arith
 
-cast-year-start : tie.Need-cast-year-start
-cast-year-start c = search needs
-
 year-start-requires : tie.Need-year-start-requires
 year-start-requires c κs = let k = known c .low in let h = known c .high in omega arith
-
-is-leap-requires : tie.Need-is-leap-requires
-is-leap-requires c κs = search needs
 
 month-start-requires : tie.Need-month-start-requires
 month-start-requires c κs = let k = month (c .before .before) in omega arith
@@ -51,9 +45,6 @@ add-result-2 c = omega (arith, small c)
 sub-result : tie.Need-sub-result
 sub-result c = known (c .before .before .before) .first
 
-cast-result : tie.Need-cast-result
-cast-result c = search needs
-
 add-result-3 : tie.Need-add-result-3
 add-result-3 c = omega (arith, small c)
 
@@ -64,14 +55,5 @@ pub number-spec : {M : Type 1} → statement M
 number-spec =
     tie.close
     (tie.spec
-    sub-year-start
-    cast-year-start
-    year-start-requires
-    is-leap-requires
-    month-start-requires
-    add-result
-    add-result-2
-    sub-result
-    cast-result
-    add-result-3
-    returns)
+    sub-year-start (λ c. search needs) year-start-requires (λ c κs. search needs) month-start-requires add-result add-result-2 sub-result
+    (λ c. search needs) add-result-3 returns)

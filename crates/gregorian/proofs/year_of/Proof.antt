@@ -10,14 +10,8 @@ use borrow.Author.Needs.{needs}
 use Rattle.gregorian.proofs.year_of.Statement.{statement}
 use Rattle.gregorian.proofs.year_of.Tie as tie
 
-add-year-start : tie.Need-add-year-start
-add-year-start c = search needs
-
 year-start-requires : tie.Need-year-start-requires
 year-start-requires c κs = omega (arith, all-number)
-
-add-result : tie.Need-add-result
-add-result c = search needs
 
 returns : tie.Need-returns
 returns c =
@@ -38,4 +32,4 @@ returns-2 c =
     (b, (let s = years-high (n / 366) in omega arith), t)
 
 pub year-of-spec : {M : Type 1} → statement M
-year-of-spec = tie.close (tie.spec add-year-start year-start-requires add-result returns returns-2)
+year-of-spec = tie.close (tie.spec (λ c. search needs) year-start-requires (λ c. search needs) returns returns-2)

@@ -6,14 +6,8 @@ use Rattle.rules.proofs.Lent.{bad-table, bad-rules, all-good}
 use Rattle.rules.proofs.accept.Statement.{statement}
 use Rattle.rules.proofs.accept.Tie as tie
 
-accepts-requires : tie.Need-accepts-requires
-accepts-requires c κs = search needs
-
 returns : tie.Need-returns
 returns c = bad-table _ _ (sym (c .before .accepts .ensures) ∙ not-true _ (c .if1 .taken))
-
-accepts-rules-requires : tie.Need-accepts-rules-requires
-accepts-rules-requires c κs = search needs
 
 returns-2 : tie.Need-returns-2
 returns-2 c =
@@ -28,4 +22,4 @@ returns-3 c =
 pub accept-spec : {M : Type 1} → statement M
 accept-spec =
     tie.close
-    (tie.spec accepts-requires returns accepts-rules-requires returns-2 returns-3)
+    (tie.spec (λ c κs. search needs) returns (λ c κs. search needs) returns-2 returns-3)

@@ -9,21 +9,6 @@ returns : tie.Need-returns
 unfolding acceptedRules
 returns c = rw (ne-eqb _ _ (c .if1 .taken))
 
-all-good-requires : tie.Need-all-good-requires
-all-good-requires c κs = search needs
-
-count-kind-requires : tie.Need-count-kind-requires
-count-kind-requires c κs = search needs
-
-count-kind-requires-2 : tie.Need-count-kind-requires-2
-count-kind-requires-2 c κs = search needs
-
-count-kind-requires-3 : tie.Need-count-kind-requires-3
-count-kind-requires-3 c κs = search needs
-
-count-kind-requires-4 : tie.Need-count-kind-requires-4
-count-kind-requires-4 c κs = search needs
-
 returns-2 : tie.Need-returns-2
 unfolding acceptedRules
 returns-2 c =
@@ -32,11 +17,4 @@ returns-2 c =
 pub accepts-rules-spec : {M : Type 1} → statement M
 accepts-rules-spec =
     tie.close
-    (tie.spec
-    returns
-    all-good-requires
-    count-kind-requires
-    count-kind-requires-2
-    count-kind-requires-3
-    count-kind-requires-4
-    returns-2)
+    (tie.spec returns (λ c κs. search needs) (λ c κs. search needs) (λ c κs. search needs) (λ c κs. search needs) (λ c κs. search needs) returns-2)

@@ -4,18 +4,6 @@ use Rattle.rules.specs.Rules.{ruleGood}
 use Rattle.rules.proofs.is_good.Statement.{statement}
 use Rattle.rules.proofs.is_good.Tie as tie
 
-has-date-requires : tie.Need-has-date-requires
-has-date-requires c κs = search needs
-
-has-date-requires-2 : tie.Need-has-date-requires-2
-has-date-requires-2 c κs = search needs
-
-has-date-requires-3 : tie.Need-has-date-requires-3
-has-date-requires-3 c κs = search needs
-
-has-date-requires-4 : tie.Need-has-date-requires-4
-has-date-requires-4 c κs = search needs
-
 returns : tie.Need-returns
 unfolding ruleGood
 returns c =
@@ -27,4 +15,4 @@ returns c =
 pub is-good-spec : {M : Type 1} → statement M
 is-good-spec =
     tie.close
-    (tie.spec has-date-requires has-date-requires-2 has-date-requires-3 has-date-requires-4 returns)
+    (tie.spec (λ c κs. search needs) (λ c κs. search needs) (λ c κs. search needs) (λ c κs. search needs) returns)

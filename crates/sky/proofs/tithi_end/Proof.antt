@@ -1,12 +1,10 @@
 use mathlib.Core.Path.{_≡_, sym, ap}
 use mathlib.Core.Option.{Option, none, some}
-use native.Mathlib.Omega.{arith}
 use lib.Ieee.{Float, ofBits}
 use borrow.Author.Needs.{needs}
 use Rattle.paper.specs.Answers.{answered, given}
 use Rattle.paper.specs.Floats.{near}
 use Rattle.sky.specs.Answers.{firstSays, endAnswer}
-use Rattle.sky.proofs.Twelves.{tithi-range}
 use Rattle.sky.proofs.tithi_end.Statement.{statement}
 use Rattle.sky.proofs.tithi_end.Tie as tie
 
@@ -18,9 +16,6 @@ told c o e =
     let j = n .before .before in
     let i = j .before .before in
     rw (← i .before .is-instant .ensures, i .if1 .taken, ← j .is-instant2 .ensures, n .before .if2 .taken, e, c .end-of .ensures, c .before .tithi-of .ensures, n .elongation-of .ensures)
-
-end-of-requires : tie.Need-end-of-requires
-end-of-requires c κs = omega (arith, tithi-range (c .before .elongation-of .result) .1, c .tithi-of .ensures)
 
 returns : tie.Need-returns
 returns c = told (c .before .before .before) (some _) (sym (ap firstSays (c .before .end .given .1)))
@@ -41,5 +36,5 @@ returns-4 c = rw (← c .before .is-instant .ensures, c .if1 .left)
 pub tithi-end-spec : {M : Type 1} → statement M
 tithi-end-spec =
     tie.close
-    (tie.spec (λ c κs. search needs) (λ c κs. search needs) (λ c κs. search needs) (λ c κs. search needs) end-of-requires (λ c. search needs) returns
-    (λ c. search needs) returns-2 returns-3 returns-4)
+    (tie.spec (λ c κs. search needs) (λ c κs. search needs) (λ c κs. search needs) (λ c κs. search needs) (λ c κs. search needs) (λ c. search needs)
+    returns (λ c. search needs) returns-2 returns-3 returns-4)

@@ -10,9 +10,6 @@ returns c = frame-no _ _ (λ f. omega arith)
 returns-2 : tie.Need-returns-2
 returns-2 c = frame-no _ _ (λ f. omega arith)
 
-mul-if3 : tie.Need-mul-if3
-mul-if3 c = search needs
-
 returns-3 : tie.Need-returns-3
 returns-3 c = frame-no _ _ (λ f. c .if3 .taken (f .whole))
 
@@ -21,9 +18,6 @@ returns-4 c = frame-no _ _ (λ f. omega arith)
 
 returns-5 : tie.Need-returns-5
 returns-5 c = frame-no _ _ (λ f. omega arith)
-
-first-day-requires : tie.Need-first-day-requires
-first-day-requires c κs = search needs
 
 returns-6 : tie.Need-returns-6
 returns-6 c = frame-no _ _ (λ f. omega (arith, starts _ _ f))
@@ -49,15 +43,4 @@ returns-7 c =
     }
 
 pub frame-spec : {M : Type 1} → statement M
-frame-spec =
-    tie.close
-    (tie.spec
-    returns
-    returns-2
-    mul-if3
-    returns-3
-    returns-4
-    returns-5
-    first-day-requires
-    returns-6
-    returns-7)
+frame-spec = tie.close (tie.spec returns returns-2 (λ c. search needs) returns-3 returns-4 returns-5 (λ c κs. search needs) returns-6 returns-7)

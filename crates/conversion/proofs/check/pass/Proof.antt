@@ -18,9 +18,6 @@ abbrev μ-loop : tie.MeasureT-loop
 loop-holds : tie.Need-loop-holds Inv-loop μ-loop
 loop-holds c = (omega arith, going-none _ _ _)
 
-row-days-requires : tie.Need-row-days-requires Inv-loop μ-loop
-row-days-requires c κs = search needs
-
 returns : tie.Need-returns Inv-loop μ-loop
 returns c =
     let a = c .before .before .before .before .before .args in
@@ -28,17 +25,8 @@ returns c =
     say-no (now (a .rows)) (a .count) _ _ _ _
     (all-not (rowOk (now (a .rows))) (a .count) (l .i) (c .before .before .loop-test .taken) (c .before .row-days .ensures .bad (c .if1 .taken)))
 
-add-i : tie.Need-add-i Inv-loop μ-loop
-add-i c = search needs
-
 add-days : tie.Need-add-days Inv-loop μ-loop
 add-days c = omega (arith, c .before .before .before .before .loop .inv .1 .most, c .before .before .row-days .ensures .most)
-
-further-requires : tie.Need-further-requires Inv-loop μ-loop
-further-requires c κs = search needs
-
-loop-less : tie.Need-loop-less Inv-loop μ-loop
-loop-less c = search needs
 
 loop-again : tie.Need-loop-again Inv-loop μ-loop
 loop-again c =
@@ -55,14 +43,5 @@ pub pass-spec : {M : Type 1} → statement M
 pass-spec =
     tie.close
     (tie.spec
-    Inv-loop
-    μ-loop
-    loop-holds
-    row-days-requires
-    returns
-    add-i
-    add-days
-    further-requires
-    loop-less
-    loop-again
+    Inv-loop μ-loop loop-holds (λ c κs. search needs) returns (λ c. search needs) add-days (λ c κs. search needs) (λ c. search needs) loop-again
     returns-2)

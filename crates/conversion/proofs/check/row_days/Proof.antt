@@ -22,27 +22,6 @@ abbrev μ-loop : tie.MeasureT-loop
 loop-holds : tie.Need-loop-holds Inv-loop μ-loop
 loop-holds c = (omega arith, sym (all-zero _), sym (sum-zero (low (now (c .args .rows)) (c .args .i))), omega arith)
 
-mul-len : tie.Need-mul-len Inv-loop μ-loop
-mul-len c = omega arith
-
-add-len : tie.Need-add-len Inv-loop μ-loop
-add-len c = omega arith
-
-mul-len-2 : tie.Need-mul-len-2 Inv-loop μ-loop
-mul-len-2 c = omega arith
-
-shared-slice-read-len : tie.Need-shared-slice-read-len Inv-loop μ-loop
-shared-slice-read-len c = omega arith
-
-add-days : tie.Need-add-days Inv-loop μ-loop
-add-days c = omega arith
-
-add-m : tie.Need-add-m Inv-loop μ-loop
-add-m c = omega arith
-
-loop-less : tie.Need-loop-less Inv-loop μ-loop
-loop-less c = omega arith
-
 loop-again : tie.Need-loop-again Inv-loop μ-loop
 loop-again c =
     let a = c .before .before .before .args in
@@ -60,21 +39,6 @@ flag c =
     let s = rw e at (l .inv .2) in
     (rw (g, s) (row-flag (now (a .rows)) (a .i)), s)
 
-mul-good : tie.Need-mul-good Inv-loop μ-loop
-mul-good c = omega arith
-
-add-good : tie.Need-add-good Inv-loop μ-loop
-add-good c = omega arith
-
-mul-good-2 : tie.Need-mul-good-2 Inv-loop μ-loop
-mul-good-2 c = omega arith
-
-shared-slice-read-good : tie.Need-shared-slice-read-good Inv-loop μ-loop
-shared-slice-read-good c = omega arith
-
-cast-result : tie.Need-cast-result Inv-loop μ-loop
-cast-result c = omega arith
-
 returns : tie.Need-returns Inv-loop μ-loop
 returns c =
     let f = flag (c .before .before) in
@@ -87,21 +51,5 @@ pub row-days-spec : {M : Type 1} → statement M
 row-days-spec =
     tie.close
     (tie.spec
-    Inv-loop
-    μ-loop
-    loop-holds
-    mul-len
-    add-len
-    mul-len-2
-    shared-slice-read-len
-    add-days
-    add-m
-    loop-less
-    loop-again
-    mul-good
-    add-good
-    mul-good-2
-    shared-slice-read-good
-    cast-result
-    returns
-    returns-2)
+    Inv-loop μ-loop loop-holds (λ c. omega arith) (λ c. omega arith) (λ c. omega arith) (λ c. omega arith) (λ c. omega arith) (λ c. omega arith)
+    (λ c. omega arith) loop-again (λ c. omega arith) (λ c. omega arith) (λ c. omega arith) (λ c. omega arith) (λ c. omega arith) returns returns-2)

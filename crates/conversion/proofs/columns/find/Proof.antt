@@ -43,12 +43,6 @@ returns c =
 add-k : tie.Need-add-k Inv-loop μ-loop
 add-k c = omega (arith, k-in (c .before .before), c .before .before .before .before .pre .small)
 
-add-i : tie.Need-add-i Inv-loop μ-loop
-add-i c = omega arith
-
-loop-less : tie.Need-loop-less Inv-loop μ-loop
-loop-less c = omega arith
-
 loop-again : tie.Need-loop-again Inv-loop μ-loop
 loop-again c =
     let a = c .before .before .before .before .args in
@@ -66,15 +60,4 @@ pub find-spec : {M : Type 1} → statement M
 find-spec =
     tie.close
     (tie.spec
-    Inv-loop
-    μ-loop
-    loop-holds
-    mul-len
-    shared-slice-read-len
-    cast-len
-    returns
-    add-k
-    add-i
-    loop-less
-    loop-again
-    returns-2)
+    Inv-loop μ-loop loop-holds mul-len shared-slice-read-len cast-len returns add-k (λ c. omega arith) (λ c. omega arith) loop-again returns-2)

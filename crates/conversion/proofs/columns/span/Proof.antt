@@ -40,12 +40,6 @@ add-total c =
 add-k : tie.Need-add-k Inv-loop μ-loop
 add-k c = omega (arith, k-in (c .before), c .before .before .before .pre .small)
 
-add-i : tie.Need-add-i Inv-loop μ-loop
-add-i c = omega arith
-
-loop-less : tie.Need-loop-less Inv-loop μ-loop
-loop-less c = omega arith
-
 loop-again : tie.Need-loop-again Inv-loop μ-loop
 loop-again c =
     let a = c .before .before .before .args in
@@ -63,15 +57,4 @@ pub span-spec : {M : Type 1} → statement M
 span-spec =
     tie.close
     (tie.spec
-    Inv-loop
-    μ-loop
-    loop-holds
-    mul-total
-    shared-slice-read-total
-    cast-total
-    add-total
-    add-k
-    add-i
-    loop-less
-    loop-again
-    returns)
+    Inv-loop μ-loop loop-holds mul-total shared-slice-read-total cast-total add-total add-k (λ c. omega arith) (λ c. omega arith) loop-again returns)

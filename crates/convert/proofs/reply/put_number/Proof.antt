@@ -5,25 +5,11 @@ use borrow.Author.Needs.{needs}
 use Rattle.convert.proofs.reply.put_number.Statement.{statement}
 use Rattle.convert.proofs.reply.put_number.Tie as tie
 
-put-decimal-requires : tie.Need-put-decimal-requires
-put-decimal-requires c κs = search needs
-
-same-length : tie.Need-same-length
-same-length c = search needs
-
 returns : tie.Need-returns
 returns c = let a = c .before .before .before .before .before .before .args in fewest-put (a .width) (a .n) (omega arith) (c .before .before .before .before .if1 .taken) (c .before .before .put-decimal .ensures)
-
-put-wide-requires : tie.Need-put-wide-requires
-put-wide-requires c κs = search needs
-
-same-length-2 : tie.Need-same-length-2
-same-length-2 c = search needs
 
 returns-2 : tie.Need-returns-2
 returns-2 c = let a = c .before .before .before .before .before .before .args in wide-put (a .width) (a .n) (omega arith) (c .before .before .before .before .if1 .left) (c .before .before .before .before .before .before .pre) (c .before .before .put-wide .ensures)
 
 pub put-number-spec : {M : Type 1} → statement M
-put-number-spec =
-    tie.close
-    (tie.spec put-decimal-requires same-length returns put-wide-requires same-length-2 returns-2)
+put-number-spec = tie.close (tie.spec (λ c κs. search needs) (λ c. search needs) returns (λ c κs. search needs) (λ c. search needs) returns-2)

@@ -4,15 +4,6 @@ use Rattle.rules.specs.Days.{holds}
 use Rattle.festivals.proofs.days.covers_kala.Statement.{statement}
 use Rattle.festivals.proofs.days.covers_kala.Tie as tie
 
-enum-known-today : tie.Need-enum-known-today
-enum-known-today c = search needs
-
-kala-at-requires : tie.Need-kala-at-requires
-kala-at-requires c κs = search needs
-
-enum-told : tie.Need-enum-told
-enum-told c = search needs
-
 returns : tie.Need-returns
 unfolding holds
 returns c =
@@ -25,4 +16,5 @@ returns-2 c = rw (c .enum-told .given .1)
 
 pub covers-kala-spec : {M : Type 1} → statement M
 covers-kala-spec =
-    tie.close (tie.spec enum-known-today kala-at-requires enum-told returns returns-2)
+    tie.close
+    (tie.spec (λ c. search needs) (λ c κs. search needs) (λ c. search needs) returns returns-2)

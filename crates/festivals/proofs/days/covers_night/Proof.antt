@@ -4,12 +4,6 @@ use Rattle.rules.specs.Days.{holds}
 use Rattle.festivals.proofs.days.covers_night.Statement.{statement}
 use Rattle.festivals.proofs.days.covers_night.Tie as tie
 
-enum-known-night : tie.Need-enum-known-night
-enum-known-night c = search needs
-
-enum-told : tie.Need-enum-told
-enum-told c = search needs
-
 returns : tie.Need-returns
 unfolding holds
 returns c = rw (c .before .before .before .before .before .night .given .1)
@@ -19,4 +13,6 @@ unfolding holds
 returns-2 c = rw (c .enum-told .given .1)
 
 pub covers-night-spec : {M : Type 1} → statement M
-covers-night-spec = tie.close (tie.spec enum-known-night enum-told returns returns-2)
+covers-night-spec =
+    tie.close
+    (tie.spec (λ c. search needs) (λ c. search needs) returns returns-2)

@@ -6,15 +6,11 @@ use Rattle.festivals.specs.Kathmandu.{endAfter}
 use Rattle.festivals.proofs.days.end_of.Statement.{statement}
 use Rattle.festivals.proofs.days.end_of.Tie as tie
 
-next-tithi-requires : tie.Need-next-tithi-requires
-next-tithi-requires c κs = search needs
-
-first-start-requires : tie.Need-first-start-requires
-first-start-requires c κs = search needs
-
 returns : tie.Need-returns
 unfolding endAfter near ofBits
 returns c = rw (← c .before .before .before .next-tithi .ensures) (c .first-start .ensures)
 
 pub end-of-spec : {M : Type 1} → statement M
-end-of-spec = tie.close (tie.spec next-tithi-requires first-start-requires returns)
+end-of-spec =
+    tie.close
+    (tie.spec (λ c κs. search needs) (λ c κs. search needs) returns)

@@ -11,25 +11,10 @@ use Rattle.festivals.proofs.Dates.{date-none, date-begins, date-endless
 use Rattle.festivals.proofs.days.festival_date.Statement.{statement}
 use Rattle.festivals.proofs.days.festival_date.Tie as tie
 
-nepal-day-requires : tie.Need-nepal-day-requires
-nepal-day-requires c κs = search needs
-
-enum-known-begin : tie.Need-enum-known-begin
-enum-known-begin c = search needs
-
-enum-told : tie.Need-enum-told
-enum-told c = search needs
-
 returns : tie.Need-returns
 returns c =
     let d = c .before .before in
     date-none _ _ _ _ (sym (ap dayIs (c .enum-told .given .1)) ∙ d .nepal-day .ensures)
-
-kala-named-requires : tie.Need-kala-named-requires
-kala-named-requires c κs = search needs
-
-is-begins-requires : tie.Need-is-begins-requires
-is-begins-requires c κs = search needs
 
 returns-2 : tie.Need-returns-2
 returns-2 c =
@@ -40,15 +25,6 @@ returns-2 c =
     let o = d .before in
     date-begins _ _ _ _ _ (sym (ap dayIs (n .begin .given .1)) ∙ d .nepal-day .ensures)
     (begins-named _ _ _ (o .pre .1) (k .kala-named .ensures) (sym (b .is-begins .ensures) ∙ c .if1 .taken))
-
-end-of-requires : tie.Need-end-of-requires
-end-of-requires c κs = search needs
-
-enum-known-end : tie.Need-enum-known-end
-enum-known-end c = search needs
-
-enum-told-2 : tie.Need-enum-told-2
-enum-told-2 c = search needs
 
 returns-3 : tie.Need-returns-3
 returns-3 c =
@@ -89,17 +65,5 @@ returns-4 c =
 pub festival-date-spec : {M : Type 1} → statement M
 festival-date-spec =
     tie.close
-    (tie.spec
-    nepal-day-requires
-    enum-known-begin
-    enum-told
-    returns
-    kala-named-requires
-    is-begins-requires
-    returns-2
-    end-of-requires
-    enum-known-end
-    enum-told-2
-    returns-3
-    festival-day-requires
-    returns-4)
+    (tie.spec (λ c κs. search needs) (λ c. search needs) (λ c. search needs) returns (λ c κs. search needs) (λ c κs. search needs) returns-2
+    (λ c κs. search needs) (λ c. search needs) (λ c. search needs) returns-3 festival-day-requires returns-4)

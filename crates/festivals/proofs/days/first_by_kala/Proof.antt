@@ -15,17 +15,8 @@ Inv-loop start end kala begin n₀ left₀ n left =
 abbrev μ-loop : tie.MeasureT-loop
 μ-loop start end kala begin n₀ left₀ n left = left
 
-sub-n : tie.Need-sub-n Inv-loop μ-loop
-sub-n c = search needs
-
 loop-holds : tie.Need-loop-holds Inv-loop μ-loop
 loop-holds c = (omega arith, claimed-is _ _ _ _ _)
-
-sun-on-requires : tie.Need-sun-on-requires Inv-loop μ-loop
-sun-on-requires c κs = search needs
-
-covers-kala-requires : tie.Need-covers-kala-requires Inv-loop μ-loop
-covers-kala-requires c κs = search needs
 
 returns : tie.Need-returns Inv-loop μ-loop
 returns c =
@@ -36,15 +27,6 @@ returns c =
     let a = o .args in
     from-hit _ (l .loop .n) (l .loop .left) _ (l .loop .inv .1) (e .before .loop-test .taken) _
     (k .covers-kala .ensures ∙ kala-claims _ _ _ (a .kala) _ _ (o .pre .0) (kala-on (a .kala) _ _ (e .sun-on .ensures))) (c .if1 .taken)
-
-add-n : tie.Need-add-n Inv-loop μ-loop
-add-n c = search needs
-
-sub-left : tie.Need-sub-left Inv-loop μ-loop
-sub-left c = search needs
-
-loop-less : tie.Need-loop-less Inv-loop μ-loop
-loop-less c = search needs
 
 loop-again : tie.Need-loop-again Inv-loop μ-loop
 loop-again c =
@@ -67,16 +49,5 @@ returns-2 c =
 pub first-by-kala-spec : {M : Type 1} → statement M
 first-by-kala-spec =
     tie.close
-    (tie.spec
-    Inv-loop
-    μ-loop
-    sub-n
-    loop-holds
-    sun-on-requires
-    covers-kala-requires
-    returns
-    add-n
-    sub-left
-    loop-less
-    loop-again
-    returns-2)
+    (tie.spec Inv-loop μ-loop (λ c. search needs) loop-holds (λ c κs. search needs) (λ c κs. search needs) returns (λ c. search needs)
+    (λ c. search needs) (λ c. search needs) loop-again returns-2)

@@ -18,26 +18,8 @@ Inv-loop start end begin n₀ today₀ left₀ n today left =
 abbrev μ-loop : tie.MeasureT-loop
 μ-loop start end begin n₀ today₀ left₀ n today left = left
 
-sub-n : tie.Need-sub-n Inv-loop μ-loop
-sub-n c = search needs
-
-sun-on-requires : tie.Need-sun-on-requires Inv-loop μ-loop
-sun-on-requires c κs = search needs
-
 loop-holds : tie.Need-loop-holds Inv-loop μ-loop
 loop-holds c = (c .sun-on .ensures, (omega arith, claimed-is _ _ _ _ _))
-
-add-sun-on : tie.Need-add-sun-on Inv-loop μ-loop
-add-sun-on c = search needs
-
-sun-on-requires-2 : tie.Need-sun-on-requires-2 Inv-loop μ-loop
-sun-on-requires-2 c κs = search needs
-
-nishita-between-requires : tie.Need-nishita-between-requires Inv-loop μ-loop
-nishita-between-requires c κs = search needs
-
-covers-night-requires : tie.Need-covers-night-requires Inv-loop μ-loop
-covers-night-requires c κs = search needs
 
 returns : tie.Need-returns Inv-loop μ-loop
 returns c =
@@ -47,15 +29,6 @@ returns c =
     let l = e .before .before in
     from-hit _ (l .loop .n) (l .loop .left) _ (l .loop .inv .1 .1) (e .before .loop-test .taken) _
     (k .covers-night .ensures ∙ night-claims _ _ _ _ _ (night-on _ _ _ _ (l .loop .inv .0) (e .sun-on2 .ensures) (b .nishita-between .ensures))) (c .if1 .taken)
-
-add-n : tie.Need-add-n Inv-loop μ-loop
-add-n c = search needs
-
-sub-left : tie.Need-sub-left Inv-loop μ-loop
-sub-left c = search needs
-
-loop-less : tie.Need-loop-less Inv-loop μ-loop
-loop-less c = search needs
 
 loop-again : tie.Need-loop-again Inv-loop μ-loop
 loop-again c =
@@ -77,19 +50,5 @@ returns-2 c =
 pub first-by-night-spec : {M : Type 1} → statement M
 first-by-night-spec =
     tie.close
-    (tie.spec
-    Inv-loop
-    μ-loop
-    sub-n
-    sun-on-requires
-    loop-holds
-    add-sun-on
-    sun-on-requires-2
-    nishita-between-requires
-    covers-night-requires
-    returns
-    add-n
-    sub-left
-    loop-less
-    loop-again
-    returns-2)
+    (tie.spec Inv-loop μ-loop (λ c. search needs) (λ c κs. search needs) loop-holds (λ c. search needs) (λ c κs. search needs) (λ c κs. search needs)
+    (λ c κs. search needs) returns (λ c. search needs) (λ c. search needs) (λ c. search needs) loop-again returns-2)

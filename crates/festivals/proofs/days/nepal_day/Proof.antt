@@ -7,26 +7,8 @@ use Rattle.festivals.proofs.Nepal.{nepal-date, nepal-none, known-some, 
 use Rattle.festivals.proofs.days.nepal_day.Statement.{statement}
 use Rattle.festivals.proofs.days.nepal_day.Tie as tie
 
-npt-date-requires : tie.Need-npt-date-requires
-npt-date-requires c κs = search needs
-
-enum-known-date : tie.Need-enum-known-date
-enum-known-date c = search needs
-
-enum-told : tie.Need-enum-told
-enum-told c = search needs
-
 returns : tie.Need-returns
 returns c = nepal-none _ _ (said dateSays (c .enum-told .given .1) (c .before .before .npt-date .ensures))
-
-day-number-requires : tie.Need-day-number-requires
-day-number-requires c κs = search needs
-
-enum-known-n : tie.Need-enum-known-n
-enum-known-n c = search needs
-
-enum-told-2 : tie.Need-enum-told-2
-enum-told-2 c = search needs
 
 returns-2 : tie.Need-returns-2
 returns-2 c =
@@ -45,13 +27,5 @@ returns-3 c =
 pub nepal-day-spec : {M : Type 1} → statement M
 nepal-day-spec =
     tie.close
-    (tie.spec
-    npt-date-requires
-    enum-known-date
-    enum-told
-    returns
-    day-number-requires
-    enum-known-n
-    enum-told-2
-    returns-2
-    returns-3)
+    (tie.spec (λ c κs. search needs) (λ c. search needs) (λ c. search needs) returns (λ c κs. search needs) (λ c. search needs) (λ c. search needs)
+    returns-2 returns-3)

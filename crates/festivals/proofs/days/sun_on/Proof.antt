@@ -5,12 +5,11 @@ use Rattle.paper.specs.Floats.{near}
 use Rattle.festivals.proofs.days.sun_on.Statement.{statement}
 use Rattle.festivals.proofs.days.sun_on.Tie as tie
 
-events-on-requires : tie.Need-events-on-requires
-events-on-requires c κs = search needs
-
 returns : tie.Need-returns
 unfolding near ofBits
 returns c = c .events-on .ensures
 
 pub sun-on-spec : {M : Type 1} → statement M
-sun-on-spec = tie.close (tie.spec events-on-requires returns)
+sun-on-spec =
+    tie.close
+    (tie.spec (λ c κs. search needs) returns)

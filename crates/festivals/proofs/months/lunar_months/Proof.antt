@@ -10,18 +10,6 @@ use Rattle.festivals.proofs.TableYears.{opens}
 use Rattle.festivals.proofs.months.lunar_months.Statement.{statement}
 use Rattle.festivals.proofs.months.lunar_months.Tie as tie
 
-year-days-requires : tie.Need-year-days-requires
-year-days-requires c κs = search needs
-
-enum-known-first : tie.Need-enum-known-first
-enum-known-first c = search needs
-
-enum-told : tie.Need-enum-told
-enum-told c = search needs
-
-months-of-requires : tie.Need-months-of-requires
-months-of-requires c κs = search needs
-
 returns : tie.Need-returns
 returns c =
     let t = c .before .before in
@@ -29,12 +17,6 @@ returns c =
     let a = d .before .before .args in
     λ j h.
     c .months-of .ensures j h ∙ opens _ (flat (a .table) (a .rows .now)) (a .year) none (sym (ap daysAre (t .enum-told .given .1)) ∙ d .year-days .ensures) (j + 1)
-
-new-moons-requires : tie.Need-new-moons-requires
-new-moons-requires c κs = search needs
-
-months-of-requires-2 : tie.Need-months-of-requires-2
-months-of-requires-2 c κs = search needs
 
 returns-2 : tie.Need-returns-2
 returns-2 c =
@@ -51,12 +33,5 @@ returns-2 c =
 pub lunar-months-spec : {M : Type 1} → statement M
 lunar-months-spec =
     tie.close
-    (tie.spec
-    year-days-requires
-    enum-known-first
-    enum-told
-    months-of-requires
-    returns
-    new-moons-requires
-    months-of-requires-2
-    returns-2)
+    (tie.spec (λ c κs. search needs) (λ c. search needs) (λ c. search needs) (λ c κs. search needs) returns (λ c κs. search needs)
+    (λ c κs. search needs) returns-2)

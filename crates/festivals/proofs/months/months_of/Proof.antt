@@ -26,27 +26,6 @@ abbrev μ-loop : tie.MeasureT-loop
 loop-holds : tie.Need-loop-holds Inv-loop μ-loop
 loop-holds c = (omega arith, refl)
 
-mul-x : tie.Need-mul-x Inv-loop μ-loop
-mul-x c = search needs
-
-element-copy-out-x : tie.Need-element-copy-out-x Inv-loop μ-loop
-element-copy-out-x c = search needs
-
-add-i : tie.Need-add-i Inv-loop μ-loop
-add-i c = search needs
-
-nepal-day-requires : tie.Need-nepal-day-requires Inv-loop μ-loop
-nepal-day-requires c κs = search needs
-
-enum-known-k : tie.Need-enum-known-k Inv-loop μ-loop
-enum-known-k c = search needs
-
-enum-told : tie.Need-enum-told Inv-loop μ-loop
-enum-told c = search needs
-
-loop-less : tie.Need-loop-less Inv-loop μ-loop
-loop-less c = search needs
-
 -- the new moons are there
 fits : (d : tie.After-nepal-day Inv-loop μ-loop) → let a = d .before .before .before .before .before .args in a .n ≤ length (a .found .now)
 fits d = let o = d .before .before .before .before .before in omega (arith, o .pre .1, o .pre .2)
@@ -56,15 +35,6 @@ loop-again c =
     let d = c .before .before in
     stands-turn _ _ _ _ _ _ _ _ _ (d .before .before .loop-test .taken) (fits d) (place-nothing _ _ _ _ _ (sym (ap dayIs (c .enum-told .given .1)) ∙ d .nepal-day .ensures)) (d .before .before .before .loop .inv)
 
-place-requires : tie.Need-place-requires Inv-loop μ-loop
-place-requires c κs = search needs
-
-enum-known-date : tie.Need-enum-known-date Inv-loop μ-loop
-enum-known-date c = search needs
-
-loop-less-2 : tie.Need-loop-less-2 Inv-loop μ-loop
-loop-less-2 c = search needs
-
 loop-again-2 : tie.Need-loop-again-2 Inv-loop μ-loop
 loop-again-2 c =
     let p = c .before in
@@ -72,9 +42,6 @@ loop-again-2 c =
     let d = n .before .before in
     let o = d .before .before .before .before .before in
     stands-turn _ _ _ _ _ _ _ _ _ (d .before .before .loop-test .taken) (fits d) (place-outside _ _ _ _ _ _ (sym (ap dayIs (n .k .given .1)) ∙ d .nepal-day .ensures) Outside (outside _ (o .pre .0) _ (p .place .result) (p .place .ensures) (c .match2 .keys2))) (d .before .before .before .loop .inv)
-
-loop-less-3 : tie.Need-loop-less-3 Inv-loop μ-loop
-loop-less-3 c = search needs
 
 -- the date of a new moon inside the table
 dated-in : (t : tie.After-date Inv-loop μ-loop) →
@@ -96,20 +63,11 @@ loop-again-3 c =
 sub-j : tie.Need-sub-j Inv-loop μ-loop
 sub-j c = omega (arith, month-of _ _ _ (dated-in (c .before .before .before .before)))
 
-cast-j : tie.Need-cast-j Inv-loop μ-loop
-cast-j c = search needs
-
-mul-m : tie.Need-mul-m Inv-loop μ-loop
-mul-m c = search needs
-
 element-write-m : tie.Need-element-write-m Inv-loop μ-loop
 element-write-m c = omega (arith, month-of _ _ _ (dated-in (c .before .before .before .before)))
 
 element-write-m-2 : tie.Need-element-write-m-2 Inv-loop μ-loop
 element-write-m-2 c = omega (arith, month-of _ _ _ (dated-in (c .before .before .before .before)))
-
-loop-less-4 : tie.Need-loop-less-4 Inv-loop μ-loop
-loop-less-4 c = search needs
 
 loop-again-4 : tie.Need-loop-again-4 Inv-loop μ-loop
 unfolding put
@@ -133,29 +91,6 @@ returns c =
 pub months-of-spec : {M : Type 1} → statement M
 months-of-spec =
     tie.close
-    (tie.spec
-    Inv-loop
-    μ-loop
-    loop-holds
-    mul-x
-    element-copy-out-x
-    add-i
-    nepal-day-requires
-    enum-known-k
-    enum-told
-    loop-less
-    loop-again
-    place-requires
-    enum-known-date
-    loop-less-2
-    loop-again-2
-    loop-less-3
-    loop-again-3
-    sub-j
-    cast-j
-    mul-m
-    element-write-m
-    element-write-m-2
-    loop-less-4
-    loop-again-4
-    returns)
+    (tie.spec Inv-loop μ-loop loop-holds (λ c. search needs) (λ c. search needs) (λ c. search needs) (λ c κs. search needs) (λ c. search needs)
+    (λ c. search needs) (λ c. search needs) loop-again (λ c κs. search needs) (λ c. search needs) (λ c. search needs) loop-again-2 (λ c. search needs)
+    loop-again-3 sub-j (λ c. search needs) (λ c. search needs) element-write-m element-write-m-2 (λ c. search needs) loop-again-4 returns)

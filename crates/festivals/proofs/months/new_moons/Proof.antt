@@ -7,15 +7,6 @@ use Rattle.festivals.proofs.Moons.{moons-front, moons-from}
 use Rattle.festivals.proofs.months.new_moons.Statement.{statement}
 use Rattle.festivals.proofs.months.new_moons.Tie as tie
 
-zero-hour-requires : tie.Need-zero-hour-requires
-zero-hour-requires c κs = search needs
-
-zero-hour-requires-2 : tie.Need-zero-hour-requires-2
-zero-hour-requires-2 c κs = search needs
-
-walk-requires : tie.Need-walk-requires
-walk-requires c κs = search needs
-
 returns : tie.Need-returns
 unfolding near ofBits
 returns c =
@@ -25,4 +16,6 @@ returns c =
     (m .0, m .1 ∙ moons-from _ _ _ _ (to .before .zero-hour .ensures) (to .zero-hour2 .ensures))
 
 pub new-moons-spec : {M : Type 1} → statement M
-new-moons-spec = tie.close (tie.spec zero-hour-requires zero-hour-requires-2 walk-requires returns)
+new-moons-spec =
+    tie.close
+    (tie.spec (λ c κs. search needs) (λ c κs. search needs) (λ c κs. search needs) returns)

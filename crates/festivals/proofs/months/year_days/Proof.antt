@@ -8,44 +8,17 @@ use Rattle.festivals.proofs.TableYears.{no-first, no-length, no-last, b
 use Rattle.festivals.proofs.months.year_days.Statement.{statement}
 use Rattle.festivals.proofs.months.year_days.Tie as tie
 
-day-of-requires : tie.Need-day-of-requires
-day-of-requires c κs = search needs
-
-enum-known-a : tie.Need-enum-known-a
-enum-known-a c = search needs
-
-enum-told : tie.Need-enum-told
-enum-told c = search needs
-
 returns : tie.Need-returns
 returns c =
     let d = c .before .before in
     let o = d .before .before in
     no-first (o .args .table) (o .args .rows .now) (o .pre) (o .args .year) _ (sym (said numberSays (c .enum-told .given .1) (d .day-of .ensures)))
 
-month-days-requires : tie.Need-month-days-requires
-month-days-requires c κs = search needs
-
-enum-known-len : tie.Need-enum-known-len
-enum-known-len c = search needs
-
-enum-told-2 : tie.Need-enum-told-2
-enum-told-2 c = search needs
-
 returns-2 : tie.Need-returns-2
 returns-2 c =
     let m = c .before .before in
     let o = m .before .before .before .before .before .before in
     no-length (o .args .table) (o .args .rows .now) (o .pre) (o .args .year) _ (sym (said daysSays (c .enum-told2 .given .1) (m .month-days .ensures)))
-
-day-of-requires-2 : tie.Need-day-of-requires-2
-day-of-requires-2 c κs = search needs
-
-enum-known-b : tie.Need-enum-known-b
-enum-known-b c = search needs
-
-enum-told-3 : tie.Need-enum-told-3
-enum-told-3 c = search needs
 
 returns-3 : tie.Need-returns-3
 returns-3 c =
@@ -70,17 +43,5 @@ returns-4 c =
 pub year-days-spec : {M : Type 1} → statement M
 year-days-spec =
     tie.close
-    (tie.spec
-    day-of-requires
-    enum-known-a
-    enum-told
-    returns
-    month-days-requires
-    enum-known-len
-    enum-told-2
-    returns-2
-    day-of-requires-2
-    enum-known-b
-    enum-told-3
-    returns-3
-    returns-4)
+    (tie.spec (λ c κs. search needs) (λ c. search needs) (λ c. search needs) returns (λ c κs. search needs) (λ c. search needs) (λ c. search needs)
+    returns-2 (λ c κs. search needs) (λ c. search needs) (λ c. search needs) returns-3 returns-4)

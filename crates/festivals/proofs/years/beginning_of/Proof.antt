@@ -10,12 +10,11 @@ use Rattle.festivals.proofs.years.beginning_of.Tie as tie
 returns : tie.Need-returns
 returns c = begins-at-moon _ _ _ (c .if1 .taken)
 
-first-start-requires : tie.Need-first-start-requires
-first-start-requires c κs = search needs
-
 returns-2 : tie.Need-returns-2
 unfolding startAfter near ofBits
 returns-2 c = begins-after _ _ _ _ (c .before .before .before .if1 .left) (c .first-start .ensures)
 
 pub beginning-of-spec : {M : Type 1} → statement M
-beginning-of-spec = tie.close (tie.spec returns first-start-requires returns-2)
+beginning-of-spec =
+    tie.close
+    (tie.spec returns (λ c κs. search needs) returns-2)

@@ -8,15 +8,10 @@ use Rattle.festivals.proofs.years.resolve_before.Tie as tie
 returns : tie.Need-returns
 returns c = late-before _ _ _ _ _ _ (c .if1 .taken) refl
 
-year-before-requires : tie.Need-year-before-requires
-year-before-requires c κs = search needs
-
-resolve-year-requires : tie.Need-resolve-year-requires
-resolve-year-requires c κs = search needs
-
 returns-2 : tie.Need-returns-2
 returns-2 c = early-before _ _ _ _ _ _ _ (c .before .before .if1 .left) (c .before .year-before .ensures) (c .resolve-year .ensures)
 
 pub resolve-before-spec : {M : Type 1} → statement M
 resolve-before-spec =
-    tie.close (tie.spec returns year-before-requires resolve-year-requires returns-2)
+    tie.close
+    (tie.spec returns (λ c κs. search needs) (λ c κs. search needs) returns-2)

@@ -23,20 +23,8 @@ Inv-loop table rows rules year months out₀ n j₀ i₀ out j i = Entered kathm
 abbrev μ-loop : tie.MeasureT-loop
 μ-loop table rows rules year months out₀ n j₀ i₀ out j i = n - i
 
-lunar-months-requires : tie.Need-lunar-months-requires Inv-loop μ-loop
-lunar-months-requires c κs = search needs
-
 loop-holds : tie.Need-loop-holds Inv-loop μ-loop
 loop-holds c = entered-first _ _ _ _ _
-
-rule-at-requires : tie.Need-rule-at-requires Inv-loop μ-loop
-rule-at-requires c κs = search needs
-
-add-i : tie.Need-add-i Inv-loop μ-loop
-add-i c = search needs
-
-loop-less : tie.Need-loop-less Inv-loop μ-loop
-loop-less c = search needs
 
 loop-again : tie.Need-loop-again Inv-loop μ-loop
 loop-again c =
@@ -61,15 +49,6 @@ rule-day-requires c κs =
     let l = g .before .before in
     let o = l .before .before .before .before in
     (good-rule (o .args .rules .now) (l .loop .i) (g .rule-at .result) (o .pre .1) (g .before .loop-test .taken) (g .rule-at .ensures), c .if1 .left)
-
-enum-known-k : tie.Need-enum-known-k Inv-loop μ-loop
-enum-known-k c = search needs
-
-enum-told : tie.Need-enum-told Inv-loop μ-loop
-enum-told c = search needs
-
-loop-less-2 : tie.Need-loop-less-2 Inv-loop μ-loop
-loop-less-2 c = search needs
 
 -- the day of the rule that a turn meets, by the lunar months of the year
 met-day : (d : tie.After-rule-day Inv-loop μ-loop) →
@@ -103,15 +82,6 @@ loop-again-2 c =
     let d = c .before .before in
     turned d _ (entry-nothing _ _ _ _ _ _ (met-day d ∙ ap dayIs (c .enum-told .given .1)))
 
-place-requires : tie.Need-place-requires Inv-loop μ-loop
-place-requires c κs = search needs
-
-enum-told-2 : tie.Need-enum-told-2 Inv-loop μ-loop
-enum-told-2 c = search needs
-
-loop-less-3 : tie.Need-loop-less-3 Inv-loop μ-loop
-loop-less-3 c = search needs
-
 loop-again-3 : tie.Need-loop-again-3 Inv-loop μ-loop
 loop-again-3 c =
     let p = c .before in
@@ -125,9 +95,6 @@ mul-out c = omega (arith, room (c .before .before .before .before .before .befor
 
 element-write-out : tie.Need-element-write-out Inv-loop μ-loop
 element-write-out c = omega (arith, room (c .before .before .before .before .before .before .before))
-
-loop-less-4 : tie.Need-loop-less-4 Inv-loop μ-loop
-loop-less-4 c = search needs
 
 loop-again-4 : tie.Need-loop-again-4 Inv-loop μ-loop
 loop-again-4 c =
@@ -143,27 +110,6 @@ returns c = let l = c .before .loop in entered-all _ _ _ _ _ (l .i) (l .out .day
 pub resolve-year-spec : {M : Type 1} → statement M
 resolve-year-spec =
     tie.close
-    (tie.spec
-    Inv-loop
-    μ-loop
-    lunar-months-requires
-    loop-holds
-    rule-at-requires
-    add-i
-    loop-less
-    loop-again
-    add-j
-    rule-day-requires
-    enum-known-k
-    enum-told
-    loop-less-2
-    loop-again-2
-    place-requires
-    enum-told-2
-    loop-less-3
-    loop-again-3
-    mul-out
-    element-write-out
-    loop-less-4
-    loop-again-4
-    returns)
+    (tie.spec Inv-loop μ-loop (λ c κs. search needs) loop-holds (λ c κs. search needs) (λ c. search needs) (λ c. search needs) loop-again add-j
+    rule-day-requires (λ c. search needs) (λ c. search needs) (λ c. search needs) loop-again-2 (λ c κs. search needs) (λ c. search needs)
+    (λ c. search needs) loop-again-3 mul-out element-write-out (λ c. search needs) loop-again-4 returns)

@@ -13,9 +13,6 @@ use Rattle.festivals.proofs.years.rule_day.Tie as tie
 sub-j : tie.Need-sub-j
 sub-j c = let o = c .before in omega (arith, computed-of (o .args .r) (o .pre .0) (o .pre .1))
 
-cast-j : tie.Need-cast-j
-cast-j c = search needs
-
 element-copy-out-if1 : tie.Need-element-copy-out-if1
 element-copy-out-if1 c = let o = c .before in omega (arith, computed-of (o .args .r) (o .pre .0) (o .pre .1))
 
@@ -23,9 +20,6 @@ returns : tie.Need-returns
 returns c =
     let a = c .before .before .before .args in
     day-moonless _ (a .r) (a .t1) (a .r .month - 1) (not-true _ (c .if1 .taken))
-
-mul-t13 : tie.Need-mul-t13
-mul-t13 c = search needs
 
 element-copy-out-t16 : tie.Need-element-copy-out-t16
 element-copy-out-t16 c = let o = c .before .before .before in omega (arith, computed-of (o .args .r) (o .pre .0) (o .pre .1))
@@ -35,15 +29,6 @@ mul-tithi c = let o = c .before .before .before .before .before in omega (arith,
 
 add-tithi : tie.Need-add-tithi
 add-tithi c = let o = c .before .before .before .before .before .before in omega (arith, computed-of (o .args .r) (o .pre .0) (o .pre .1))
-
-beginning-of-requires : tie.Need-beginning-of-requires
-beginning-of-requires c κs = search needs
-
-enum-known-start : tie.Need-enum-known-start
-enum-known-start c = search needs
-
-enum-told : tie.Need-enum-told
-enum-told c = search needs
 
 returns-2 : tie.Need-returns-2
 returns-2 c =
@@ -69,18 +54,5 @@ returns-3 c =
 pub rule-day-spec : {M : Type 1} → statement M
 rule-day-spec =
     tie.close
-    (tie.spec
-    sub-j
-    cast-j
-    element-copy-out-if1
-    returns
-    mul-t13
-    element-copy-out-t16
-    mul-tithi
-    add-tithi
-    beginning-of-requires
-    enum-known-start
-    enum-told
-    returns-2
-    festival-date-requires
-    returns-3)
+    (tie.spec sub-j (λ c. search needs) element-copy-out-if1 returns (λ c. search needs) element-copy-out-t16 mul-tithi add-tithi
+    (λ c κs. search needs) (λ c. search needs) (λ c. search needs) returns-2 festival-date-requires returns-3)

@@ -4,14 +4,10 @@ use Rattle.festivals.proofs.Entries.{both-years}
 use Rattle.festivals.proofs.years.years_for.Statement.{statement}
 use Rattle.festivals.proofs.years.years_for.Tie as tie
 
-resolve-before-requires : tie.Need-resolve-before-requires
-resolve-before-requires c κs = search needs
-
-resolve-year-requires : tie.Need-resolve-year-requires
-resolve-year-requires c κs = search needs
-
 returns : tie.Need-returns
 returns c = both-years _ _ _ _ _ _ _ (c .before .resolve-before .ensures) (c .resolve-year .ensures)
 
 pub years-for-spec : {M : Type 1} → statement M
-years-for-spec = tie.close (tie.spec resolve-before-requires resolve-year-requires returns)
+years-for-spec =
+    tie.close
+    (tie.spec (λ c κs. search needs) (λ c κs. search needs) returns)

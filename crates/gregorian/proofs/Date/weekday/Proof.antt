@@ -4,14 +4,8 @@ use borrow.Author.Needs.{needs}
 use Rattle.gregorian.proofs.Date.weekday.Statement.{statement}
 use Rattle.gregorian.proofs.Date.weekday.Tie as tie
 
-is-date-requires : tie.Need-is-date-requires
-is-date-requires c κs = search needs
-
 number-requires : tie.Need-number-requires
 number-requires c κs = rw (← c .before .is-date .ensures, c .if1 .taken) tt
-
-weekday-of-requires : tie.Need-weekday-of-requires
-weekday-of-requires c κs = search needs
 
 returns : tie.Need-returns
 unfolding given
@@ -23,5 +17,4 @@ unfolding given
 returns-2 c = simp (sym (c .before .is-date .ensures) ∙ c .if1 .left)
 
 pub weekday-spec : {M : Type 1} → statement M
-weekday-spec =
-    tie.close (tie.spec is-date-requires number-requires weekday-of-requires returns returns-2)
+weekday-spec = tie.close (tie.spec (λ c κs. search needs) number-requires (λ c κs. search needs) returns returns-2)

@@ -4,37 +4,20 @@ use Prim.Native.Nat.{ℕ, _*_, _≤_}
 use mathlib.Core.Path.{sym, ap, _∙_}
 use native.Mathlib.Omega.{arith}
 use lib.ListN.{length, take}
+use Rattle.paper.specs.declared.Refusal.the-variants.{NoRoom}
 use Rattle.grid.specs.Month.{cellNumbers, festivalNumbers}
 use Rattle.grid.specs.Inner.{gridBy}
 use Rattle.grid.proofs.Grids.{no-cells, no-festivals, fits, says-refused, says-grid, cell-numbers-length, festival-numbers-length, festivals-are, page-front, lists-front, month-is}
 use Rattle.grid.proofs.page.copy_month.Statement.{statement}
 use Rattle.grid.proofs.page.copy_month.Tie as tie
 
-cell-count-requires : tie.Need-cell-count-requires
-cell-count-requires c κs = search needs
-
-mul-if1 : tie.Need-mul-if1
-mul-if1 c = search needs
-
 returns : tie.Need-returns
 returns c =
     let a = c .before .before .before .before .before .before .before .args in
     let g = gridBy (a .rules .now) (a .plan) in
     let h = no-cells g (length (a .cells .now)) (length (a .festivals .now)) (omega (arith, c .if1 .taken, c .before .cell-count .ensures, cell-numbers-length (a .rules .now) (a .plan))) in
-    let r = says-refused _ 9 (a .cells .now) (a .festivals .now) h in
+    let r = says-refused _ NoRoom (a .cells .now) (a .festivals .now) h in
     (r .answer, (r .first, r .second))
-
-fill-requires : tie.Need-fill-requires
-fill-requires c κs = search needs
-
-mul-if2 : tie.Need-mul-if2
-mul-if2 c = search needs
-
-same-length : tie.Need-same-length
-same-length c = search needs
-
-same-length-2 : tie.Need-same-length-2
-same-length-2 c = search needs
 
 returns-2 : tie.Need-returns-2
 returns-2 c =
@@ -43,35 +26,8 @@ returns-2 c =
     let g = gridBy (a .rules .now) (a .plan) in
     let n = filled .fill .ensures .1 .1 .0 ∙ ap length (sym (festivals-are (a .rules .now) (a .plan))) in
     let h = no-festivals g (length (a .cells .now)) (length (a .festivals .now)) (omega (arith, c .if2 .taken, n, festival-numbers-length (a .rules .now) (a .plan))) in
-    let r = says-refused _ 9 (a .cells .now) (a .festivals .now) h in
+    let r = says-refused _ NoRoom (a .cells .now) (a .festivals .now) h in
     (r .answer, (r .first, r .second))
-
-mul-put-front : tie.Need-mul-put-front
-mul-put-front c = search needs
-
-put-front-requires : tie.Need-put-front-requires
-put-front-requires c κs = search needs
-
-mul-put-front-2 : tie.Need-mul-put-front-2
-mul-put-front-2 c = search needs
-
-put-front-requires-2 : tie.Need-put-front-requires-2
-put-front-requires-2 c κs = search needs
-
-month-of-requires : tie.Need-month-of-requires
-month-of-requires c κs = search needs
-
-same-length-3 : tie.Need-same-length-3
-same-length-3 c = search needs
-
-same-length-4 : tie.Need-same-length-4
-same-length-4 c = search needs
-
-same-length-5 : tie.Need-same-length-5
-same-length-5 c = search needs
-
-same-length-6 : tie.Need-same-length-6
-same-length-6 c = search needs
 
 returns-3 : tie.Need-returns-3
 returns-3 c =
@@ -102,22 +58,6 @@ returns-3 c =
 pub copy-month-spec : {M : Type 1} → statement M
 copy-month-spec =
     tie.close
-    (tie.spec
-    cell-count-requires
-    mul-if1
-    returns
-    fill-requires
-    mul-if2
-    same-length
-    same-length-2
-    returns-2
-    mul-put-front
-    put-front-requires
-    mul-put-front-2
-    put-front-requires-2
-    month-of-requires
-    same-length-3
-    same-length-4
-    same-length-5
-    same-length-6
-    returns-3)
+    (tie.spec (λ c κs. search needs) (λ c. search needs) returns (λ c κs. search needs) (λ c. search needs) (λ c. search needs) (λ c. search needs)
+    returns-2 (λ c. search needs) (λ c κs. search needs) (λ c. search needs) (λ c κs. search needs) (λ c κs. search needs) (λ c. search needs)
+    (λ c. search needs) (λ c. search needs) (λ c. search needs) returns-3)

@@ -10,61 +10,15 @@ use Rattle.rules.specs.declared.lists.Day.{Day}
 use Rattle.rules.specs.Festivals.{numbers}
 use Rattle.grid.specs.Cells.{saturday, dayCell}
 use Rattle.grid.specs.Kathmandu.{readingOn}
-use Rattle.grid.specs.Inner.{Dated, listFor}
+use Rattle.grid.specs.Inner.{listFor}
 use Rattle.grid.proofs.Marks.{shown, cell-of, cell-length, sets-same}
 use Rattle.grid.proofs.page.put_cell.Statement.{statement}
 use Rattle.grid.proofs.page.put_cell.Tie as tie
-
-day-on-requires : tie.Need-day-on-requires
-day-on-requires c κs = search needs
-
-put-day-list-requires : tie.Need-put-day-list-requires
-put-day-list-requires c κs = search needs
-
--- the day has a number
-dated : (d : tie.After-day-on) → Dated (d .day-on .result .number)
-dated d =
-    let p = d .before .before .before .before .pre .1 .0 in
-    let e = ap (λ (q : Day). q .number) (d .day-on .ensures) in
-    record { from = omega (arith, e, p .0 .from); to = omega (arith, e, p) }
-
-is-holiday-requires : tie.Need-is-holiday-requires
-is-holiday-requires c κs = (dated (c .before .before .before .before .before), search needs, search needs)
-
-reading-of-requires : tie.Need-reading-of-requires
-reading-of-requires c κs = search needs
-
-sub-day-cell : tie.Need-sub-day-cell
-sub-day-cell c = search needs
-
-cast-day-cell : tie.Need-cast-day-cell
-cast-day-cell c = search needs
-
-day-cell-requires : tie.Need-day-cell-requires
-day-cell-requires c κs = dated (c .before .before .before .before .before .before .before)
-
-lead-of-requires : tie.Need-lead-of-requires
-lead-of-requires c κs = let p = c .before .before .before .before .before .before .before .before .before .before .before .before .before .pre .1 .0 .0 in omega (arith, p .to)
-
-add-put-at : tie.Need-add-put-at
-add-put-at c = search needs
-
-mul-put-at : tie.Need-mul-put-at
-mul-put-at c = search needs
-
-slice-aggregate-put-at : tie.Need-slice-aggregate-put-at
-slice-aggregate-put-at c = search needs
 
 put-at-requires : tie.Need-put-at-requires
 put-at-requires c κs =
     let s = c .before .before .before .before .before .before .before .before .before .before .before .before .before .before .before in
     omega (arith, ap length (c .before .before .before .day-cell .ensures) ∙ cell-length _ _ _ _ _, c .before .lead-of .ensures, s .pre .1)
-
-same-length : tie.Need-same-length
-same-length c = search needs
-
-same-length-2 : tie.Need-same-length-2
-same-length-2 c = search needs
 
 returns : tie.Need-returns
 returns c =
@@ -82,7 +36,7 @@ returns c =
     let e = day .day-on .ensures in
     let p = listed .put-day-list in
     let t = shown (list q) (a .lists .now) (p .last .1 .1 .1 .0) (a .at) (p .result) (p .ensures .0) (p .ensures .1 .0) (omega (arith, p .ensures .1 .1, s .pre .1)) in
-    let k = cell-of (a .plan .today) q (list q) (readingOn q) (read .reading-of .result) _ _ (t .0) (marked .is-holiday .ensures ∙ ap (λ (b : Bool). saturday (q .number) || b) (t .1)) (read .reading-of .ensures) in (
+    let k = cell-of (a .plan .today) q (list q) (readingOn q) (read .reading-on .result) _ _ (t .0) (marked .is-holiday .ensures ∙ ap (λ (b : Bool). saturday (q .number) || b) (t .1)) (read .reading-on .ensures) in (
       stored .put-at .ensures
           ∙ sets-same (a .page .now) _ _ _ _ (ap (λ (z : ℕ). (z + a .d) * 12) (led .lead-of .ensures))
           (made .day-cell .ensures ∙ k ∙ ap (λ (x : Day). dayCell (a .plan .today) x (list x) (readingOn x)) e),
@@ -95,19 +49,6 @@ returns c =
 pub put-cell-spec : {M : Type 1} → statement M
 put-cell-spec =
     tie.close
-    (tie.spec
-    day-on-requires
-    put-day-list-requires
-    is-holiday-requires
-    reading-of-requires
-    sub-day-cell
-    cast-day-cell
-    day-cell-requires
-    lead-of-requires
-    add-put-at
-    mul-put-at
-    slice-aggregate-put-at
-    put-at-requires
-    same-length
-    same-length-2
-    returns)
+    (tie.spec (λ c κs. search needs) (λ c κs. search needs) (λ c κs. search needs) (λ c κs. search needs) (λ c. search needs) (λ c. search needs)
+    (λ c κs. search needs) (λ c κs. search needs) (λ c. search needs) (λ c. search needs) (λ c. search needs) put-at-requires (λ c. search needs)
+    (λ c. search needs) returns)

@@ -11,11 +11,7 @@ slice-aggregate-put-at c = sym (length-take-le _ _ (c .before .before .before .b
 put-at-requires : tie.Need-put-at-requires
 put-at-requires c κs = let s = c .before .before .before .before in omega (arith, length-take-le (s .args .n) (s .args .src .now) (s .pre .0), s .pre)
 
-same-length : tie.Need-same-length
-same-length c = search needs
-
-returns : tie.Need-returns
-returns c = search needs
-
 pub put-front-spec : {M : Type 1} → statement M
-put-front-spec = tie.close (tie.spec slice-aggregate-put-at put-at-requires same-length returns)
+put-front-spec =
+    tie.close
+    (tie.spec slice-aggregate-put-at put-at-requires (λ c. search needs) (λ c. search needs))

@@ -12,9 +12,6 @@ first-of-requires c κs =
     let k = in-year (o .args .table) (o .args .rows .now) (o .pre .0 .0) _ _ _ (o .pre .1) in
     (o .pre .0 .0, (k .0, k .1, refl))
 
-years-for-requires : tie.Need-years-for-requires
-years-for-requires c κs = search needs
-
 returns : tie.Need-returns
 returns c =
     let f = c .before in
@@ -27,4 +24,6 @@ returns c =
     )
 
 pub plan-of-spec : {M : Type 1} → statement M
-plan-of-spec = tie.close (tie.spec first-of-requires years-for-requires returns)
+plan-of-spec =
+    tie.close
+    (tie.spec first-of-requires (λ c κs. search needs) returns)

@@ -60,14 +60,8 @@ module _ (c : tie.Start) where
       ap (λ (z : ℤ). z +ℤ toZ w64 (ofZ w64 (toZ w32 (ofZ w32 (c .args .step))))) (exact _ (years +ℤ months) start-read (omega (arith, start-small)))
       ∙ ap (λ (z : ℤ). years +ℤ months +ℤ z) (exact _ (c .args .step) step-read step-small)
 
-cast-result : tie.Need-cast-result
-cast-result c = search needs
-
 mul-result : tie.Need-mul-result
 mul-result c = fits-as (years-read c) (years-small c)
-
-cast-result-2 : tie.Need-cast-result-2
-cast-result-2 c = search needs
 
 sub-result : tie.Need-sub-result
 sub-result c = fits-as (months-read c) (omega (arith, months-small c))
@@ -88,12 +82,4 @@ returns c = exact _ _ (whole-read c) (whole-small c)
 pub absolute-month-spec : {M : Type 1} → statement M
 absolute-month-spec =
     tie.close
-    (tie.spec
-    cast-result
-    mul-result
-    cast-result-2
-    sub-result
-    add-result
-    cast-result-3
-    add-result-2
-    returns)
+    (tie.spec (λ c. search needs) mul-result (λ c. search needs) sub-result add-result cast-result-3 add-result-2 returns)

@@ -20,25 +20,10 @@ returns-2 c =
     let a = c .before .before .args in
     rw (is-number (a .absolute) (c .before .before .fits .absolute) (c .before .if1 .left)) (sym (too-early (a .first) (a .years) _ (c .if2 .taken)))
 
-add-if3 : tie.Need-add-if3
-add-if3 c = search needs
-
-cast-if3 : tie.Need-cast-if3
-cast-if3 c = search needs
-
 returns-3 : tie.Need-returns-3
 returns-3 c =
     let a = c .before .before .before .args in
     rw (is-number (a .absolute) (c .before .before .before .fits .absolute) (c .before .before .if1 .left)) (sym (too-late (a .first) (a .years) _ (c .if3 .taken)))
-
-cast-t8 : tie.Need-cast-t8
-cast-t8 c = search needs
-
-cast-t9 : tie.Need-cast-t9
-cast-t9 c = search needs
-
-add-t10 : tie.Need-add-t10
-add-t10 c = search needs
 
 returns-4 : tie.Need-returns-4
 returns-4 c =
@@ -49,14 +34,4 @@ returns-4 c =
 pub month-at-spec : {M : Type 1} → statement M
 month-at-spec =
     tie.close
-    (tie.spec
-    returns
-    cast-months
-    returns-2
-    add-if3
-    cast-if3
-    returns-3
-    cast-t8
-    cast-t9
-    add-t10
-    returns-4)
+    (tie.spec returns cast-months returns-2 (λ c. search needs) (λ c. search needs) returns-3 (λ c. search needs) (λ c. search needs) (λ c. search needs) returns-4)

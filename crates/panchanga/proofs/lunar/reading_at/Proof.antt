@@ -1,11 +1,6 @@
-use native.Mathlib.Omega.{arith}
-use Rattle.sky.proofs.Twelves.{tithi-range}
 use borrow.Author.Needs.{needs}
 use Rattle.panchanga.proofs.lunar.reading_at.Statement.{statement}
 use Rattle.panchanga.proofs.lunar.reading_at.Tie as tie
-
-end-of-requires : tie.Need-end-of-requires
-end-of-requires c κs = omega (arith, tithi-range (c .before .elongation-of .result) .1, c .tithi-of .ensures)
 
 returns : tie.Need-returns
 returns c =
@@ -13,4 +8,4 @@ returns c =
     rw (c .end-on .ensures, c .before .end-of .ensures, n .tithi-of .ensures, n .before .elongation-of .ensures)
 
 pub reading-at-spec : {M : Type 1} → statement M
-reading-at-spec = tie.close (tie.spec (λ c κs. search needs) (λ c κs. search needs) end-of-requires (λ c κs. search needs) returns)
+reading-at-spec = tie.close (tie.spec (λ c κs. search needs) (λ c κs. search needs) (λ c κs. search needs) (λ c κs. search needs) returns)

@@ -3,9 +3,7 @@ use Rattle.panel.proofs.conversions.panel_bs_month_len.Tie as tie
 
 pub panel-bs-month-len-spec : {M : Type 1} → statement M
 panel-bs-month-len-spec =
-    tie.close
-    (tie.spec
-    (λ c κs. tt)
-    (λ c κs. tt)
-    (λ c κs. tt)
-    (λ c. cc (rw (c .before .before .before .table-of .ensures) at (c .before .before .bs-month-len .ensures))))
+    tie.close (tie.spec (λ c κs. tt) (λ c κs. tt) (λ c κs. tt)
+    (λ c.
+    let asked = c .before .before in
+    rw (← rw (asked .before .table-of .ensures) at (asked .bs-month-len .ensures)) (c .give-month-len .ensures)))

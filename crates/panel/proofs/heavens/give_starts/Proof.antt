@@ -4,13 +4,5 @@ use Rattle.panel.proofs.heavens.give_starts.Tie as tie
 
 pub give-starts-spec : {M : Type 1} → statement M
 give-starts-spec =
-    tie.close
-    (tie.spec
-    (λ c. search needs)
-    (λ c. search needs)
-    (λ c. search needs)
-    (λ c. search needs)
-    (λ c. search needs)
-    (λ c. cc)
-    (λ c. cc)
-    (λ c. cc))
+    tie.close (tie.spec (λ c. search needs) (λ c. search needs) (λ c κs. tt) (λ c. rw (c .before .answer .given .1))
+    (λ c. rw (c .before .before .answer2 .given .1, c .number .ensures)))

@@ -2,4 +2,4 @@ use Rattle.panel.proofs.heavens.panel_sun_longitude.Statement.{statemen
 use Rattle.panel.proofs.heavens.panel_sun_longitude.Tie as tie
 
 pub panel-sun-longitude-spec : {M : Type 1} → statement M
-panel-sun-longitude-spec = tie.close (tie.spec (λ c κs. tt) (λ c κs. tt) (λ c. cc))
+panel-sun-longitude-spec = tie.close (tie.spec (λ c κs. tt) (λ c κs. tt) (λ c. rw (← c .before .before .sun-longitude .ensures) (c .give-degrees .ensures)))

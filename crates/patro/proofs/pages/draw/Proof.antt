@@ -1,7 +1,5 @@
 -- `patro::pages::draw` meets its contract. Assumes nothing.
-use mathlib.Core.Path.{refl}
 use Rattle.patro.specs.Pages.{pageAsked}
-use Rattle.patro.proofs.Drawing.{draws-refused}
 use borrow.Author.Needs.{needs}
 use Rattle.patro.proofs.pages.draw.Statement.{statement}
 use Rattle.patro.proofs.pages.draw.Tie as tie
@@ -17,14 +15,9 @@ returns-2 c = rw (c .before .before .before .before .before .asked2 .given .1) (
 returns-3 : tie.Need-returns-3
 returns-3 c = rw (c .before .before .before .before .before .asked3 .given .1) (c .before .before .draw-ad .ensures)
 
-returns-4 : tie.Need-returns-4
-unfolding pageAsked
-returns-4 c = rw (c .enum-told .given .1) (draws-refused refl refl)
-
 pub draw-spec : {M : Type 1} → statement M
 draw-spec =
     tie.close
     (tie.spec
-    (λ c. search needs) (λ c κs. search needs) (λ c. search needs) (λ c κs. search needs) (λ c. search needs)
-    (λ c κs. search needs) (λ c. search needs) (λ c. search needs) returns (λ c. search needs) returns-2 (λ c. search needs)
-    returns-3 returns-4)
+    (λ c. search needs) (λ c κs. search needs) (λ c. search needs) (λ c κs. search needs) (λ c. search needs) (λ c κs. search needs) (λ c. search needs) returns
+    (λ c. search needs) returns-2 (λ c. search needs) returns-3)

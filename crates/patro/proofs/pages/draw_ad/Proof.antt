@@ -1,5 +1,4 @@
 -- `patro::pages::draw_ad` meets its contract. Assumes nothing.
-use mathlib.Core.Path.{refl}
 use Rattle.paper.specs.Answers.{then}
 use Rattle.paper.proofs.Answers.{said}
 use Rattle.conversion.specs.Answers.{bsSays}
@@ -15,19 +14,10 @@ returns c = rw (← said bsSays (c .before .before .before .before .before .bs .
 
 returns-2 : tie.Need-returns-2
 unfolding pageAsked then
-returns-2 c = draws-refused (rw (← said bsSays (c .enum-told .given .1) (c .before .before .ad-to-bs .ensures))) refl
-
-returns-3 : tie.Need-returns-3
-unfolding pageAsked then
-returns-3 c = draws-refused (rw (← said bsSays (c .enum-told2 .given .1) (c .before .before .ad-to-bs .ensures))) refl
-
-returns-4 : tie.Need-returns-4
-unfolding pageAsked then
-returns-4 c = draws-refused (rw (← said bsSays (c .enum-told3 .given .1) (c .before .before .ad-to-bs .ensures))) refl
+returns-2 c = draws-refused (rw (← said bsSays (c .before .why .given .1) (c .before .before .before .ad-to-bs .ensures)))
 
 pub draw-ad-spec : {M : Type 1} → statement M
 draw-ad-spec =
     tie.close
     (tie.spec
-    (λ c κs. search needs) (λ c. search needs) (λ c κs. search needs) (λ c. search needs) (λ c. search needs) (λ c. search needs)
-    (λ c. search needs) returns returns-2 returns-3 returns-4)
+    (λ c κs. search needs) (λ c. search needs) (λ c κs. search needs) (λ c. search needs) (λ c. search needs) returns returns-2)

@@ -8,10 +8,10 @@ use Rattle.patro.proofs.pages.draw_part.Statement.{statement}
 use Rattle.patro.proofs.pages.draw_part.Tie as tie
 
 returns : tie.Need-returns
-returns c = let a = c .before .before .before .before .before .before .before .before .before .args in rw (c .before .before .part .given .1) (draws-refused (day-zero (a .rules .now) (a .names .now) (a .year) (a .month) _ (a .m) (a .cells .now) (a .festivals .now) (c .if1 .taken)) refl)
+returns c = let a = c .before .before .before .before .before .before .before .before .before .args in rw (c .before .before .part .given .1) (draws-refused (day-zero (a .rules .now) (a .names .now) (a .year) (a .month) _ (a .m) (a .cells .now) (a .festivals .now) (c .if1 .taken)))
 
 returns-2 : tie.Need-returns-2
-returns-2 c = let a = c .before .before .before .before .before .before .before .before .before .before .before .args in rw (c .before .before .before .before .part .given .1) (draws-refused (day-past (a .rules .now) (a .names .now) (a .year) (a .month) _ (a .m) (a .cells .now) (a .festivals .now) (c .if2 .taken)) refl)
+returns-2 c = let a = c .before .before .before .before .before .before .before .before .before .before .before .args in rw (c .before .before .before .before .part .given .1) (draws-refused (day-past (a .rules .now) (a .names .now) (a .year) (a .month) _ (a .m) (a .cells .now) (a .festivals .now) (c .if2 .taken)))
 
 returns-3 : tie.Need-returns-3
 unfolding partPage

@@ -1,31 +1,22 @@
--- `patro::refusals::put_refusal` meets its contract: each variant's line is put. Assumes nothing.
+-- `patro::refusals::put_refusal` meets its contract. Assumes nothing.
+use Rattle.text.proofs.Writes.{then}
+use Rattle.patro.specs.Refusals.{refusalText}
 use borrow.Author.Needs.{needs}
 use Rattle.patro.proofs.refusals.put_refusal.Statement.{statement}
 use Rattle.patro.proofs.refusals.put_refusal.Tie as tie
+
+returns : tie.Need-returns
+unfolding refusalText
+returns c =
+    rw (← c .before .before .before .before .before .before .before .before .before .before .before .before .before .before .before .before .before .number .ensures)
+    (then (c .before .before .before .before .before .before .before .before .before .before .before .before .before .before .before .before .before .before .before .before .before .put .ensures)
+    (then (c .before .before .before .before .before .before .before .before .before .before .before .before .before .before .before .before .put-decimal .ensures)
+    (then (c .before .before .before .before .before .before .before .before .before .before .before .put2 .ensures)
+    (then (c .before .before .before .before .before .before .before .put-reason .ensures) (c .before .before .put3 .ensures)))))
 
 pub put-refusal-spec : {M : Type 1} → statement M
 put-refusal-spec =
     tie.close
     (tie.spec
-    (λ c. search needs) (λ c. search needs) (λ c κs. search needs) (λ c. search needs) (λ c. search needs) (λ c κs. search needs)
-    (λ c. search needs) (λ c. search needs) (λ c κs. search needs) (λ c. search needs) (λ c. search needs) (λ c κs. search needs)
-    (λ c. search needs) (λ c. search needs) (λ c κs. search needs) (λ c. search needs) (λ c. search needs) (λ c κs. search needs)
-    (λ c. search needs) (λ c. search needs) (λ c κs. search needs) (λ c. search needs) (λ c. search needs) (λ c κs. search needs)
-    (λ c. search needs) (λ c. search needs) (λ c κs. search needs) (λ c. search needs)
-    (λ c. rw (c .before .before .before .before .before .enum-told .given .1) (c .before .before .put .ensures))
-    (λ c. search needs)
-    (λ c. rw (c .before .before .before .before .before .enum-told2 .given .1) (c .before .before .put2 .ensures))
-    (λ c. search needs)
-    (λ c. rw (c .before .before .before .before .before .enum-told3 .given .1) (c .before .before .put3 .ensures))
-    (λ c. search needs)
-    (λ c. rw (c .before .before .before .before .before .enum-told4 .given .1) (c .before .before .put4 .ensures))
-    (λ c. search needs)
-    (λ c. rw (c .before .before .before .before .before .enum-told5 .given .1) (c .before .before .put5 .ensures))
-    (λ c. search needs)
-    (λ c. rw (c .before .before .before .before .before .enum-told6 .given .1) (c .before .before .put6 .ensures))
-    (λ c. search needs)
-    (λ c. rw (c .before .before .before .before .before .enum-told7 .given .1) (c .before .before .put7 .ensures))
-    (λ c. search needs)
-    (λ c. rw (c .before .before .before .before .before .enum-told8 .given .1) (c .before .before .put8 .ensures))
-    (λ c. search needs)
-    (λ c. rw (c .before .before .before .before .before .enum-told9 .given .1) (c .before .before .put9 .ensures)))
+    (λ c. search needs) (λ c κs. search needs) (λ c κs. search needs) (λ c. search needs) (λ c κs. search needs) (λ c. search needs) (λ c κs. search needs) (λ c κs. search needs)
+    (λ c. search needs) (λ c κs. search needs) (λ c. search needs) returns)

@@ -10,8 +10,14 @@ use borrow.Author.Needs.{needs}
 use Rattle.questions.proofs.months.month.Statement.{statement}
 use Rattle.questions.proofs.months.month.Tie as tie
 
+array-borrow-prefix-cells : tie.Need-array-borrow-prefix-cells
+array-borrow-prefix-cells c = search needs
+
 slice-aggregate-put-asked : tie.Need-slice-aggregate-put-asked
 slice-aggregate-put-asked c = sym (length-take-le _ _ (array-borrow-prefix-cells (c .before)))
+
+array-borrow-prefix-list : tie.Need-array-borrow-prefix-list
+array-borrow-prefix-list c = search needs
 
 slice-aggregate-put-asked-2 : tie.Need-slice-aggregate-put-asked-2
 slice-aggregate-put-asked-2 c = sym (length-take-le _ _ (array-borrow-prefix-list (c .before)))
@@ -35,6 +41,6 @@ pub month-spec : {M : Type 1} → statement M
 month-spec =
     tie.close
     (tie.spec
-    (λ c κs. search needs) (λ c. search needs) (λ c κs. search needs) (λ c. search needs) (λ c. search needs)
-    slice-aggregate-put-asked (λ c. search needs) slice-aggregate-put-asked-2 (λ c κs. search needs) (λ c. search needs)
+    (λ c κs. search needs) (λ c. search needs) (λ c κs. search needs) (λ c. search needs) array-borrow-prefix-cells
+    slice-aggregate-put-asked array-borrow-prefix-list slice-aggregate-put-asked-2 (λ c κs. search needs) (λ c. search needs)
     returns (λ c κs. search needs) (λ c. search needs) returns-2)

@@ -9,30 +9,9 @@ use Rattle.rules.proofs.lists.keep_pair.Tie as tie
 returns : tie.Need-returns
 returns c = (store-off _ _ _ _ (not-true _ (c .if1 .taken)), search needs)
 
-is-repeat-requires : tie.Need-is-repeat-requires
-is-repeat-requires c κs = search needs
-
 returns-2 : tie.Need-returns-2
 returns-2 c =
     (store-same _ _ _ _ (not-false _ (c .before .before .if1 .left)) (sym (c .before .is-repeat .ensures) ∙ c .if2 .taken), search needs)
-
-mul-at : tie.Need-mul-at
-mul-at c = search needs
-
-set-at-requires : tie.Need-set-at-requires
-set-at-requires c κs = search needs
-
-add-set-at : tie.Need-add-set-at
-add-set-at c = search needs
-
-set-at-requires-2 : tie.Need-set-at-requires-2
-set-at-requires-2 c κs = search needs
-
-add-t14 : tie.Need-add-t14
-add-t14 c = search needs
-
-same-length : tie.Need-same-length
-same-length c = search needs
 
 returns-3 : tie.Need-returns-3
 returns-3 c =
@@ -45,14 +24,5 @@ returns-3 c =
 pub keep-pair-spec : {M : Type 1} → statement M
 keep-pair-spec =
     tie.close
-    (tie.spec
-    returns
-    is-repeat-requires
-    returns-2
-    mul-at
-    set-at-requires
-    add-set-at
-    set-at-requires-2
-    add-t14
-    same-length
-    returns-3)
+    (tie.spec returns (λ c κs. search needs) returns-2 (λ c. search needs) (λ c κs. search needs) (λ c. search needs) (λ c κs. search needs)
+    (λ c. search needs) (λ c. search needs) returns-3)

@@ -9,16 +9,12 @@ returns : tie.Need-returns
 unfolding storePairs
 returns c = (rw (lt-leb _ 2 (c .if1 .taken)), search needs)
 
-put-resolved-requires : tie.Need-put-resolved-requires
-put-resolved-requires c κs = search needs
-
-same-length : tie.Need-same-length
-same-length c = search needs
-
 returns-2 : tie.Need-returns-2
 returns-2 c =
     let p = c .before .before .put-resolved .ensures in
     (rw (le-leb _ 2 (c .before .before .before .before .if1 .left)) (p .0), p .1)
 
 pub put-before-spec : {M : Type 1} → statement M
-put-before-spec = tie.close (tie.spec returns put-resolved-requires same-length returns-2)
+put-before-spec =
+    tie.close
+    (tie.spec returns (λ c κs. search needs) (λ c. search needs) returns-2)

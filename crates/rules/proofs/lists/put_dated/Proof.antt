@@ -27,21 +27,6 @@ abbrev μ-loop : tie.MeasureT-loop
 loop-holds : tie.Need-loop-holds Inv-loop μ-loop
 loop-holds c = (omega arith, refl, omega arith, rw sub-zero)
 
-rule-at-requires : tie.Need-rule-at-requires Inv-loop μ-loop
-rule-at-requires c κs = search needs
-
-falls-on-requires : tie.Need-falls-on-requires Inv-loop μ-loop
-falls-on-requires c κs = search needs
-
-keep-pair-requires : tie.Need-keep-pair-requires Inv-loop μ-loop
-keep-pair-requires c κs = search needs
-
-add-i : tie.Need-add-i Inv-loop μ-loop
-add-i c = search needs
-
-loop-less : tie.Need-loop-less Inv-loop μ-loop
-loop-less c = search needs
-
 loop-again : tie.Need-loop-again Inv-loop μ-loop
 loop-again c =
     let p = c .before .before in
@@ -67,15 +52,5 @@ returns c =
 pub put-dated-spec : {M : Type 1} → statement M
 put-dated-spec =
     tie.close
-    (tie.spec
-    Inv-loop
-    μ-loop
-    loop-holds
-    rule-at-requires
-    falls-on-requires
-    keep-pair-requires
-    add-i
-    loop-less
-    loop-again
-    same-length
-    returns)
+    (tie.spec Inv-loop μ-loop loop-holds (λ c κs. search needs) (λ c κs. search needs) (λ c κs. search needs) (λ c. search needs) (λ c. search needs)
+    loop-again same-length returns)

@@ -9,12 +9,6 @@ use Rattle.rules.proofs.Stores.{five}
 use Rattle.rules.proofs.lists.put_day_list.Statement.{statement}
 use Rattle.rules.proofs.lists.put_day_list.Tie as tie
 
-put-dated-requires : tie.Need-put-dated-requires
-put-dated-requires c κs = search needs
-
-put-dated-requires-2 : tie.Need-put-dated-requires-2
-put-dated-requires-2 c κs = search needs
-
 put-before-requires : tie.Need-put-before-requires
 put-before-requires c κs =
     let o = c .before .before .before .before .before .before .before .before .before .before .before in
@@ -36,9 +30,6 @@ put-dated-requires-3 c κs =
     let fixed = both .before .before .before .before in
     omega (arith, own .put-resolved .ensures .1, prior .put-before .ensures .1, both .put-dated2 .ensures .1, fixed .put-dated .ensures .1, fixed .before .before .before .before)
 
-same-length : tie.Need-same-length
-same-length c = search needs
-
 returns : tie.Need-returns
 unfolding listBy pairsBy
 returns c =
@@ -57,11 +48,4 @@ returns c =
 pub put-day-list-spec : {M : Type 1} → statement M
 put-day-list-spec =
     tie.close
-    (tie.spec
-    put-dated-requires
-    put-dated-requires-2
-    put-before-requires
-    put-resolved-requires
-    put-dated-requires-3
-    same-length
-    returns)
+    (tie.spec (λ c κs. search needs) (λ c κs. search needs) put-before-requires put-resolved-requires put-dated-requires-3 (λ c. search needs) returns)

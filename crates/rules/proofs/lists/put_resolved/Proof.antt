@@ -28,15 +28,6 @@ abbrev μ-loop : tie.MeasureT-loop
 loop-holds : tie.Need-loop-holds Inv-loop μ-loop
 loop-holds c = (omega arith, refl, omega arith, rw (sub-zero, zero-add), rw sub-zero)
 
-rule-at-requires : tie.Need-rule-at-requires Inv-loop μ-loop
-rule-at-requires c κs = search needs
-
-add-i : tie.Need-add-i Inv-loop μ-loop
-add-i c = search needs
-
-loop-less : tie.Need-loop-less Inv-loop μ-loop
-loop-less c = search needs
-
 loop-again : tie.Need-loop-again Inv-loop μ-loop
 loop-again c =
     let g = c .before .before in
@@ -69,18 +60,6 @@ element-copy-out-k c =
     let p = count-turn (a .args .rules .now) (l .i) _ (g .before .loop-test .taken) _ (g .rule-at .ensures) 3 (l .j) _ (l .inv .3) (c .if1 .left) in
     omega (arith, p, a .pre .0)
 
-add-j : tie.Need-add-j Inv-loop μ-loop
-add-j c = search needs
-
-shows-on-requires : tie.Need-shows-on-requires Inv-loop μ-loop
-shows-on-requires c κs = search needs
-
-keep-pair-requires : tie.Need-keep-pair-requires Inv-loop μ-loop
-keep-pair-requires c κs = search needs
-
-loop-less-2 : tie.Need-loop-less-2 Inv-loop μ-loop
-loop-less-2 c = search needs
-
 loop-again-2 : tie.Need-loop-again-2 Inv-loop μ-loop
 loop-again-2 c =
     let p = c .before .before in
@@ -112,20 +91,5 @@ returns c =
 pub put-resolved-spec : {M : Type 1} → statement M
 put-resolved-spec =
     tie.close
-    (tie.spec
-    Inv-loop
-    μ-loop
-    loop-holds
-    rule-at-requires
-    add-i
-    loop-less
-    loop-again
-    mul-k
-    element-copy-out-k
-    add-j
-    shows-on-requires
-    keep-pair-requires
-    loop-less-2
-    loop-again-2
-    same-length
-    returns)
+    (tie.spec Inv-loop μ-loop loop-holds (λ c κs. search needs) (λ c. search needs) (λ c. search needs) loop-again mul-k element-copy-out-k
+    (λ c. search needs) (λ c κs. search needs) (λ c κs. search needs) (λ c. search needs) loop-again-2 same-length returns)
