@@ -18,8 +18,8 @@
  * Pointers: each must be valid for what it points to, aligned, and not null, also where a length is 0. What a call writes must overlap nothing else that
  * is lent to the same call. A pointer to const may be shared. A length counts elements, not bytes. Of a buffer the elements past the answer stay.
  *
- * An instant (ut) is a Julian day of universal time, from 2400000.0 to 2510000.0. A day of terrestrial time (tt) is from 2399999.0 to 2510001.0. They are
- * never the same number: panel_tt_from_ut makes the second of the first. Minutes are of the clock in Nepal, 0 to 1,439.
+ * An instant (ut) is a Julian day of universal time, from 2400000.0 to 2510000.0. A day of terrestrial time (tt) is from 2399999.0 to 2510001.0, and
+ * panel_tt_from_ut makes it of an instant. Minutes are of the clock in Nepal, 0 to 1,439.
  *
  * A year table is lent as its first BS year (1 to 3,000), the Gregorian date of its first day, and rows: for each year thirteen numbers, twelve month
  * lengths of 29 to 32 days and their sum. rows_len is 13 times the number of years, of which there are 1 to 128. Days lie in 1901 to 2099.
@@ -29,6 +29,25 @@
  * that silences the computed rules of its name in that year. Months are 1 to 12, holiday is 0 or 1, names are free; year is 0 but of kind 4, half and kala are
  * 0 but of kind 3. rules_len is 8 times the number of rules: at most 64 of each of the kinds 1 to 3 and 128 of kind 4; no rule at all is good.
  * Kalas: 0 sunrise, 1 midday, 2 afternoon, 3 dusk, 4 the middle of the night (nishita), 5 the tithi's beginning.
+ *
+ * What C cannot tell apart and a caller must not mix up; a call that gets the wrong one may well answer:
+ *
+ *  - A UT day and a TT day: both are double, and each instant is in the range of tt too. panel_sun_longitude and panel_moon_longitude take tt; panel_delta_t
+ *    takes a year; all other calls take ut. TT less UT is from -1,160 to 356 seconds in range and goes through zero: on 30 December 1901 both are the same
+ *    number for some 16 minutes. So no test on a number tells which of the two it is.
+ *  - A BS date and a Gregorian date: both are a year, a month and a day, and years of 1900 to 2149 can be either. Each comment says which is taken.
+ *    panel_month_grid takes today as a Gregorian date and the month it shows as a BS year and month.
+ *  - Year, month and day among themselves: always in this order. 5 June and 6 May are both dates.
+ *  - A length and a size: a length counts elements, so sizeof a / sizeof *a and never sizeof a alone. Too large a length lets a call read or write past
+ *    what is lent.
+ *  - A count and a length: count and festival_count count festivals, of two numbers each, and cell_count counts cells, of twelve. Festival i, from 0, is at
+ *    festivals[2 * i] and festivals[2 * i + 1]; a buffer for n of them has the length 2 * n.
+ *  - A day number and an instant: the number of panel_date_day_number is the day's noon; its 0h is the instant half a day before.
+ *  - Radians and degrees: sine, cosine, tangent and the arcs are in radians, all else in degrees.
+ *  - Minute 0 and none: 0 is midnight, 1,440 is none.
+ *  - In panel_step_month, month is a byte: C cuts a larger number silently, and 257 comes as 1.
+ *
+ * Of a float that is no number (NaN) sign and payload are not promised, in an answer or in a place that a call leaves.
  */
 #ifndef PANEL_H
 #define PANEL_H
@@ -126,8 +145,8 @@ uint16_t panel_tithi_of(double degrees, uint16_t *tithi);
 uint16_t panel_tithi_at(double ut, uint16_t *tithi);
 
 /* Every instant from one on and before another at which a tithi (1 to 30) begins, at the front of starts; how many there are, and how many steps of 0.75
-   days were walked. A tithi begins about every 29.5 days: starts_len 14 serves a year, 27 the longest window that is answered, of 768 days.
-   Refusals: 8, 11, 9. */
+   days were walked. There are at most 1,024, which is proved. A tithi begins about every 29.5 days, so starts_len 14 should serve a year and 27 the longest
+   window that is answered, of 768 days; this is not proved, and what is too short gets 9. Refusals: 8, 11, 9. */
 uint16_t panel_tithi_starts_between(uint16_t tithi, double from, double to, double *starts, size_t starts_len, size_t *count, size_t *steps);
 
 /* Where the tithi that runs at an instant ends. found gets 1; or 0 where it does not end in 2.5 days, and end stays. Refusal: 8, also where 2.5 days on
@@ -169,7 +188,8 @@ uint16_t panel_reading(uint16_t year, uint16_t month, uint16_t day, uint16_t *ti
 uint16_t panel_check_rules(const uint16_t *rules, size_t rules_len);
 
 /* The festivals of a BS date at the front of festivals, two numbers each: name, holiday; count gets how many there are. festivals_len 768 serves every day:
-   there are at most 384. Refusals: 1, 2, 4, 5, 6, 9. */
+   there are at most 384, which is proved. A Saturday is a holiday by itself, but no list has an entry for that: a Saturday's list may be empty.
+   Refusals: 1, 2, 4, 5, 6, 9. */
 uint16_t panel_festivals_on(uint16_t first_year, uint16_t first_ad_year, uint16_t first_ad_month, uint16_t first_ad_day, const uint16_t *rows,
                             size_t rows_len, const uint16_t *rules, size_t rules_len, uint16_t year, uint16_t month, uint16_t day, uint16_t *festivals,
                             size_t festivals_len, size_t *count);
@@ -187,11 +207,12 @@ uint16_t panel_step_month(uint16_t first_year, uint16_t first_ad_year, uint16_t 
                           size_t rows_len, uint16_t year, uint8_t month, int32_t step, uint16_t *to_year, uint8_t *to_month);
 
 /* A BS month as a calendar shows it, in whole weeks from Sunday: at the front of cells twelve numbers for each cell, BS day; Gregorian year, month, day;
-   weekday (0 is Sunday); whether it is today; whether it is a holiday; tithi; the minutes at which that ends, the sun rises and sets (1,440 for none); how
-   many festivals. A cell before the first day or after the last is all 0. At the front of festivals two numbers for each festival, name, holiday, day after
-   day. days gets the number of days, from and to the first and the last Gregorian date, and the counts say how many cells and how many festivals there
-   are. cells_len 504 and festivals_len 768 serve every month: it has at most 42 cells and 384 festivals. today is a Gregorian date, of any month.
-   Refusals: 1, 2, 3 (today), 4, 5, 9. */
+   weekday (0 is Sunday); whether it is today; whether it is a holiday: a Saturday, or a day with a festival that is one; tithi; the minutes at which that
+   ends, the sun rises and sets (1,440 for none); how many festivals. A cell before the first day or after the last is all 0. At the front of festivals two
+   numbers for each festival, name, holiday, day after day. days gets the number of days, from and to the first and the last Gregorian date, and the counts
+   say how many cells and how many festivals there are. cells_len 504 serves every month: it has at most 42 cells. festivals_len 24,576 serves every month:
+   at most 12,288 festivals are proved, 384 on each of 32 days. No rule gives one month more than an entry for each lunar year that is asked, so 768 should
+   serve; this is argued and not proved, and what is too short gets 9. today is a Gregorian date, of any month. Refusals: 1, 2, 3 (today), 4, 5, 9. */
 uint16_t panel_month_grid(uint16_t first_year, uint16_t first_ad_year, uint16_t first_ad_month, uint16_t first_ad_day, const uint16_t *rows,
                           size_t rows_len, const uint16_t *rules, size_t rules_len, uint16_t today_year, uint16_t today_month, uint16_t today_day,
                           uint16_t year, uint16_t month, uint16_t *cells, size_t cells_len, uint16_t *festivals, size_t festivals_len, uint16_t *days,
