@@ -84,10 +84,11 @@ static void print_festivals(const uint16_t bs[3])
 }
 
 /* A month has at most 42 cells, of twelve numbers each: the first is the BS day, or 0 where the cell is padding, the sixth and seventh are whether it is
-   today and a holiday. */
+   today and a holiday. Its festivals are at most 12,288, 384 on each of 32 days, which serves all rules: much for a stack, so they are static. */
 static void print_month(const uint16_t today[3], uint16_t year, uint16_t month)
 {
-    uint16_t cells[42 * 12], festivals[2 * 384], days, first[3], last[3];
+    static uint16_t festivals[2 * 12288];
+    uint16_t cells[42 * 12], days, first[3], last[3];
     size_t cell_count, festival_count;
     expect("month", panel_month_grid(TABLE, RULES, today[0], today[1], today[2], year, month, cells, sizeof cells / sizeof *cells, festivals,
                                      sizeof festivals / sizeof *festivals, &days, &first[0], &first[1], &first[2], &last[0], &last[1], &last[2],

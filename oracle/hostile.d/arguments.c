@@ -26,6 +26,11 @@ uint64_t below(uint64_t end)
     return (bits() >> 11) % end;
 }
 
+uint64_t nan_bits(void)
+{
+    return 0x7ff0000000000001u | bits();
+}
+
 static uint32_t from_to(uint32_t from, uint32_t to)
 {
     return from + (uint32_t)below(to - from + 1);
@@ -190,7 +195,7 @@ static double odd_real(void)
                                   18446744073709551616.0, 1e300, DBL_MAX, DBL_MIN, DBL_EPSILON };
     double x = odd[below(COUNT(odd))];
     switch (below(8)) {
-    case 0: return of_bits(0x7ff0000000000001u | bits()); /* no number, quiet or signalling */
+    case 0: return of_bits(nan_bits());
     case 1: return below(2) ? INFINITY : -INFINITY;
     case 2: return of_bits(bits());
     case 3: return of_bits(bits() & 0x800fffffffffffffu); /* below the normal numbers */

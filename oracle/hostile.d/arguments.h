@@ -25,6 +25,9 @@ void prepare(uint64_t seed);
 /* A random number below another. */
 uint64_t below(uint64_t end);
 
+/* The bits of a random NaN: of either sign, quiet or signalling, with a payload. */
+uint64_t nan_bits(void);
+
 /* Arguments for parameters by their letters:
      ymd a Gregorian date   n a day number   k a tithi   q a kala
      T a year table         YMD a BS date in it   g a Gregorian date in it   R rules   b a month in a byte   s a step of months

@@ -27,6 +27,7 @@ void reserve(struct lent *lent, size_t bytes)
 {
     lent->from = between_unreadable(pages(bytes));
     lent->to = lent->from + pages(bytes);
+    lent->before = between_unreadable(pages(bytes));
 }
 
 static unsigned char *near_from(const struct lent *lent)
@@ -40,22 +41,33 @@ static unsigned char *near_to(const struct lent *lent)
     return (size_t)(lent->to - end) < NEAR ? lent->to : end + NEAR;
 }
 
-void lend(struct lent *lent, size_t bytes, int at_end, unsigned char fill)
+/* What a byte was when it was lent. */
+static unsigned char *before(const struct lent *lent, const unsigned char *byte)
+{
+    return lent->before + (byte - lent->from);
+}
+
+void lend(struct lent *lent, size_t bytes, int at_end, unsigned char fill, uint64_t (*drawn)(void))
 {
     lent->bytes = bytes;
     lent->at = at_end ? lent->to - bytes : lent->from;
     memset(near_from(lent), fill, near_to(lent) - near_from(lent));
+    for (size_t k = 0; drawn && k + sizeof(uint64_t) <= bytes; k += sizeof(uint64_t)) {
+        uint64_t eight = drawn();
+        memcpy(lent->at + k, &eight, sizeof eight);
+    }
+    memcpy(before(lent, near_from(lent)), near_from(lent), near_to(lent) - near_from(lent));
 }
 
-/* Whether all bytes from one place to another are the same: the first is, and each is the one before. */
-static int all_are(const unsigned char *from, const unsigned char *to, unsigned char fill)
+/* Whether the bytes from one place to another are as they were lent. */
+static int same(const struct lent *lent, const unsigned char *from, const unsigned char *to)
 {
-    return from == to || (*from == fill && memcmp(from, from + 1, to - from - 1) == 0);
+    return memcmp(from, before(lent, from), to - from) == 0;
 }
 
-int untouched(const struct lent *lent, size_t used, unsigned char fill)
+int untouched(const struct lent *lent, size_t used)
 {
-    return all_are(near_from(lent), lent->at, fill) && all_are(lent->at + used, near_to(lent), fill);
+    return same(lent, near_from(lent), lent->at) && same(lent, lent->at + used, near_to(lent));
 }
 
 const void *read_only(const void *bytes, size_t count)

@@ -5,21 +5,23 @@
 #include <stddef.h>
 #include <stdint.h>
 
-/* Readable and writable bytes with an unreadable page on either side, and the piece of them that is lent. */
+/* Readable and writable bytes with an unreadable page on either side, the piece of them that is lent, and what they were when it was lent. */
 struct lent {
     unsigned char *from, *to;
     unsigned char *at;
     size_t bytes;
+    unsigned char *before;
 };
 
 /* Room for so many bytes, a multiple of the page's size at least. */
 void reserve(struct lent *lent, size_t bytes);
 
-/* The last bytes before the unreadable page, or the first after one, and filled, with what lies near them, by one byte. */
-void lend(struct lent *lent, size_t bytes, int at_end, unsigned char fill);
+/* The last bytes before the unreadable page, or the first after one, and filled, with what lies near them, by one byte. Where `drawn` is no null pointer, each
+   eight of the lent bytes are a number that it gives. */
+void lend(struct lent *lent, size_t bytes, int at_end, unsigned char fill, uint64_t (*drawn)(void));
 
-/* Whether the lent bytes past the first `used`, and what lies near the lent bytes, are still that byte. */
-int untouched(const struct lent *lent, size_t used, unsigned char fill);
+/* Whether the lent bytes past the first `used`, and what lies near the lent bytes, are as they were lent. */
+int untouched(const struct lent *lent, size_t used);
 
 /* Bytes that can be read and not written, at the end of readable memory. */
 const void *read_only(const void *bytes, size_t count);
