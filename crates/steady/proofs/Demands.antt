@@ -49,3 +49,5 @@ pub use Rattle.conversion.proofs.Theorems.{OneToOne, NoTable, one-to-one, no-ta
 pub use Rattle.steady.proofs.Steady.{steady}
 -- the paper's examples marked P
 pub use Rattle.steady.proofs.Examples.{checked}
+-- the festival rules over a sky of a few numbers
+pub use Rattle.steady.proofs.SmallSky.{small-sky}

@@ -1,6 +1,7 @@
 pub mod Stepping
 pub mod Steady
 pub mod Examples
+pub mod SmallSky
 pub mod Once
 pub mod Refusals
 pub mod Demands

@@ -1,4 +1,5 @@
 -- What the theorems say.
 pub mod Examples
 pub mod Once
+pub mod SmallSky
 pub mod Steady
