@@ -47,6 +47,8 @@ pub use Rattle.steady.proofs.Refusals.{list-left, month-left, starts-le
 pub use Rattle.conversion.proofs.Theorems.{OneToOne, NoTable, one-to-one, no-table}
 -- DEMAND 3: rows added to a table change no answer
 pub use Rattle.steady.proofs.Steady.{steady}
+-- and so of two results that meet a call's contract, under the table and under the longer one
+pub use Rattle.steady.proofs.Composed as Composed
 -- the paper's examples marked P
 pub use Rattle.steady.proofs.Examples.{checked}
 -- the festival rules over a sky of a few numbers

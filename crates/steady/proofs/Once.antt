@@ -52,7 +52,7 @@ use Rattle.grid.proofs.month_grid.Reads as MonthGrid
 use Rattle.grid.proofs.Unique.{step-only, grid-only}
 use Rattle.steady.specs.Once.{OneAnswer, OneOutcome}
 
-both : {A B : Type 0} {x y : A} {u v : B} → x ≡ y → u ≡ v → _≡_ {A = A × B} (x, u) (y, v)
+pub both : {A B : Type 0} {x y : A} {u v : B} → x ≡ y → u ≡ v → _≡_ {A = A × B} (x, u) (y, v)
 both e h = rw (e, h)
 
 -- ---- gregorian

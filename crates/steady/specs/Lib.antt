@@ -1,4 +1,5 @@
 -- What the theorems say.
+pub mod Composed
 pub mod Examples
 pub mod Once
 pub mod SmallSky
