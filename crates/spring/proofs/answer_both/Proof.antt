@@ -1,7 +1,6 @@
 -- `spring::answer_both` is proved: a NEW that shares all the numbers of OLD is OLD with rows added. Assumes nothing.
 use native.Mathlib.Omega.{arith}
 use Prim.Native.Nat.{_≤_}
-use mathlib.Core.Path.{_≡_}
 use lib.ListN.{length}
 use Rattle.tables.specs.Shared.{shared}
 use Rattle.tables.proofs.Whole.{shared-begins}
