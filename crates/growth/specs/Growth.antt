@@ -1,9 +1,11 @@
 -- The page on a year table and the same with rows added, as it is printed. Assumes nothing.
 use Prim.Native.Nat.{ℕ, _+_, _-_}
-use mathlib.Core.Bool.{Bool, cond, _&&_}
+use mathlib.Core.Path.{_≡_}
+use mathlib.Core.Bool.{Bool, true, cond, _&&_}
 use mathlib.Core.List.{List, [], _∷_, _++_}
 use mathlib.Core.Option.{Option, some, none}
 use lib.Dec.{leb, eqb}
+use lib.ListN.{length, drop}
 use Rattle.text.specs.Digits.{digits}
 use Rattle.text.specs.Quoted.{bytes}
 use Rattle.output.specs.Gathered.{Gathered}
@@ -19,6 +21,11 @@ use Rattle.doubtful.specs.Years.{Sheet, yearsPage}
 abbrev pub sameFirst : Table → Table → Bool
 sameFirst a b =
     ((eqb (a .«first_year») (b .«first_year») && eqb (a .year) (b .year)) && eqb (a .month) (b .month)) && eqb (a .day) (b .day)
+
+-- the second table is the first with rows added, under one first line: what `steady` asks
+pub record Grown (a : Table) (old : List ℕ) (b : Table) (new : List ℕ) : Type 0 where
+  pub first : sameFirst a b ≡ true
+  pub rows : new ≡ old ++ drop (length old) new
 
 -- the year of the last row
 unfoldable pub lastYear : Calendar → ℕ

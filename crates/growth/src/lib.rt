@@ -9,7 +9,7 @@ ghost use Rattle.output.specs.Gathered.{gathered};
 ghost use Rattle.conversion.specs.Flat.{accepted, flat};
 ghost use Rattle.rules.specs.Rules.{rulesOf};
 ghost use Rattle.output.specs.Pieces.{Puts};
-ghost use Rattle.growth.specs.Growth.{sameFirst, lastYear, daysPieces, linePieces, yearsPieces, tablesPieces};
+ghost use Rattle.growth.specs.Growth.{sameFirst, Grown, lastYear, daysPieces, linePieces, yearsPieces, tablesPieces};
 ghost use Rattle.growth.specs.Growth.{samePieces, newPieces, gainedPieces, addedPage, grownPage};
 
 // Whether two tables begin with the same year and day.
@@ -78,28 +78,34 @@ fn put_years_of(
 }
 
 // The lines on both tables.
-fn put_both_tables(o: Out, out: &mut [u8], table: Table, old: &[u16], new: &[u16]) -> Out
-    requires { ⌜ (accepted table (now old) ≡ true) × (accepted table (now new) ≡ true) ⌝ }
-    ensures { λ r. ⌜ Puts (now (out .entry)) o (tablesPieces (flat table (now (old .entry))) (flat table (now (new .entry)))) (now (out .exit)) r ⌝ }
+fn put_both_tables(
+    o: Out,
+    out: &mut [u8],
+    table: Table,
+    old: &[u16],
+    new_table: Table,
+    new: &[u16],
+) -> Out
+    requires { ⌜ (accepted table (now old) ≡ true) × (accepted «new_table» (now new) ≡ true) ⌝ }
+    ensures { λ r. ⌜ Puts (now (out .entry)) o (tablesPieces (flat table (now (old .entry))) (flat «new_table» (now (new .entry)))) (now (out .exit)) r ⌝ }
 {
-    let first = table.first_year;
     let a = put_years_of(
         o,
         out,
         b"OLD: accepted, BS ",
         table,
         old,
-        first,
+        table.first_year,
         last_year(table, old),
     );
     put_years_of(
         a,
         out,
         b"NEW: accepted, BS ",
-        table,
+        new_table,
         new,
-        first,
-        last_year(table, new),
+        new_table.first_year,
+        last_year(new_table, new),
     )
 }
 
@@ -186,16 +192,17 @@ pub fn put_growth(
     out: &mut [u8],
     table: Table,
     old: &[u16],
+    new_table: Table,
     new: &[u16],
     rules: &[u16],
     names: &[u8],
 ) -> Out
-    requires { ⌜ (accepted table (now old) ≡ true) × (accepted table (now new) ≡ true) ⌝ }
-    ensures { λ r. ⌜ gathered (now (out .exit)) r ≡ grownPage (flat table (now (new .entry))) (rulesOf (now (rules .entry))) (now (names .entry))
+    requires { ⌜ ((accepted table (now old) ≡ true) × (accepted «new_table» (now new) ≡ true)) × Grown table (now old) «new_table» (now new) ⌝ }
+    ensures { λ r. ⌜ gathered (now (out .exit)) r ≡ grownPage (flat «new_table» (now (new .entry))) (rulesOf (now (rules .entry))) (now (names .entry))
         (flat table (now (old .entry))) (gathered (now (out .entry)) o) ⌝ }
 {
-    let a = put_both_tables(o, out, table, old, new);
+    let a = put_both_tables(o, out, table, old, new_table, new);
     let year = last_year(table, old);
-    let last = last_year(table, new);
-    put_added_years(a, out, table, new, year, last, rules, names)
+    let last = last_year(new_table, new);
+    put_added_years(a, out, new_table, new, year, last, rules, names)
 }

@@ -9,6 +9,7 @@ ghost use mathlib.Core.Bool.{true};
 ghost use Prim.Native.Nat.{_≤_};
 ghost use lib.ListN.{length};
 ghost use Rattle.conversion.specs.Flat.{accepted};
+ghost use Rattle.growth.specs.Growth.{sameFirst, Grown};
 
 // The refusal of a table and the first rule that it breaks, on standard error.
 fn report_broken(which: &[u8], table: Table, b: Broken) {
@@ -32,18 +33,34 @@ fn row_at(rows: &[u16], n: usize) -> usize
 }
 
 // The page on a table and the same with more rows, on standard output.
-fn write_page(table: Table, old: &[u16], new: &[u16], rules: &[u16], names: &[u8], out: &mut [u8])
-    requires { ⌜ (accepted table (now old) ≡ true) × (accepted table (now new) ≡ true) ⌝ }
+fn write_page(
+    table: Table,
+    old: &[u16],
+    new_table: Table,
+    new: &[u16],
+    rules: &[u16],
+    names: &[u8],
+    out: &mut [u8],
+)
+    requires { ⌜ ((accepted table (now old) ≡ true) × (accepted «new_table» (now new) ≡ true)) × Grown table (now old) «new_table» (now new) ⌝ }
 {
     let p = doubtful::begin();
     let o = p.out;
-    let a = growth::put_growth(o, out, table, old, new, rules, names);
+    let a = growth::put_growth(o, out, table, old, new_table, new, rules, names);
     a.finish(out);
 }
 
 // Tests whether NEW is OLD with rows added, and the rules, and writes the page or one line on standard error.
-fn answer_both(table: Table, old: &[u16], new: &[u16], rules: &[u16], names: &[u8], out: &mut [u8])
-    requires { ⌜ (accepted table (now old) ≡ true) × (accepted table (now new) ≡ true) ⌝ }
+fn answer_both(
+    table: Table,
+    old: &[u16],
+    new_table: Table,
+    new: &[u16],
+    rules: &[u16],
+    names: &[u8],
+    out: &mut [u8],
+)
+    requires { ⌜ ((accepted table (now old) ≡ true) × (accepted «new_table» (now new) ≡ true)) × (sameFirst table «new_table» ≡ true) ⌝ }
 {
     let n = tables::shared(old, new);
     if n < old.len() {
@@ -54,7 +71,7 @@ fn answer_both(table: Table, old: &[u16], new: &[u16], rules: &[u16], names: &[u
         io::write_all(STDERR_FILENO, b"RULES: refused with 2\n");
         return;
     }
-    write_page(table, old, new, rules, names, out);
+    write_page(table, old, new_table, new, rules, names, out);
 }
 
 // Tests NEW.
@@ -76,11 +93,11 @@ fn answer_new(
         );
         return;
     }
-    if conversion::accepts(table, new) {
-        answer_both(table, old, new, rules, names, out);
+    if conversion::accepts(new_table, new) {
+        answer_both(table, old, new_table, new, rules, names, out);
         return;
     }
-    report_broken(b"NEW", table, tables::first_broken(table, new));
+    report_broken(b"NEW", new_table, tables::first_broken(new_table, new));
 }
 
 // Tests OLD first.

@@ -1,6 +1,6 @@
 -- What the two answers say of a table: nothing is broken exactly where it is accepted, and a table that shares all its numbers is the beginning.
 -- Assumes nothing.
-use Prim.Native.Nat.{ℕ, zero, suc, _+_}
+use Prim.Native.Nat.{ℕ, zero, suc, _+_, _≤_}
 use mathlib.Core.Path.{_≡_, refl, ap}
 use mathlib.Core.Bool.{Bool, true, false, cond}
 use mathlib.Core.List.{List, [], _∷_, _++_}
@@ -55,15 +55,15 @@ whole-accepted t rows = go (accepted t rows)
     go false = place-something t rows
 
 -- a table all of whose numbers another shares is the other's beginning: what `steady` asks
-pub shared-begins : (xs ys : List ℕ) → shared xs ys ≡ length xs → ys ≡ xs ++ drop (length xs) ys
+pub shared-begins : (xs ys : List ℕ) → length xs ≤ shared xs ys → ys ≡ xs ++ drop (length xs) ys
 shared-begins [] ys e = refl
 shared-begins (x ∷ xs) [] e = absurd (let bad : ⊥ = omega arith in bad)
 shared-begins (x ∷ xs) (y ∷ ys) e = go (eqb x y) refl (shared-begins xs ys) e
   where
-    go : (b : Bool) → eqb x y ≡ b → (shared xs ys ≡ length xs → ys ≡ xs ++ drop (length xs) ys) → cond b (suc (shared xs ys)) 0 ≡ suc (length xs)
+    go : (b : Bool) → eqb x y ≡ b → (length xs ≤ shared xs ys → ys ≡ xs ++ drop (length xs) ys) → suc (length xs) ≤ cond b (suc (shared xs ys)) 0
         → y ∷ ys ≡ x ∷ (xs ++ drop (length xs) ys)
     go true q ih f =
-        let h : shared xs ys ≡ length xs = omega arith in
+        let h : length xs ≤ shared xs ys = omega arith in
         let w : x ≡ y = eqb-true x y q in
         rw w (ap (λ (t : List ℕ). y ∷ t) (ih h))
     go false q ih f = absurd (let bad : ⊥ = omega arith in bad)
