@@ -1,4 +1,4 @@
--- The lent year table of document 01: rows of thirteen numbers, twelve month lengths and their sum. Assumes nothing.
+-- The lent year table (docs/RULES.md, What is lent): rows of thirteen numbers, twelve month lengths and their sum. Assumes nothing.
 use Prim.Native.Nat.{ℕ, _+_, _-_, _*_, _/_}
 use mathlib.Core.Bool.{Bool, _&&_}
 use mathlib.Core.List.{List}

@@ -1,4 +1,4 @@
--- The table of document 01's checked examples: first year 100, first day 1 January 1950. Assumes nothing.
+-- The table of the checked examples (docs/RULES.md): first year 100, first day 1 January 1950. Assumes nothing.
 use Prim.Native.Nat.{ℕ}
 use mathlib.Core.List.{List, [], _∷_, _++_}
 use Rattle.conversion.specs.declared.Table.{Table}

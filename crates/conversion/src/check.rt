@@ -1,4 +1,4 @@
-// Whether a lent year table keeps the rules of document 01, in one pass over its rows.
+// Whether a lent year table keeps the rules of docs/RULES.md, What is lent, in one pass over its rows.
 ghost use mathlib.Core.Path.{_≡_};
 ghost use Prim.Native.Nat.{_+_, _*_, _≤_};
 ghost use lib.ListN.{length};

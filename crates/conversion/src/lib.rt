@@ -76,7 +76,7 @@ pub fn first_day(table: Table) -> u32
     number_or_zero(table.year, table.month, table.day)
 }
 
-// Whether a lent year table keeps the rules of document 01.
+// Whether a lent year table keeps the rules of docs/RULES.md, What is lent.
 pub fn accepts(table: Table, rows: &[u16]) -> bool
     ensures { λ r. ⌜ r ≡ accepted table (now (rows .entry)) ⌝ }
 {

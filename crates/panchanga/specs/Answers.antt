@@ -1,4 +1,4 @@
--- What each public call answers: the value, or the paper's refusal. And what each enum of the code says, in these words. Assumes nothing.
+-- What each public call answers: the value, or its refusal (docs/RULES.md, Refusals). And what each enum of the code says, in these words. Assumes nothing.
 use Prim.Native.Nat.{ℕ, _+_}
 use mathlib.Core.Bool.{cond}
 use mathlib.Core.Option.{Option, some, none}

@@ -1,4 +1,4 @@
-// The engine for C: numbers, lent slices and lent places alone. Each function answers 0 or the number of a refusal of document 01; a refusal changes
+// The engine for C: numbers, lent slices and lent places alone. Each function answers 0 or the number of a refusal (docs/RULES.md, Refusals); a refusal changes
 // no lent place. Each promises what the engine's function of that name promises, by the same definition.
 ghost use mathlib.Core.Path.{_≡_};
 ghost use Rattle.panel.specs.Boundary.{code, accepting, table};

@@ -1,4 +1,4 @@
--- What a call answers: a value, or a refusal of document 01. Assumes nothing.
+-- What a call answers: a value, or a refusal (docs/RULES.md, Refusals). Assumes nothing.
 use mathlib.Core.Bool.{Bool, true, false}
 use Rattle.paper.specs.declared.Refusal.{Refusal}
 

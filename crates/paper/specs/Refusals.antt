@@ -1,4 +1,4 @@
--- The numbers of document 01's refusal table. Assumes nothing.
+-- The numbers of the refusal table (docs/RULES.md, Refusals). Assumes nothing.
 use Prim.Native.Nat.{ℕ}
 use Rattle.paper.specs.declared.Refusal.{Refusal}
 use Rattle.paper.specs.declared.Refusal.the-variants as R

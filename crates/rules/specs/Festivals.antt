@@ -1,4 +1,4 @@
--- What the module Festivals of document 01 means, over any calendar and any sky. Assumes nothing.
+-- The festival rules (docs/RULES.md, Festivals), over any calendar and any sky. Assumes nothing.
 use Prim.Native.Nat.{ℕ, _+_, _-_, _*_}
 use mathlib.Core.Bool.{Bool, true, false, cond, not, _&&_, _||_}
 use mathlib.Core.List.{List, [], _∷_, _++_}

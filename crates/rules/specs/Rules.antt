@@ -1,4 +1,4 @@
--- The lent rules of document 01: records of eight numbers, and which lists of numbers are good. Assumes nothing.
+-- The lent rules (docs/RULES.md, What is lent): records of eight numbers, and which lists of numbers are good. Assumes nothing.
 use Prim.Native.Nat.{ℕ, zero, suc, _+_, _*_, _/_, _%_}
 use mathlib.Core.Bool.{Bool, true, cond, _&&_, _||_}
 use mathlib.Core.List.{List, [], _∷_}

@@ -1,4 +1,4 @@
--- What the public calls answer: the value, or the paper's refusal. And what each enum of the code says, in these words. Assumes nothing.
+-- What the public calls answer: the value, or its refusal (docs/RULES.md, Refusals). And what each enum of the code says, in these words. Assumes nothing.
 use Prim.Native.Nat.{ℕ}
 use mathlib.Core.Bool.{Bool, _&&_}
 use mathlib.Core.List.{List, _++_}

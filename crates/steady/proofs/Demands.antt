@@ -49,7 +49,7 @@ pub use Rattle.conversion.proofs.Theorems.{OneToOne, NoTable, one-to-one, no-ta
 pub use Rattle.steady.proofs.Steady.{steady}
 -- and so of two results that meet a call's contract, under the table and under the longer one
 pub use Rattle.steady.proofs.Composed as Composed
--- the paper's examples marked P
+-- the checked examples
 pub use Rattle.steady.proofs.Examples.{checked}
 -- the festival rules over a sky of a few numbers
 pub use Rattle.steady.proofs.SmallSky.{small-sky}

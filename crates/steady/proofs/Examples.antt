@@ -1,4 +1,4 @@
--- The examples of document 01 that are marked P hold; demand 3 holds of its table; and its month 100/2 in weeks. Assumes nothing.
+-- The checked examples of docs/RULES.md hold; demand 3 holds of its table; and its month 100/2 in weeks. Assumes nothing.
 use Prim.Native.Nat.{ℕ, _-_}
 use mathlib.Core.Path.{_≡_, refl, ap, _∙_}
 use mathlib.Core.Bool.{true}

@@ -1,4 +1,4 @@
--- The examples of document 01 that are marked P, as one list. Assumes nothing.
+-- The checked examples of docs/RULES.md, as one list. Assumes nothing.
 use Prim.Native.Nat.{ℕ}
 use mathlib.Core.Path.{_≡_}
 use mathlib.Core.List.{List, [], _∷_}

@@ -1,4 +1,4 @@
--- Sine, cosine, the arcs and tangent of document 01 ("Trigonometry"), operation by operation, as docs/TRIG.md gives them. Assumes nothing.
+-- Sine, cosine, the arcs and tangent (docs/RULES.md, Trigonometry), operation by operation, as docs/TRIG.md gives them. Assumes nothing.
 use mathlib.Core.Bool.{Bool, cond, _&&_}
 use lib.Ieee.{Float, neg, lt, le}
 use Rattle.paper.specs.Floats.{_⊕_, _⊖_, _⊗_, _⊘_, bits}
