@@ -1,4 +1,5 @@
--- Examples 7.a, 25.a and 47.a of Meeus, Astronomical Algorithms, second edition: the definitions give what the book prints, by computation. Assumes nothing.
+-- Examples 7.a, 25.a and 47.a of Meeus, Astronomical Algorithms, second edition: the definitions give what the book prints of the Julian day, the mean angles and the longitudes, by
+-- computation. Assumes nothing.
 -- An f64 is held to the printed decimals as a fraction, exactly. Each number is the printed one when it is rounded to as many digits, but for the sun's longitude, where one unit of the last
 -- digit is left. The moon needs no more room: the engine's sixty rows are all that the book sums for the longitude.
 use Prim.Native.Nat.{ℕ, _+_, _*_, _^_}
