@@ -16,3 +16,4 @@ pub mod Degrees
 pub mod Asked
 pub mod OffsetRange
 pub mod Running
+pub mod Meeus
