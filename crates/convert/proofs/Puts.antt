@@ -1,6 +1,7 @@
 -- Texts written one after the other, and how long they are together. Assumes nothing.
 use Prim.Native.Nat.{ℕ, zero, suc, _+_, _^_, _≤_, _<_}
 use mathlib.Core.Path.{_≡_, refl}
+use mathlib.Core.Bool.{Bool, false}
 use mathlib.Core.List.{List, [], _++_}
 use mathlib.Core.Logic.{⊎-elim}
 use native.Mathlib.Nat.{pow-le-pow-right}
@@ -13,7 +14,11 @@ use Rattle.text.proofs.Writes.{then, wrote-none}
 use Rattle.text.proofs.Runs.{length-run}
 use Rattle.text.proofs.Decimals.{has-fewest, places-fewest, Fewest, nought, some}
 use Rattle.convert.specs.Lines.{numberText}
-use Rattle.convert.specs.Inner.{Put, Gathered}
+use Rattle.output.specs.declared.Out.{Out}
+use Rattle.output.specs.Gathered.{room}
+use Rattle.output.proofs.Gathering.{stored-there}
+use Rattle.convert.specs.Replies.{replyTo, gatherReply}
+use Rattle.convert.specs.Inner.{Put, Replied}
 
 -- one text after the other
 pub on : {j k : ℕ} {l : List ℕ} {i : ℕ} {vs m : List ℕ} {p : ℕ} {ws n : List ℕ} {q : ℕ} → Put j l i vs m p → Put k m p ws n q → Put (j + k) l i (vs ++ ws) n q
@@ -59,9 +64,8 @@ module _ {l : List ℕ} {i : ℕ} {m : List ℕ} {p : ℕ} (w n : ℕ) (small : 
       same zero z = absurd (z refl)
       same (suc k) z = refl
 
--- what has room is stored whole
-pub gathered : (out text after : List ℕ) (at next : ℕ) → Put 64 out at text after next → at + 64 ≤ length out → Gathered out text after next
-gathered out text after at next p h =
-    let w = p .wrote .end in
-    let l = p .short in
-    record { place = at; stored = p .wrote .stored; end = omega arith; inside = omega arith }
+-- a reply that is written where there is room for 64 bytes
+pub replied : {l m s : List ℕ} {at next : ℕ} {o : Out} {failed : Bool} → at ≡ room 64 l (o .at) → Put 64 l at (replyTo s) m next
+    → Replied l o s m (record { at = next; begun = false; failed = failed })
+unfolding gatherReply
+replied {l} {m} {s} {at} {next} {o} e p = record { same = stored-there 64 l o (replyTo s) m next false (rw e at (p .wrote)); short = p .short }

@@ -8,8 +8,9 @@ use native.Mathlib.Omega.{arith}
 use borrow.Author.Tests.{leb-false}
 use lib.Dec.{leb}
 use lib.ListN.{length, length-append}
-use Rattle.text.specs.Kept.{Current, short, long}
+use Rattle.text.specs.Kept.{short, long}
 use Rattle.text.proofs.Lines.{comes}
+use Rattle.lines.specs.Lines.{handed}
 use Rattle.text.specs.Dashed.{dash}
 use Rattle.convert.specs.Lines.{numberText, numbersText, lineForm, LineIs, IsBs, IsAd}
 use Rattle.convert.specs.declared.line.Line.{Line}
@@ -53,11 +54,6 @@ long-other s h = go (lineForm s) (line-is s)
     go (Bs y m d) k = let x = bs-short s y m d k in absurd (let bad : ⊥ = omega arith in bad)
     go (Ad y m d) k = let x = ad-short s y m d k in absurd (let bad : ⊥ = omega arith in bad)
     go Other k = refl
-
--- what is handed over of a line that came in: nothing of one too long
-abbrev pub handed : Current → List ℕ
-handed (short s) = s
-handed long = []
 
 empty-other : lineForm [] ≡ Other
 unfolding lineForm
