@@ -77,11 +77,11 @@ pub record Runs {S : Type 0} (p : Program S) (room : ℕ) (first : S) (out₀ : 
   pub goes : 0 < t .left → At room (linesIn lines) piece line t
   pub ends : Ends room (linesIn lines)
 
-pub runs-first : {S : Type 0} (p : Program S) (first : S) (steps : ℕ) {piece line piece' line' out : List ℕ} {r : Turn}
-    → TurnAfter (started steps) piece line piece' line' out (fresh out) r → Runs p (length line) first out first piece' line' out r
-runs-first p first steps {piece} {line} t =
+pub runs-first : {S : Type 0} (p : Program S) {room : ℕ} (first : S) (steps : ℕ) {piece line piece' line' out : List ℕ} {r : Turn} → length line ≡ room
+    → TurnAfter (started steps) piece line piece' line' out (fresh out) r → Runs p room first out first piece' line' out r
+runs-first p first steps {piece} {line} k t =
     let s = stand-first (length line) steps piece in
-    record { lines = []; holds = refl; buffer = refl; gathers = turn-goes t; goes = turn-at s t; ends = turn-ends s t }
+    rw (← k) (record { lines = []; holds = refl; buffer = refl; gathers = turn-goes t; goes = turn-at s t; ends = turn-ends s t })
 
 module _ {S : Type 0} {p : Program S} {room : ℕ} {first : S} {out₀ : List ℕ} {x : S} {piece line out : List ℕ} {t : Turn}
     (a : Runs p room first out₀ x piece line out t) where
@@ -104,5 +104,5 @@ module _ {S : Type 0} {p : Program S} {room : ℕ} {first : S} {out₀ : List �
         ends = rw k at (turn-ends s (d .turn));
       }
 
-  pub runs-all : Run p room first out₀ x out
-  runs-all = record { heard = record { answered = a .lines; ends = a .ends }; holds = a .holds; gathers = a .buffer }
+  pub runs-all : {n : ℕ} → room ≡ n → Run p n first out₀ x out
+  runs-all k = rw (← k) (record { heard = record { answered = a .lines; ends = a .ends }; holds = a .holds; gathers = a .buffer })

@@ -195,13 +195,13 @@ module _ {room w : ℕ} {x y z : Made} {piece line piece' line' : List ℕ} {inp
     where
       not-broken : r .failed ≡ true → ⊥
       not-broken f = let e : well (fails fault.NotRead y .reading .fault) ≡ true = rw (came-broken f) at h in let b : _≡_ {A = ℕ} 0 1 = cc in omega arith
-      line : (left : ℕ) → r .left ≡ left → (b : List ℕ) → Stand room b (s .lines ++ (lineIn line' r ∷ [])) (r .ends) (waiting piece' r) → r .failed ≡ eqb (r .left) 0 → Stood room w x z piece' r
-      line zero e b st f = absurd (not-broken (f ∙ eq-eqb (r .left) 0 e))
-      line (suc left) e b st f =
+      more : (left : ℕ) → r .left ≡ left → (b : List ℕ) → Stand room b (s .lines ++ (lineIn line' r ∷ [])) (r .ends) (waiting piece' r) → r .failed ≡ eqb (r .left) 0 → Stood room w x z piece' r
+      more zero e b st f = absurd (not-broken (f ∙ eq-eqb (r .left) 0 e))
+      more (suc left) e b st f =
           let l : r .left ≡ 0 → ⊥ = λ q. omega arith in
           record { lines = s .lines ++ (lineIn line' r ∷ []); bytes = b; stand = st; same = came-line f l; over = λ q. absurd (l q) }
       go : Later room (s .lines) piece' line' r → Stood room w x z piece' r
-      go (line-more b st f) = line (r .left) refl b st f
+      go (line-more b st f) = more (r .left) refl b st f
       go (no-more b e q) = record {
         lines = s .lines;
         bytes = b;
@@ -215,9 +215,9 @@ module _ {room w : ℕ} {x y z : Made} {piece line piece' line' : List ℕ} {inp
   pub stood-fault : well (z .reading .fault) ≡ false → Makes room w x z
   stood-fault h = go later
     where
-      line : (left : ℕ) → r .left ≡ left → (b : List ℕ) → Stand room b (s .lines ++ (lineIn line' r ∷ [])) (r .ends) (waiting piece' r) → r .failed ≡ eqb (r .left) 0 → Makes room w x z
-      line zero e b st f = makes-broken (f ∙ eq-eqb (r .left) 0 e)
-      line (suc left) e b st f =
+      more : (left : ℕ) → r .left ≡ left → (b : List ℕ) → Stand room b (s .lines ++ (lineIn line' r ∷ [])) (r .ends) (waiting piece' r) → r .failed ≡ eqb (r .left) 0 → Makes room w x z
+      more zero e b st f = makes-broken (f ∙ eq-eqb (r .left) 0 e)
+      more (suc left) e b st f =
           let ls : List Current = s .lines ++ (lineIn line' r ∷ []) in
           let c : z ≡ after w x ls = came-line f (λ q. omega arith) in
           let o = stand-begins st in
@@ -227,7 +227,7 @@ module _ {room w : ℕ} {x y z : Made} {piece line piece' line' : List ℕ} {inp
             same = sym (ap (after w x) (o .same) ∙ (after-append w ls (o .others) x ∙ (ap (λ (v : Made). after w v (o .others)) (sym c) ∙ after-faulty w (o .others) z h)));
           }
       go : Later room (s .lines) piece' line' r → Makes room w x z
-      go (line-more b st f) = line (r .left) refl b st f
+      go (line-more b st f) = more (r .left) refl b st f
       go (no-more b e q) = record { bytes = b; ends = over; same = came-none (ap (λ (i : Input). i .failed) q) (ap (λ (i : Input). i .left) q) ∙ ap (after w x) (sym e) }
       go (cut-off q) = makes-broken (ap (λ (i : Input). i .failed) q)
 
@@ -237,8 +237,8 @@ stood-over {w = w} {x = x} s e = record { bytes = s .bytes; ends = over; same = 
 
 -- ---- a whole file
 
-pub makes-from : {u v w : ℕ} {p r : Reading} {rows names : List ℕ} {y : Made} → u ≡ 4096 → v ≡ w → p ≡ r → Makes u v (made p rows names) y → Makes 4096 w (made r rows names) y
-makes-from d e f m = rw (← e, ← f) (rw d at m)
+pub makes-from : {room v w : ℕ} {p r : Reading} {rows names : List ℕ} {y : Made} → v ≡ w → p ≡ r → Makes room v (made p rows names) y → Makes room w (made r rows names) y
+makes-from e f m = rw (← e, ← f) m
 
 module _ {awaits : Bool} {rows names : List ℕ} where
   pub reads-shut : {q r : Reading} → q ≡ faulted fault.NotOpened r → r ≡ begin awaits → Reads awaits rows names (made q rows names)

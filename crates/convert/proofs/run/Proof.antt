@@ -1,5 +1,5 @@
 -- `convert::run` meets its contract: what is gathered is that of the lines so far. The turns left fall. Assumes nothing.
-use mathlib.Core.Path.{_≡_}
+use mathlib.Core.Path.{_≡_, sym}
 use Prim.Native.Nat.{_≤_}
 use native.Mathlib.Omega.{arith}
 use lib.ListN.{length}
@@ -19,17 +19,20 @@ abbrev μ-loop : tie.MeasureT-loop
 
 loop-holds : tie.Need-loop-holds Inv-loop μ-loop
 loop-holds c =
-    let t = c .before .before .before .before .first-turn .ensures in
-    (search needs, search needs, search needs, omega (arith, t .inside), runs-first converting tt 18446744073709551615 t)
+    let t = c .before .before .before .before .first-turn in
+    (search needs, search needs, search needs, omega (arith, t .ensures .inside), runs-first converting tt 18446744073709551615 (sym (t .kept .1 .0)) (t .ensures))
 
 loop-less : tie.Need-loop-less Inv-loop μ-loop
-loop-less c = ?
+loop-less c = omega (arith, c .before .before .before .before .before .before .turn .ensures .turn .fewer, c .before .before .before .before .before .before .before .before .before .before .if1 .taken)
 
 loop-again : tie.Need-loop-again Inv-loop μ-loop
-loop-again c = ?
+loop-again c =
+    let l = c .before .before .before .before .before .before .before .before .before .before .before .before .loop in
+    let t = c .before .before .before .before .before .before .turn in
+    (search needs, search needs, search needs, omega (arith, t .ensures .turn .inside), runs-turn (l .inv .4) (c .before .before .before .before .before .before .before .before .before .before .if1 .taken) (l .inv .1) (t .ensures))
 
 returns : tie.Need-returns Inv-loop μ-loop
-returns c = runs-all (c .before .before .loop .inv .4)
+returns c = runs-all (c .before .before .loop .inv .4) (c .before .before .before .before .before .before .before .first-turn .kept .1 .0)
 
 pub run-spec : {M : Type 1} → statement M
 run-spec =

@@ -1,5 +1,5 @@
 -- `questions::run` meets its contract: what is lent and gathered is that of the lines so far. Assumes nothing.
-use mathlib.Core.Path.{_≡_, refl, _∙_}
+use mathlib.Core.Path.{_≡_, refl, sym, _∙_}
 use lib.ListN.{length}
 use native.Mathlib.Omega.{arith}
 use Rattle.asked.proofs.Runs.{Runs, runs-first, runs-turn, runs-all}
@@ -16,7 +16,7 @@ abbrev μ-loop : tie.MeasureT-loop
 
 loop-holds : tie.Need-loop-holds Inv-loop μ-loop
 loop-holds c = let a = c .before .before .before .before .before .before .before .before .before .before .before .before .before .args in
-    (refl, refl, refl, refl, refl, runs-first answering (loanOf (a .first) (a .rows .now) (a .rules .now)) 18446744073709551615 (c .before .before .before .before .first-turn .ensures))
+    (refl, refl, refl, refl, refl, runs-first answering (loanOf (a .first) (a .rows .now) (a .rules .now)) 18446744073709551615 (sym (c .before .before .before .before .first-turn .kept .1 .0)) (c .before .before .before .before .first-turn .ensures))
 
 loop-less : tie.Need-loop-less Inv-loop μ-loop
 loop-less c = omega (arith, c .before .before .before .before .before .before .before .before .before .before .before .before .step .ensures .turn .fewer, c .before .before .before .before .before .before .before .before .before .before .before .before .before .before .before .before .before .before .if1 .taken)
@@ -34,7 +34,7 @@ loop-again c =
     )
 
 returns : tie.Need-returns Inv-loop μ-loop
-returns c = record { lent = c .before .before .loop .lent; run = runs-all (c .before .before .loop .inv .5) }
+returns c = record { lent = c .before .before .loop .lent; run = runs-all (c .before .before .loop .inv .5) ? }
 
 pub run-spec : {M : Type 1} → statement M
 run-spec =

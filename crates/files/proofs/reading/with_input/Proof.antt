@@ -12,14 +12,15 @@ returns c = let a = c .before .before .before .before .before .args in
     instead (c .faulted .ensures) refl refl (input-broken (a .width) (made (a .r) (a .rows .now) (a .names .now)) (a .input) (a .line .now) (c .before .if1 .taken))
 
 returns-2 : tie.Need-returns-2
-returns-2 c = ?
+returns-2 c = let a = c .before .before .before .before .before .before .args in
+    input-over (a .width) (made (a .r) (a .rows .now) (a .names .now)) (a .input) (a .line .now) (c .before .before .if1 .left) (c .if2 .taken)
 
 slice-aggregate-with-next : tie.Need-slice-aggregate-with-next
 slice-aggregate-with-next c = let a = c .before .before .before .before .before .before .before .before .before .args in sym (length-take-le (a .input .len) (a .line .now) (c .before .before .before .before .before .before .before .before .before .pre .1))
 
 returns-3 : tie.Need-returns-3
 returns-3 c = let a = c .before .before .before .before .before .before .before .before .before .before .before .before .before .before .args in
-    c .before .before .before .before .with-next .ensures ∙ input-line (a .width) (made (a .r) (a .rows .now) (a .names .now)) (a .input) (a .line .now) ? ?
+    c .before .before .before .before .with-next .ensures ∙ input-line (a .width) (made (a .r) (a .rows .now) (a .names .now)) (a .input) (a .line .now) (c .before .before .before .before .before .before .before .before .before .before .if1 .left) (c .before .before .before .before .before .before .before .before .if2 .left)
 
 pub with-input-spec : {M : Type 1} → statement M
 with-input-spec =
