@@ -50,6 +50,7 @@ module _ {before : Input} {bytes piece line piece' line' out : List ℕ} {g : Ga
       here k (line-more b st f) = record { this = lineIn line' (t .input); text = t .read .bytes; bytes = b; stand = st }
       here k (no-more b e z) = absurd (let bad : ⊥ = omega (arith, ap (λ (x : Input). x .left) z) in bad)
       here k (cut-off z) = absurd (let bad : ⊥ = omega (arith, ap (λ (x : Input). x .left) z) in bad)
+
       go : (f : Bool) → r ≡ cond f (noTurn (record { at = 0; begun = t .answered .begun; failed = r .out .failed }))
           (record { left = t .input .left; len = t .input .len; ends = t .input .ends; from = t .input .from; to = t .input .to; out = t .answered })
           → At (length line) lines piece' line' r

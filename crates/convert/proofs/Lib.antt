@@ -1,4 +1,6 @@
 pub mod Forms
 pub mod Puts
+pub mod Short
 pub mod Whole
 pub mod Examples
+pub mod Written

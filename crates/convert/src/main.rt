@@ -1,9 +1,10 @@
 // Reads lines bs=Y-M-D and ad=YYYY-MM-DD, and writes both dates and the refusal of each.
+ghost use mathlib.Core.Path.{_≡_};
 ghost use Prim.Native.Nat.{_≤_};
 ghost use lib.ListN.{length};
+ghost use Rattle.output.specs.Gathered.{gathered};
 ghost use Rattle.asked.specs.Runs.{TurnDone, Run};
-ghost use Rattle.convert.specs.Inner.{Replied};
-ghost use Rattle.convert.specs.Replies.{converting};
+ghost use Rattle.convert.specs.Replies.{gatherReply, converting};
 
 mod line;
 mod reply;
@@ -13,7 +14,7 @@ use output::Out;
 
 // Gathers the reply to a line.
 fn answer(o: Out, out: &mut [u8], s: &[u8]) -> Out
-    ensures { λ r. ⌜ Replied (now (out .entry)) o (now (s .entry)) (now (out .exit)) r ⌝ }
+    ensures { λ r. ⌜ gathered (now (out .exit)) r ≡ gatherReply (gathered (now (out .entry)) o) (now (s .entry)) ⌝ }
 {
     let ready = o.room(out, 64);
     Out {

@@ -1,7 +1,7 @@
 -- What a file makes, line by line: each step over plain variables, and the steps one after the other. Assumes nothing.
 use Prim.Native.Nat.{ℕ, zero, suc, _+_, _/_, _≤_, _<_}
 use mathlib.Core.Path.{_≡_, refl, sym, ap, _∙_}
-use mathlib.Core.Bool.{Bool, true, false, cond}
+use mathlib.Core.Bool.{Bool, true, false}
 use mathlib.Core.List.{List, [], _∷_, _++_}
 use native.Mathlib.Nat.{add-zero}
 use native.Mathlib.Omega.{arith}
@@ -195,11 +195,13 @@ module _ {room w : ℕ} {x y z : Made} {piece line piece' line' : List ℕ} {inp
     where
       not-broken : r .failed ≡ true → ⊥
       not-broken f = let e : well (fails fault.NotRead y .reading .fault) ≡ true = rw (came-broken f) at h in let b : _≡_ {A = ℕ} 0 1 = cc in omega arith
+
       more : (left : ℕ) → r .left ≡ left → (b : List ℕ) → Stand room b (s .lines ++ (lineIn line' r ∷ [])) (r .ends) (waiting piece' r) → r .failed ≡ eqb (r .left) 0 → Stood room w x z piece' r
       more zero e b st f = absurd (not-broken (f ∙ eq-eqb (r .left) 0 e))
       more (suc left) e b st f =
           let l : r .left ≡ 0 → ⊥ = λ q. omega arith in
           record { lines = s .lines ++ (lineIn line' r ∷ []); bytes = b; stand = st; same = came-line f l; over = λ q. absurd (l q) }
+
       go : Later room (s .lines) piece' line' r → Stood room w x z piece' r
       go (line-more b st f) = more (r .left) refl b st f
       go (no-more b e q) = record {
@@ -226,6 +228,7 @@ module _ {room w : ℕ} {x y z : Made} {piece line piece' line' : List ℕ} {inp
             ends = over;
             same = sym (ap (after w x) (o .same) ∙ (after-append w ls (o .others) x ∙ (ap (λ (v : Made). after w v (o .others)) (sym c) ∙ after-faulty w (o .others) z h)));
           }
+
       go : Later room (s .lines) piece' line' r → Makes room w x z
       go (line-more b st f) = more (r .left) refl b st f
       go (no-more b e q) = record { bytes = b; ends = over; same = came-none (ap (λ (i : Input). i .failed) q) (ap (λ (i : Input). i .left) q) ∙ ap (after w x) (sym e) }

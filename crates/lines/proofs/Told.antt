@@ -7,7 +7,7 @@ use native.Mathlib.Omega.{arith}
 use lib.Dec.{eqb}
 use lib.ListN.{length, take}
 use lib.Seq.{take-at}
-use Rattle.text.specs.Kept.{Current, short, long, more, Line, whole, going, line}
+use Rattle.text.specs.Kept.{Current, short, long, more, whole, going, line}
 use Rattle.lines.specs.declared.Input.{Input}
 use Rattle.lines.specs.Lines.{started, ended, waiting, lineIn, Next, fed, last, over, unread, NextLine, lastLine, linesFrom, linesOf}
 use Rattle.lines.proofs.Pieces.{front-none}
@@ -51,11 +51,11 @@ module _ {room : ℕ} {bytes : List ℕ} {lines : List Current} {rest : List ℕ
   told-fed : (l : Current) (w : List ℕ) → line room (short []) (rest ++ came) ≡ whole l w → Told room (bytes ++ came) (lines ++ (l ∷ [])) w
   told-fed l w e = record {
     same = λ t.
-      ap (linesOf room) (append-assoc bytes came t)
-      ∙ (told .same (came ++ t)
-      ∙ (ap (λ (x : List ℕ). lines ++ linesOf room x) (sym (append-assoc rest came t))
-      ∙ (ap (λ (x : List Current). lines ++ x) (lines-fed room (short []) l (rest ++ came) w t e)
-      ∙ sym (append-assoc lines (l ∷ []) (linesOf room (w ++ t))))));
+        ap (linesOf room) (append-assoc bytes came t)
+        ∙ (told .same (came ++ t)
+        ∙ (ap (λ (x : List ℕ). lines ++ linesOf room x) (sym (append-assoc rest came t))
+        ∙ (ap (λ (x : List Current). lines ++ x) (lines-fed room (short []) l (rest ++ came) w t e)
+        ∙ sym (append-assoc lines (l ∷ []) (linesOf room (w ++ t))))));
   }
 
   told-open : (d : Current) → line room (short []) (rest ++ came) ≡ going d → linesOf room (bytes ++ came) ≡ lines ++ lastLine d

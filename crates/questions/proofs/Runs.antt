@@ -1,6 +1,6 @@
 -- A line lends, or is answered over what is lent. Assumes nothing.
 use Prim.Native.Nat.{ℕ}
-use mathlib.Core.Path.{_≡_, ap, _∙_}
+use mathlib.Core.Path.{_≡_, _∙_}
 use mathlib.Core.List.{List}
 use lib.ListN.{take}
 use Rattle.asked.specs.Line.{wordsOf}
@@ -14,7 +14,7 @@ use Rattle.asked.specs.declared.input.Turn.{Turn}
 use Rattle.lending.specs.declared.Lent.{Lent}
 use Rattle.lending.specs.Lending.{Loan, loanAfter}
 use Rattle.questions.specs.Questions.{answerWords}
-use Rattle.questions.specs.Runs.{loanOf, lendLine, answerLine, answering, Lends, Answers}
+use Rattle.questions.specs.Runs.{loanOf, lendLine, answerLine, answering}
 
 loan-is : (x : Loan) (s : List ℕ) (w : Words) (lent : Lent) (rows rules : List ℕ) → w ≡ wordsOf s
     → lent ≡ loanAfter (x .lent) (x .rows) (x .rules) w .lent → rows ≡ loanAfter (x .lent) (x .rows) (x .rules) w .rows → rules ≡ loanAfter (x .lent) (x .rows) (x .rules) w .rules
@@ -36,7 +36,3 @@ turn-done {t} {x = x} {piece = piece} {line = line} {out = out} {rows = rows} {r
     let l = take (t .len) line in
     let loan : loanOf lent rows rules ≡ lendLine x l = loan-is x l w lent rows rules e p q s in
     record { holds = loan; turn = rw (g .same ∙ answer-is x (gathered out (t .out)) l w lent rows rules e loan) at n }
-
--- what is lent after a run
-pub lends-after : {room : ℕ} {first : Loan} {out rows rules out' : List ℕ} → Answers room first out rows rules out' → room ≡ 4096 → Lends 4096 first rows rules
-lends-after a e = rw e at (record { heard = a .run .heard; lent = a .lent; same = a .run .holds })

@@ -13,7 +13,7 @@ slice-aggregate-answer c =
 
 returns : tie.Need-returns
 returns c =
-    record { holds = refl; turn = rw (c .before .before .before .before .before .before .before .before .before .before .before .before .answer .ensures .same) at (c .before .before .before .before .before .before .next-turn .ensures) }
+    record { holds = refl; turn = rw (c .before .before .before .before .before .before .before .before .before .before .before .before .answer .ensures) at (c .before .before .before .before .before .before .next-turn .ensures) }
 
 pub turn-spec : {M : Type 1} → statement M
 turn-spec =

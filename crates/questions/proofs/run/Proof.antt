@@ -34,7 +34,7 @@ loop-again c =
     )
 
 returns : tie.Need-returns Inv-loop μ-loop
-returns c = record { lent = c .before .before .loop .lent; run = runs-all (c .before .before .loop .inv .5) ? }
+returns c = record { lent = c .before .before .loop .lent; run = runs-all (c .before .before .loop .inv .5) (c .before .before .before .before .before .before .before .first-turn .kept .1 .0) }
 
 pub run-spec : {M : Type 1} → statement M
 run-spec =
