@@ -1,3 +1,4 @@
 pub mod Splits
 pub mod Patterns
 pub mod Turns
+pub mod Runs

@@ -28,17 +28,17 @@ module _ (input : Input) (o : Out) {r : Turn} where
 
 -- at a line
 pub turn-line : (input : Input) (o : Out) (failed : Bool) → o .failed ≡ false → (input .left ≡ 0 → ⊥)
-    → record { left = input .left; len = input .len; from = input .from; to = input .to; out = o } ≡ turnOf input o failed
+    → record { left = input .left; len = input .len; ends = input .ends; from = input .from; to = input .to; out = o } ≡ turnOf input o failed
 turn-line input o failed f n = rw (f, ne-eqb (input .left) 0 n)
 
 -- a turn is no more than the input has
-turn-left : (input : Input) (o : Out) (failed : Bool) {r : Turn} → r ≡ turnOf input o failed → r .left ≤ input .left
-turn-left input o failed {r} e = go (o .failed || eqb (input .left) 0) e
+turn-within : (input : Input) (o : Out) (failed : Bool) {r : Turn} → r ≡ turnOf input o failed → (r .left ≤ input .left) × (r .len ≤ input .len)
+turn-within input o failed {r} e = go (o .failed || eqb (input .left) 0) e
   where
-    go : (f : Bool) → r ≡ cond f (noTurn (record { at = 0; begun = o .begun; failed = failed })) (record { left = input .left; len = input .len; from = input .from; to = input .to; out = o })
-        → r .left ≤ input .left
-    go true h = omega (arith, ap (λ (x : Turn). x .left) h)
-    go false h = omega (arith, ap (λ (x : Turn). x .left) h)
+    go : (f : Bool) → r ≡ cond f (noTurn (record { at = 0; begun = o .begun; failed = failed })) (record { left = input .left; len = input .len; ends = input .ends; from = input .from; to = input .to; out = o })
+        → (r .left ≤ input .left) × (r .len ≤ input .len)
+    go true h = (omega (arith, ap (λ (x : Turn). x .left) h), omega (arith, ap (λ (x : Turn). x .len) h))
+    go false h = (omega (arith, ap (λ (x : Turn). x .left) h), omega (arith, ap (λ (x : Turn). x .len) h))
 
 -- what was answered, written out where a read comes
 pub told-after : (out : List ℕ) (o p : Out) (more feed : Bool) (g : Gathered) → gathered out p ≡ heard more (gathered out o) → more ≡ feed → gathered out o ≡ g → gathered out p ≡ heard feed g
@@ -48,7 +48,8 @@ told-after out o p more feed g w m e = w ∙ (ap (λ (b : Bool). heard b (gather
 pub turn-after : {before input : Input} {piece line piece' line' : List ℕ} (out : List ℕ) {g : Gathered} (o : Out) {r : Turn} → NextLine before piece line piece' line' input → gathered out o ≡ g
     → r ≡ turnOf input o (r .out .failed) → TurnAfter before piece line piece' line' out g r
 turn-after {input = input} out o {r} n g e =
-    record { input = input; read = n; answered = o; gathers = g; turn = e; fewer = omega (arith, n .fewer, turn-left input o (r .out .failed) e) }
+    let w = turn-within input o (r .out .failed) e in
+    record { input = input; read = n; answered = o; gathers = g; turn = e; inside = omega (arith, n .inside, w .1); fewer = omega (arith, n .fewer, w .0) }
 
 module _ {before : Input} {piece line piece' line' out : List ℕ} {g : Gathered} {r : Turn} (t : TurnAfter before piece line piece' line' out g r) where
   -- the lent buffer holds what is gathered
@@ -60,6 +61,6 @@ module _ {before : Input} {piece line piece' line' out : List ℕ} {g : Gathered
   turn-goes h = go (t .answered .failed || eqb (t .input .left) 0) (t .turn)
     where
       go : (f : Bool) → r ≡ cond f (noTurn (record { at = 0; begun = t .answered .begun; failed = r .out .failed }))
-          (record { left = t .input .left; len = t .input .len; from = t .input .from; to = t .input .to; out = t .answered }) → gathered out (r .out) ≡ g
+          (record { left = t .input .left; len = t .input .len; ends = t .input .ends; from = t .input .from; to = t .input .to; out = t .answered }) → gathered out (r .out) ≡ g
       go true e = absurd (let z : r .left ≡ 0 = ap (λ (x : Turn). x .left) e in let bad : ⊥ = omega arith in bad)
       go false e = rw (ap (λ (x : Turn). x .out) e) (t .gathers)

@@ -1,4 +1,5 @@
 -- What the contracts of `asked` are written in.
 pub mod Line
 pub mod Turns
+pub mod Runs
 pub mod Tags

@@ -1,21 +1,21 @@
 // Standard input, a line at a time, and the turns of a program that answers each line.
 ghost use mathlib.Core.Path.{_≡_};
-ghost use mathlib.Core.Bool.{false};
 ghost use Rattle.lines.specs.Lines.{started, waiting, hasFeed};
 ghost use Rattle.output.specs.Gathered as Gathered;
 ghost use Rattle.output.specs.Gathered.{gathered};
-ghost use Rattle.asked.specs.Turns.{noTurn, turnOf, inputOf, heard, TurnAfter};
+ghost use Rattle.asked.specs.Turns.{noTurn, turnOf, inputOf, heard, fresh, TurnAfter};
 use libc::STDERR_FILENO;
 use libc::STDIN_FILENO;
 use lines::Input;
 use output::Out;
 
-// A turn of a program: how many are left, 0 at the end, the length of the line to be answered, and what was answered so far. A line that was too
-// long for its buffer has length 0, since no program serves either; a read that fails ends the input. The turns are counted down from a number that
-// no run uses up.
+// A turn of a program: how many are left, 0 at the end, the length of the line to be answered, whether the input is over behind it, and what was
+// answered so far. A line that was too long for its buffer has length 0, since no program serves either; a read that fails ends the input. The
+// turns are counted down from a number that no run uses up.
 pub struct Turn {
     pub left: u64,
     pub len: usize,
+    pub ends: bool,
     pub from: usize,
     pub to: usize,
     pub out: Out,
@@ -31,6 +31,7 @@ fn ended(unread: bool, o: Out) -> Turn
     Turn {
         left: 0,
         len: 0,
+        ends: true,
         from: 0,
         to: 0,
         out: o,
@@ -50,6 +51,7 @@ fn turn_of(input: Input, o: Out, out: &[u8]) -> Turn
     Turn {
         left: input.left,
         len: input.len,
+        ends: input.ends,
         from: input.from,
         to: input.to,
         out: o,
@@ -59,7 +61,7 @@ fn turn_of(input: Input, o: Out, out: &[u8]) -> Turn
 // The turn of the first line.
 pub fn first_turn(piece: &mut [u8], line: &mut [u8], out: &[u8]) -> Turn
     ensures { λ r. ⌜ TurnAfter (started 18446744073709551615) (now (piece .entry)) (now (line .entry)) (now (piece .exit)) (now (line .exit))
-        (now (out .entry)) (record { buffer = now (out .entry); at = 0; begun = false }) r ⌝ }
+        (now (out .entry)) (fresh (now (out .entry))) r ⌝ }
 {
     let input = lines::next_line(STDIN_FILENO, lines::start(u64::MAX), piece, line);
     turn_of(input, output::empty(), out)
@@ -85,6 +87,7 @@ pub fn next_turn(t: Turn, o: Out, piece: &mut [u8], line: &mut [u8], out: &mut [
         len: t.len,
         long: false,
         failed: false,
+        ends: t.ends,
         from: t.from,
         to: t.to,
     };

@@ -1,5 +1,6 @@
 pub mod Forms
 pub mod Puts
-pub mod Turns
+pub mod Short
 pub mod Whole
 pub mod Examples
+pub mod Written

@@ -3,32 +3,20 @@
 use Prim.Native.Nat.{ℕ, _≤_, _<_}
 use mathlib.Core.Path.{_≡_, refl, sym, ap, _∙_}
 use mathlib.Core.Bool.{Bool, true, false, cond}
-use mathlib.Core.List.{List, [], _++_}
+use mathlib.Core.List.{List, []}
 use native.Mathlib.Omega.{arith}
 use borrow.Author.Tests.{leb-false}
 use lib.Dec.{leb}
-use lib.ListN.{length, length-append}
-use Rattle.text.specs.Kept.{Current, short, long}
+use lib.ListN.{length}
+use Rattle.text.specs.Kept.{short, long}
 use Rattle.text.proofs.Lines.{comes}
-use Rattle.text.specs.Dashed.{dash}
-use Rattle.convert.specs.Lines.{numberText, numbersText, lineForm, LineIs, IsBs, IsAd}
+use Rattle.lines.specs.Lines.{handed}
+use Rattle.convert.specs.Lines.{lineForm, LineIs, IsBs, IsAd}
 use Rattle.convert.specs.declared.line.Line.{Line}
 use Rattle.convert.specs.declared.line.Line.the-variants.{Bs, Ad, Other}
 use Rattle.convert.specs.Replies.{lineReply, replyTo}
 use Rattle.convert.proofs.Forms.{line-is}
-use Rattle.convert.proofs.Puts.{number-short}
-
--- three numbers of at most five digits
-numbers-short : (f o y m d : ℕ) → f ≤ 4 → o ≤ 4 → y < 65536 → m < 65536 → d < 65536 → length (numbersText f o y m d) ≤ 17
-numbers-short f o y m d hf ho hy hm hd =
-    omega (
-      arith,
-      number-short f y hf hy,
-      number-short o m ho hm,
-      number-short o d ho hd,
-      length-append (numberText f y) ((dash ++ numberText o m) ++ (dash ++ numberText o d)),
-      length-append (dash ++ numberText o m) (dash ++ numberText o d),
-    )
+use Rattle.convert.proofs.Short.{numbers-short}
 
 bs-short : (s : List ℕ) (y m d : ℕ) → IsBs s y m d → length s ≤ 20
 bs-short s y m d h =
@@ -53,11 +41,6 @@ long-other s h = go (lineForm s) (line-is s)
     go (Bs y m d) k = let x = bs-short s y m d k in absurd (let bad : ⊥ = omega arith in bad)
     go (Ad y m d) k = let x = ad-short s y m d k in absurd (let bad : ⊥ = omega arith in bad)
     go Other k = refl
-
--- what is handed over of a line that came in: nothing of one too long
-abbrev pub handed : Current → List ℕ
-handed (short s) = s
-handed long = []
 
 empty-other : lineForm [] ≡ Other
 unfolding lineForm

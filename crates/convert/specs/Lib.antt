@@ -1,4 +1,4 @@
 -- What `convert` reads and writes.
 pub mod Lines
 pub mod Replies
-pub mod Inner
+pub mod Written

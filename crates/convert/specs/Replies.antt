@@ -1,11 +1,14 @@
 -- What `convert` writes for a line. Assumes nothing.
 use Prim.Native.Nat.{ℕ}
+use mathlib.Core.Bool.{false}
 use mathlib.Core.List.{List, [], _++_}
 use Rattle.paper.specs.Refusals.{number}
 use Rattle.paper.specs.Answers.{Answer, answered, refused}
 use Rattle.text.specs.Digits.{digits}
 use Rattle.text.specs.Quoted.{bytes}
 use Rattle.gregorian.specs.declared.Date.{Date}
+use Rattle.output.specs.Gathered.{Gathered, stored}
+use Rattle.asked.specs.Runs.{Program}
 use Rattle.conversion.specs.Calendar.{toAd, fromAd}
 use Rattle.conversion.specs.Own.{own}
 use Rattle.conversion.specs.declared.BsDate.{BsDate}
@@ -54,3 +57,13 @@ lineReply Other = []
 -- what is written for a line
 abbrev pub replyTo : List ℕ → List ℕ
 replyTo s = lineReply (lineForm s)
+
+-- ---- all replies
+
+-- the reply to a line behind what is gathered, or at the front, once that is written out, where 64 bytes are not free: no reply is longer
+unfoldable pub gatherReply : Gathered → List ℕ → Gathered
+gatherReply g s = stored 64 g (replyTo s) false
+
+-- the program holds nothing, and replies to each line
+abbrev pub converting : Program (Unit {0})
+converting = record { next = λ u s. u; reply = λ u g s. gatherReply g s }

@@ -1,8 +1,10 @@
 // Reads lines bs=Y-M-D and ad=YYYY-MM-DD, and writes both dates and the refusal of each.
-ghost use Prim.Native.Nat.{_-_, _≤_};
+ghost use mathlib.Core.Path.{_≡_};
+ghost use Prim.Native.Nat.{_≤_};
 ghost use lib.ListN.{length};
-ghost use Rattle.convert.specs.Replies.{replyTo};
-ghost use Rattle.convert.specs.Inner.{Gathered};
+ghost use Rattle.output.specs.Gathered.{gathered};
+ghost use Rattle.asked.specs.Runs.{TurnDone, Run};
+ghost use Rattle.convert.specs.Replies.{gatherReply, converting};
 
 mod line;
 mod reply;
@@ -10,9 +12,9 @@ mod reply;
 use asked::Turn;
 use output::Out;
 
-// Gathers the reply to a line, whole, where the buffer has 64 bytes or more.
+// Gathers the reply to a line.
 fn answer(o: Out, out: &mut [u8], s: &[u8]) -> Out
-    ensures { λ r. ⌜ (64 ≤ length (now (out .entry)) → Gathered (now (out .entry)) (replyTo (now (s .entry))) (now (out .exit)) (r .at)) ⌝ }
+    ensures { λ r. ⌜ gathered (now (out .exit)) r ≡ gatherReply (gathered (now (out .entry)) o) (now (s .entry)) ⌝ }
 {
     let ready = o.room(out, 64);
     Out {
@@ -25,7 +27,8 @@ fn answer(o: Out, out: &mut [u8], s: &[u8]) -> Out
 // Answers the line, and reads the next one.
 fn turn(t: Turn, piece: &mut [u8], line: &mut [u8], out: &mut [u8]) -> Turn
     requires { ⌜ t .len ≤ length (now line) ⌝ }
-    ensures { λ r. ⌜ (r .left ≤ t .left - 1) × (r .len ≤ length (now (line .exit))) ⌝ }
+    ensures { λ r. ⌜ TurnDone converting t tt (now (piece .entry)) (now (line .entry)) (now (out .entry)) tt (now (piece .exit)) (now (line .exit))
+        (now (out .exit)) r ⌝ }
 {
     let o = t.out;
     let n = t.len;
@@ -33,7 +36,10 @@ fn turn(t: Turn, piece: &mut [u8], line: &mut [u8], out: &mut [u8]) -> Turn
     asked::next_turn(t, answered, piece, line, out)
 }
 
-fn run(piece: &mut [u8], line: &mut [u8], out: &mut [u8]) {
+// All turns, to the end of the input: the reply to every line that came, one behind the other.
+fn run(piece: &mut [u8], line: &mut [u8], out: &mut [u8])
+    ensures { λ _. ⌜ Run converting (length (now (line .entry))) tt (now (out .entry)) tt (now (out .exit)) ⌝ }
+{
     let mut t = asked::first_turn(piece, line, out);
     while 0 < t.left {
         t = turn(t, piece, line, out);

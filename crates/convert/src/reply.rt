@@ -1,14 +1,13 @@
 // The reply to a line, worked out and written.
 ghost use mathlib.Core.Path.{_≡_};
 ghost use mathlib.Core.List.{_++_};
-ghost use Prim.Native.Nat.{_≤_};
 ghost use Rattle.gregorian.specs.Answers.{dateSays};
 ghost use Rattle.conversion.specs.Answers.{bsSays};
 ghost use Rattle.conversion.specs.Own.{ownTable};
 ghost use Rattle.text.specs.Dashed.{dash};
+ghost use Rattle.text.specs.Written.{Wrote};
 ghost use Rattle.convert.specs.Lines.{numberText};
 ghost use Rattle.convert.specs.Replies.{fromBs, fromAdDate, bsReply, adReply, shownText, replyText, replyTo};
-ghost use Rattle.convert.specs.Inner.{Put};
 use crate::line;
 use crate::line::Line;
 use conversion::BsAnswer;
@@ -130,8 +129,7 @@ fn ad_reply(y: u16, m: u16, d: u16) -> Reply
 
 // Writes a number in so many digits, or in the fewest for width 0.
 fn put_number(out: &mut [u8], at: usize, n: u16, width: u8) -> usize
-    requires { ⌜ width ≤ 4 ⌝ }
-    ensures { λ r. ⌜ Put 5 (now (out .entry)) at (numberText width n) (now (out .exit)) r ⌝ }
+    ensures { λ r. ⌜ Wrote (now (out .entry)) at (numberText width n) (now (out .exit)) r ⌝ }
 {
     if width == 0 {
         return text::put_decimal(out, at, n as u64);
@@ -141,8 +139,7 @@ fn put_number(out: &mut [u8], at: usize, n: u16, width: u8) -> usize
 
 // The same behind a dash.
 fn put_next(out: &mut [u8], at: usize, n: u16, width: u8) -> usize
-    requires { ⌜ width ≤ 4 ⌝ }
-    ensures { λ r. ⌜ Put 6 (now (out .entry)) at (dash ++ numberText width n) (now (out .exit)) r ⌝ }
+    ensures { λ r. ⌜ Wrote (now (out .entry)) at (dash ++ numberText width n) (now (out .exit)) r ⌝ }
 {
     let a = text::put(out, at, b"-");
     put_number(out, a, n, width)
@@ -150,8 +147,7 @@ fn put_next(out: &mut [u8], at: usize, n: u16, width: u8) -> usize
 
 // Writes a date with numbers of these widths, or none.
 fn put_shown(out: &mut [u8], at: usize, shown: Shown, first: u8, others: u8) -> usize
-    requires { ⌜ («first» ≤ 4) × (others ≤ 4) ⌝ }
-    ensures { λ r. ⌜ Put 17 (now (out .entry)) at (shownText «first» others shown) (now (out .exit)) r ⌝ }
+    ensures { λ r. ⌜ Wrote (now (out .entry)) at (shownText «first» others shown) (now (out .exit)) r ⌝ }
 {
     match shown {
         Shown::Date(y, m, d) => {
@@ -165,7 +161,7 @@ fn put_shown(out: &mut [u8], at: usize, shown: Shown, first: u8, others: u8) -> 
 
 // Writes the three lines of a reply.
 fn put_reply(out: &mut [u8], at: usize, reply: Reply) -> usize
-    ensures { λ r. ⌜ Put 64 (now (out .entry)) at (replyText reply) (now (out .exit)) r ⌝ }
+    ensures { λ r. ⌜ Wrote (now (out .entry)) at (replyText reply) (now (out .exit)) r ⌝ }
 {
     let bs = reply.bs;
     let ad = reply.ad;
@@ -180,7 +176,7 @@ fn put_reply(out: &mut [u8], at: usize, reply: Reply) -> usize
 
 // Writes the reply to a line from a place on, and answers the place after it. A line of another form is skipped.
 pub fn put_line(out: &mut [u8], at: usize, s: &[u8]) -> usize
-    ensures { λ r. ⌜ Put 64 (now (out .entry)) at (replyTo (now (s .entry))) (now (out .exit)) r ⌝ }
+    ensures { λ r. ⌜ Wrote (now (out .entry)) at (replyTo (now (s .entry))) (now (out .exit)) r ⌝ }
 {
     match line::read_line(s) {
         Line::Bs(y, m, d) => put_reply(out, at, bs_reply(y, m, d)),

@@ -10,6 +10,8 @@ use lib.Dec.{ltb}
 use lib.ListN.{length}
 use lib.Seq.{length-sets}
 use Rattle.paper.proofs.Tests.{split}
+use Rattle.text.specs.Kept.{Current, short, long}
+use Rattle.lines.specs.Lines.{linesOf}
 use Rattle.conversion.specs.declared.Table.{Table}
 use Rattle.fields.specs.declared.row.Judged.{Judged}
 use Rattle.fields.specs.declared.row.Judged.the-variants as judged
@@ -22,7 +24,7 @@ use Rattle.files.specs.declared.Wrong.{Wrong}
 use Rattle.files.specs.declared.Wrong.the-variants as wrong
 use Rattle.files.specs.declared.reading.Fault.the-variants as fault
 use Rattle.files.specs.declared.reading.Reading.{Reading}
-use Rattle.files.specs.File.{Came, text, long, End, over, broken, File, shut, holds, Made, made, begin, numbered, begun, fails, stored, taken, wanted}
+use Rattle.files.specs.File.{End, over, broken, until, File, shut, holds, Made, made, begin, numbered, begun, fails, stored, taken, wanted}
 use Rattle.files.specs.File.{withJudged, withLine, withCame, withNext, well, unlessFaulty, after, ended, width, readAll, tableAs, rulesAs, ReadsTable, ReadsRules}
 use Rattle.files.specs.Problems.{wrongWith}
 
@@ -48,12 +50,12 @@ judged-fits x s ns judged.Good f = either (x .reading .awaits) (made (begun ns (
 judged-fits x s ns judged.NoNumber f = f
 judged-fits x s ns judged.OtherCount f = f
 
-came-fits : (w : ℕ) (x : Made) (l : Came) → Fits x → Fits (withCame w x l)
+came-fits : (w : ℕ) (x : Made) (l : Current) → Fits x → Fits (withCame w x l)
 unfolding withLine
-came-fits w x (text s) f = judged-fits x s (numbersOf (wordsOf s)) (judgedAs (wanted w (x .reading .awaits)) (rowOf s .form)) f
+came-fits w x (short s) f = judged-fits x s (numbersOf (wordsOf s)) (judgedAs (wanted w (x .reading .awaits)) (rowOf s .form)) f
 came-fits w x long f = f
 
-next-fits : (w : ℕ) (x : Made) (l : Came) → Fits x → Fits (withNext w x l)
+next-fits : (w : ℕ) (x : Made) (l : Current) → Fits x → Fits (withNext w x l)
 unfolding withNext
 next-fits w x l f =
     let y = made (numbered (x .reading)) (x .rows) (x .names) in
@@ -63,18 +65,19 @@ unless-fits : (x y : Made) → Fits x → Fits y → Fits (unlessFaulty x y)
 unfolding unlessFaulty
 unless-fits x y f g = either (well (x .reading .fault)) y x g f
 
-after-fits : (w : ℕ) (x : Made) (ls : List Came) → Fits x → Fits (after w x ls)
+after-fits : (w : ℕ) (x : Made) (ls : List Current) → Fits x → Fits (after w x ls)
 after-fits w x [] f = f
 after-fits w x (l ∷ ls) f = after-fits w (unlessFaulty x (withNext w x l)) ls (unless-fits x (withNext w x l) f (next-fits w x l f))
 
 ended-fits : (x : Made) (e : End) → Fits x → Fits (ended x e)
 ended-fits x over f = f
-ended-fits x broken f = unless-fits x (fails fault.NotRead x) f f
+ended-fits x (broken n) f = unless-fits x (fails fault.NotRead x) f f
 
 file-fits : (awaits : Bool) (rows names : List ℕ) (file : File) → Fits (readAll awaits rows names file)
 file-fits awaits rows names shut = omega arith
-file-fits awaits rows names (holds ls e) =
+file-fits awaits rows names (holds bytes e) =
     let x = made (begin awaits) rows names in
+    let ls = until e (linesOf 4096 bytes) in
     ended-fits (after (width awaits) x ls) e (after-fits (width awaits) x ls (omega arith))
 
 -- ---- the answers

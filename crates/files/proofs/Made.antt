@@ -1,11 +1,12 @@
 -- What a file makes, line by line: each step over plain variables, and the steps one after the other. Assumes nothing.
-use Prim.Native.Nat.{ℕ, _+_, _/_, _≤_, _<_}
+use Prim.Native.Nat.{ℕ, zero, suc, _+_, _/_, _≤_, _<_}
 use mathlib.Core.Path.{_≡_, refl, sym, ap, _∙_}
-use mathlib.Core.Bool.{Bool, true, false, cond}
+use mathlib.Core.Bool.{Bool, true, false}
 use mathlib.Core.List.{List, [], _∷_, _++_}
 use native.Mathlib.Nat.{add-zero}
 use native.Mathlib.Omega.{arith}
-use borrow.Author.Tests.{le-leb, lt-leb, lt-ltb, le-ltb}
+use borrow.Author.Tests.{le-leb, lt-leb, lt-ltb, le-ltb, eq-eqb, ne-eqb}
+use lib.Dec.{eqb}
 use lib.ListN.{length, getD, take, drop, set, drop-of-length-le}
 use lib.Seq.{sets, getD-take, length-take-le}
 use Rattle.paper.proofs.Stores.{sets-turn}
@@ -18,9 +19,13 @@ use Rattle.fields.specs.declared.row.Judged.{Judged}
 use Rattle.fields.specs.declared.row.Judged.the-variants as judged
 use Rattle.fields.specs.Line.{numbersOf, wordsOf, rowOf, judgedAs, named}
 use Rattle.fields.proofs.Rows.{front-numbers}
-use Rattle.files.specs.File.{Came, cameAs, End, over, broken, Made, made, numbered, faulted, begun, counted, fails, stored, taken, wanted, withJudged}
+use Rattle.text.specs.Kept.{Current, current}
+use Rattle.lines.specs.declared.Input.{Input}
+use Rattle.lines.specs.Lines.{started, waiting, lineIn, NextLine, linesOf}
+use Rattle.lines.proofs.Told.{Stand, closed, stand-first, stand-begins, begins-front, Later, line-more, no-more, cut-off, stand-next}
+use Rattle.files.specs.File.{over, broken, cameAs, Made, made, numbered, faulted, begun, counted, fails, stored, taken, wanted, withJudged}
 use Rattle.files.specs.File.{withLine, withNext, well, unlessFaulty, after, ended, shut, holds, begin, width, tableOf, ReadsTable, rulesOf, ReadsRules}
-use Rattle.files.specs.Inner.{Makes, Reads}
+use Rattle.files.specs.Inner.{withInput, Makes, Reads}
 
 -- ---- numbers that are stored
 
@@ -110,55 +115,140 @@ module _ (w : ℕ) (r : Reading) (rows names s : List ℕ) (b : Bool) where
     unfolding withNext
     next-text f t = t ∙ rw (e, f, lt-ltb (r .line) 10000 h)
 
+-- ---- what the input brings
+
+module _ (w : ℕ) (x : Made) (input : Input) (line : List ℕ) where
+  pub input-broken : input .failed ≡ true → fails fault.NotRead x ≡ withInput w x input line
+  unfolding withInput
+  input-broken f = rw f
+
+  pub input-over : input .failed ≡ false → input .left ≡ 0 → x ≡ withInput w x input line
+  unfolding withInput
+  input-over f z = rw (f, eq-eqb (input .left) 0 z)
+
+  pub input-line : input .failed ≡ false → (input .left ≡ 0 → ⊥) → withNext w x (cameAs (input .long) (take (input .len) line)) ≡ withInput w x input line
+  unfolding withInput
+  input-line f n = rw (f, ne-eqb (input .left) 0 n) (ap (withNext w x) (go (input .long)))
+    where
+      go : (b : Bool) → cameAs b (take (input .len) line) ≡ current line (input .len) b
+      go true = refl
+      go false = refl
+
 -- ---- lines one after the other
 
-pub after-append : (w : ℕ) (ls ms : List Came) (x : Made) → after w x (ls ++ ms) ≡ after w (after w x ls) ms
+after-more : (w : ℕ) (ls : List Current) (l : Current) (x : Made) → well (after w x ls .reading .fault) ≡ true → after w x (ls ++ (l ∷ [])) ≡ withNext w (after w x ls) l
+unfolding unlessFaulty
+after-more w [] l x h = rw h
+after-more w (k ∷ ls) l x h = after-more w ls l (unlessFaulty x (withNext w x k)) h
+
+after-append : (w : ℕ) (ls ms : List Current) (x : Made) → after w x (ls ++ ms) ≡ after w (after w x ls) ms
 after-append w [] ms x = refl
 after-append w (l ∷ ls) ms x = after-append w ls ms (unlessFaulty x (withNext w x l))
 
--- where nothing is wrong, the lines are not broken off
-ended-well : (x : Made) (e : End) → well (ended x e .reading .fault) ≡ true → ended x e ≡ x
+-- nothing behind a fault counts
+after-faulty : (w : ℕ) (ls : List Current) (x : Made) → well (x .reading .fault) ≡ false → after w x ls ≡ x
 unfolding unlessFaulty
-ended-well x over h = refl
-ended-well x broken h = go (well (x .reading .fault)) h
-  where
-    go : (b : Bool) → well (cond b (fails fault.NotRead x) x .reading .fault) ≡ true → cond b (fails fault.NotRead x) x ≡ x
-    go true q = absurd (let z : _≡_ {A = ℕ} 0 1 = cc in let n : ⊥ = omega arith in n)
-    go false q = refl
+after-faulty w [] x h = refl
+after-faulty w (l ∷ ls) x h = rw h (after-faulty w ls x h)
 
-pub follow : {w : ℕ} {x y z : Made} → Makes w x y → well (y .reading .fault) ≡ true → Makes w y z → Makes w x z
-follow {w} {x} {y} {z} a h b =
-    let e : y ≡ after w x (a .lines) = a .same ∙ ended-well (after w x (a .lines)) (a .ends) (rw (a .same) at h) in
-    record {
-      lines = a .lines ++ b .lines;
-      ends = b .ends;
-      same = b .same ∙ rw (e, after-append w (a .lines) (b .lines) x);
-    }
+-- where a reading stands after the lines of an input so far
+pub record Stood (room w : ℕ) (x y : Made) (piece : List ℕ) (input : Input) : Type 0 where
+  pub lines : List Current
+  pub bytes : List ℕ
+  pub stand : Stand room bytes lines (input .ends) (waiting piece input)
+  pub same : y ≡ after w x lines
+  pub over : input .left ≡ 0 → linesOf room bytes ≡ lines
 
--- no line yet
-pub makes-same : {w : ℕ} {x : Made} → Makes w x x
-makes-same = record { lines = []; ends = over; same = refl }
+pub stood-first : {room w : ℕ} {x : Made} {piece : List ℕ} {input : Input} (steps : ℕ) → 0 < steps → input ≡ started steps → Stood room w x x piece input
+stood-first {room} {piece = piece} steps h e =
+    rw e (record { lines = []; bytes = []; stand = stand-first room steps piece; same = refl; over = λ z. absurd (let bad : ⊥ = omega arith in bad) })
 
-pub makes-broken : {w : ℕ} {q r : Reading} {rows names : List ℕ} → well (r .fault) ≡ true → q ≡ faulted fault.NotRead r
-    → Makes w (made r rows names) (made q rows names)
-unfolding unlessFaulty
-makes-broken h e = record { lines = []; ends = broken; same = rw (e, h) }
+module _ {room w : ℕ} {x y z : Made} {piece line piece' line' : List ℕ} {input r : Input} (s : Stood room w x y piece input) (ok : well (y .reading .fault) ≡ true)
+    (k : length line ≡ room) (n : NextLine input piece line piece' line' r) (m : z ≡ withInput w y r line') where
+  later : Later room (s .lines) piece' line' r
+  later = let st : Stand (length line) (s .bytes) (s .lines) (input .ends) (waiting piece input) = rw k (s .stand) in rw k at (stand-next st n)
 
-pub makes-line : {w : ℕ} {x y : Made} → well (x .reading .fault) ≡ true → (l : Came) → y ≡ withNext w x l → Makes w x y
-unfolding unlessFaulty
-makes-line h l e = record { lines = l ∷ []; ends = over; same = rw h e }
+  -- a line that came is one line more
+  came-line : r .failed ≡ eqb (r .left) 0 → (r .left ≡ 0 → ⊥) → z ≡ after w x (s .lines ++ (lineIn line' r ∷ []))
+  unfolding withInput
+  came-line f l =
+      let e : eqb (r .left) 0 ≡ false = ne-eqb (r .left) 0 l in
+      let g : r .failed ≡ false = f ∙ e in
+      m ∙ (rw (g, e, s .same) (sym (after-more w (s .lines) (lineIn line' r) x (rw (s .same) at ok))))
+
+  came-none : r .failed ≡ false → r .left ≡ 0 → z ≡ after w x (s .lines)
+  came-none f e = m ∙ (sym (input-over w y r line' f e) ∙ s .same)
+
+  came-broken : r .failed ≡ true → z ≡ fails fault.NotRead y
+  came-broken f = m ∙ sym (input-broken w y r line' f)
+
+  makes-broken : r .failed ≡ true → Makes room w x z
+  unfolding unlessFaulty
+  makes-broken f =
+      let e : y ≡ after w x (take (length (s .lines)) (linesOf room (s .bytes))) = s .same ∙ ap (after w x) (begins-front (stand-begins (s .stand))) in
+      let q : ended y (broken (length (s .lines))) ≡ fails fault.NotRead y = rw ok in
+      record { bytes = s .bytes; ends = broken (length (s .lines)); same = came-broken f ∙ (sym q ∙ ap (λ (v : Made). ended v (broken (length (s .lines)))) e) }
+
+  -- a reading that goes on
+  pub stood-turn : well (z .reading .fault) ≡ true → Stood room w x z piece' r
+  stood-turn h = go later
+    where
+      not-broken : r .failed ≡ true → ⊥
+      not-broken f = let e : well (fails fault.NotRead y .reading .fault) ≡ true = rw (came-broken f) at h in let b : _≡_ {A = ℕ} 0 1 = cc in omega arith
+
+      more : (left : ℕ) → r .left ≡ left → (b : List ℕ) → Stand room b (s .lines ++ (lineIn line' r ∷ [])) (r .ends) (waiting piece' r) → r .failed ≡ eqb (r .left) 0 → Stood room w x z piece' r
+      more zero e b st f = absurd (not-broken (f ∙ eq-eqb (r .left) 0 e))
+      more (suc left) e b st f =
+          let l : r .left ≡ 0 → ⊥ = λ q. omega arith in
+          record { lines = s .lines ++ (lineIn line' r ∷ []); bytes = b; stand = st; same = came-line f l; over = λ q. absurd (l q) }
+
+      go : Later room (s .lines) piece' line' r → Stood room w x z piece' r
+      go (line-more b st f) = more (r .left) refl b st f
+      go (no-more b e q) = record {
+        lines = s .lines;
+        bytes = b;
+        stand = closed (ap (λ (i : Input). i .ends) q) e;
+        same = came-none (ap (λ (i : Input). i .failed) q) (ap (λ (i : Input). i .left) q);
+        over = λ l. e;
+      }
+      go (cut-off q) = absurd (not-broken (ap (λ (i : Input). i .failed) q))
+
+  -- a reading that ends with a fault
+  pub stood-fault : well (z .reading .fault) ≡ false → Makes room w x z
+  stood-fault h = go later
+    where
+      more : (left : ℕ) → r .left ≡ left → (b : List ℕ) → Stand room b (s .lines ++ (lineIn line' r ∷ [])) (r .ends) (waiting piece' r) → r .failed ≡ eqb (r .left) 0 → Makes room w x z
+      more zero e b st f = makes-broken (f ∙ eq-eqb (r .left) 0 e)
+      more (suc left) e b st f =
+          let ls : List Current = s .lines ++ (lineIn line' r ∷ []) in
+          let c : z ≡ after w x ls = came-line f (λ q. omega arith) in
+          let o = stand-begins st in
+          record {
+            bytes = b;
+            ends = over;
+            same = sym (ap (after w x) (o .same) ∙ (after-append w ls (o .others) x ∙ (ap (λ (v : Made). after w v (o .others)) (sym c) ∙ after-faulty w (o .others) z h)));
+          }
+
+      go : Later room (s .lines) piece' line' r → Makes room w x z
+      go (line-more b st f) = more (r .left) refl b st f
+      go (no-more b e q) = record { bytes = b; ends = over; same = came-none (ap (λ (i : Input). i .failed) q) (ap (λ (i : Input). i .left) q) ∙ ap (after w x) (sym e) }
+      go (cut-off q) = makes-broken (ap (λ (i : Input). i .failed) q)
+
+-- and one at the input's end
+pub stood-over : {room w : ℕ} {x y : Made} {piece : List ℕ} {input : Input} → Stood room w x y piece input → input .left ≡ 0 → Makes room w x y
+stood-over {w = w} {x = x} s e = record { bytes = s .bytes; ends = over; same = s .same ∙ ap (after w x) (sym (s .over e)) }
 
 -- ---- a whole file
 
-pub makes-from : {v w : ℕ} {p r : Reading} {rows names : List ℕ} {y : Made} → v ≡ w → p ≡ r → Makes v (made p rows names) y → Makes w (made r rows names) y
+pub makes-from : {room v w : ℕ} {p r : Reading} {rows names : List ℕ} {y : Made} → v ≡ w → p ≡ r → Makes room v (made p rows names) y → Makes room w (made r rows names) y
 makes-from e f m = rw (← e, ← f) m
 
 module _ {awaits : Bool} {rows names : List ℕ} where
   pub reads-shut : {q r : Reading} → q ≡ faulted fault.NotOpened r → r ≡ begin awaits → Reads awaits rows names (made q rows names)
   reads-shut e f = record { file = shut; same = rw (e, f) }
 
-  pub reads-lines : {y : Made} → Makes (width awaits) (made (begin awaits) rows names) y → Reads awaits rows names y
-  reads-lines m = record { file = holds (m .lines) (m .ends); same = m .same }
+  pub reads-lines : {y : Made} → Makes 4096 (width awaits) (made (begin awaits) rows names) y → Reads awaits rows names y
+  reads-lines m = record { file = holds (m .bytes) (m .ends); same = m .same }
 
 pub table-read : {q : Reading} {rows left names : List ℕ} {t : TableRead} → Reads true rows [] (made q left names) → t ≡ tableOf q → ReadsTable rows t left
 table-read r e = record {

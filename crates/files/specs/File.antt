@@ -5,8 +5,10 @@ use mathlib.Core.Bool.{Bool, true, false, cond}
 use mathlib.Core.Path.{_≡_}
 use mathlib.Core.List.{List, [], _∷_}
 use lib.Dec.{ltb, leb}
-use lib.ListN.{length, getD}
+use lib.ListN.{length, getD, take}
 use lib.Seq.{sets}
+use Rattle.text.specs.Kept.{Current, short, long}
+use Rattle.lines.specs.Lines.{linesOf}
 use Rattle.files.specs.declared.TableRead.{TableRead}
 use Rattle.files.specs.declared.TableRead.the-variants as tableRead
 use Rattle.files.specs.declared.RulesRead.{RulesRead}
@@ -23,25 +25,25 @@ use Rattle.files.specs.Problems.{wrongWith}
 
 -- ---- what a path names
 
--- a line without its line feed: its bytes, or that it is longer than 4,096 of them
-pub data Came : Type 0 where
-  text : List ℕ → Came
-  long : Came
-
--- a line that was too long, or these bytes
-abbrev pub cameAs : Bool → List ℕ → Came
-cameAs true s = long
-cameAs false s = text s
-
--- how the lines end: with the file, or before, where it cannot be read on
+-- how a file ends: read to its end, or after so many lines, where it cannot be read on
 pub data End : Type 0 where
   over : End
-  broken : End
+  broken : ℕ → End
 
--- nothing that can be opened; or lines, and how they end
+-- nothing that can be opened; or bytes, and how they end
 pub data File : Type 0 where
   shut : File
-  holds : List Came → End → File
+  holds : List ℕ → End → File
+
+-- a line that was too long, or these bytes
+abbrev pub cameAs : Bool → List ℕ → Current
+cameAs true s = long
+cameAs false s = short s
+
+-- the lines that are read by then
+abbrev pub until : End → List Current → List Current
+until over ls = ls
+until (broken n) ls = take n ls
 
 -- ---- what its lines make
 
@@ -118,12 +120,12 @@ unfoldable pub withLine : ℕ → Made → List ℕ → Made
 withLine w x s = withJudged x s (numbersOf (wordsOf s)) (judgedAs (wanted w (x .reading .awaits)) (rowOf s .form))
 
 -- a line that is too long is a fault
-abbrev pub withCame : ℕ → Made → Came → Made
-withCame w x (text s) = withLine w x s
+abbrev pub withCame : ℕ → Made → Current → Made
+withCame w x (short s) = withLine w x s
 withCame w x long = fails fault.LongLine x
 
 -- a file has at most 10,000 lines: where one more comes, the last was to be the end
-unfoldable pub withNext : ℕ → Made → Came → Made
+unfoldable pub withNext : ℕ → Made → Current → Made
 withNext w x l =
     cond (ltb (x .reading .line) 10000)
     (withCame w (made (numbered (x .reading)) (x .rows) (x .names)) l)
@@ -144,14 +146,14 @@ unfoldable pub unlessFaulty : Made → Made → Made
 unlessFaulty x y = cond (well (x .reading .fault)) y x
 
 -- lines, the first first
-abbrev pub after : ℕ → Made → List Came → Made
+abbrev pub after : ℕ → Made → List Current → Made
 after w x [] = x
 after w x (l ∷ ls) = after w (unlessFaulty x (withNext w x l)) ls
 
 -- lines that break off are a fault
 abbrev pub ended : Made → End → Made
 ended x over = x
-ended x broken = unlessFaulty x (fails fault.NotRead x)
+ended x (broken n) = unlessFaulty x (fails fault.NotRead x)
 
 -- ---- a whole file
 
@@ -159,10 +161,14 @@ ended x broken = unlessFaulty x (fails fault.NotRead x)
 unfoldable pub width : Bool → ℕ
 width awaits = cond awaits 13 8
 
--- a table, where its first line is awaited, or a list of rules
+-- what the lines of these bytes make, where so many bytes of each are kept
+abbrev pub readBytes : ℕ → ℕ → Made → List ℕ → End → Made
+readBytes room w x bytes e = ended (after w x (until e (linesOf room bytes))) e
+
+-- a table, where its first line is awaited, or a list of rules; a line has at most 4,096 bytes
 abbrev pub readAll : Bool → List ℕ → List ℕ → File → Made
 readAll awaits rows names shut = fails fault.NotOpened (made (begin awaits) rows names)
-readAll awaits rows names (holds ls e) = ended (after (width awaits) (made (begin awaits) rows names) ls) e
+readAll awaits rows names (holds bytes e) = readBytes 4096 (width awaits) (made (begin awaits) rows names) bytes e
 
 -- a table's first line and how many numbers its rows have; or what is wrong
 abbrev pub tableAs : Reading → Wrong → TableRead

@@ -1,15 +1,23 @@
 -- What the loop over a file's lines promises its caller. Assumes nothing.
 use Prim.Native.Nat.{ℕ}
-use mathlib.Core.Bool.{Bool}
+use mathlib.Core.Bool.{Bool, cond}
 use mathlib.Core.Path.{_≡_}
 use mathlib.Core.List.{List}
-use Rattle.files.specs.File.{Came, End, File, Made, after, ended, readAll}
+use lib.Dec.{eqb}
+use Rattle.lines.specs.declared.Input.{Input}
+use Rattle.lines.specs.Lines.{lineIn}
+use Rattle.files.specs.declared.reading.Fault.the-variants as fault
+use Rattle.files.specs.File.{End, File, Made, fails, withNext, readBytes, readAll}
 
--- some lines and how they end make y of x
-pub record Makes (w : ℕ) (x y : Made) : Type 0 where
-  pub lines : List Came
+-- a line in the lent buffer, the input's end, or that it cannot be read on
+unfoldable pub withInput : ℕ → Made → Input → List ℕ → Made
+withInput w x input line = cond (input .failed) (fails fault.NotRead x) (cond (eqb (input .left) 0) x (withNext w x (lineIn line input)))
+
+-- some bytes and how they end make y of x
+pub record Makes (room w : ℕ) (x y : Made) : Type 0 where
+  pub bytes : List ℕ
   pub ends : End
-  pub same : y ≡ ended (after w x lines) ends
+  pub same : y ≡ readBytes room w x bytes ends
 
 -- some file makes y
 pub record Reads (awaits : Bool) (rows names : List ℕ) (y : Made) : Type 0 where

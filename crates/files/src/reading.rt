@@ -6,7 +6,7 @@ ghost use lib.ListN.{length, take};
 ghost use lib.Seq.{sets};
 ghost use Rattle.files.specs.File as File;
 ghost use Rattle.files.specs.File.{made, begin, well, withLine, withNext, cameAs};
-ghost use Rattle.files.specs.Inner.{Makes, Reads};
+ghost use Rattle.files.specs.Inner.{withInput, Makes, Reads};
 use conversion::Table;
 use fields::Judged;
 use lines::Input;
@@ -229,8 +229,9 @@ fn with_input(
     input: Input,
     line: &[u8],
 ) -> Reading
-    requires { ⌜ (width ≤ 13) × (well (r .fault) ≡ true) × (input .len ≤ length (now line)) ⌝ }
-    ensures { λ q. ⌜ Makes width (made r (now (rows .entry)) (now (names .entry))) (made q (now (rows .exit)) (now (names .exit))) ⌝ }
+    requires { ⌜ (width ≤ 13) × (input .len ≤ length (now line)) ⌝ }
+    ensures { λ q. ⌜ made q (now (rows .exit)) (now (names .exit)) ≡
+        withInput width (made r (now (rows .entry)) (now (names .entry))) input (now (line .entry)) ⌝ }
 {
     let n = input.len;
     if input.failed {
@@ -253,7 +254,8 @@ fn read_lines(
     line: &mut [u8],
 ) -> Reading
     requires { ⌜ (width ≤ 13) × (well (r .fault) ≡ true) ⌝ }
-    ensures { λ q. ⌜ Makes width (made r (now (rows .entry)) (now (names .entry))) (made q (now (rows .exit)) (now (names .exit))) ⌝ }
+    ensures { λ q. ⌜ Makes (length (now (line .entry))) width (made r (now (rows .entry)) (now (names .entry)))
+        (made q (now (rows .exit)) (now (names .exit))) ⌝ }
 {
     let mut q = r;
     let mut input = lines::start(50000);
@@ -276,7 +278,7 @@ fn width(awaits: bool) -> usize
 
 // The reading of a descriptor from its first line: of a table, where its first line is awaited, or of rules.
 fn read_open(fd: i32, awaits: bool, rows: &mut [u16], names: &mut [u8]) -> Reading
-    ensures { λ q. ⌜ Makes (File.width awaits) (made (begin awaits) (now (rows .entry)) (now (names .entry)))
+    ensures { λ q. ⌜ Makes 4096 (File.width awaits) (made (begin awaits) (now (rows .entry)) (now (names .entry)))
         (made q (now (rows .exit)) (now (names .exit))) ⌝ }
 {
     let mut piece = [0u8; 4096];

@@ -12,7 +12,7 @@ use Rattle.text.specs.Kept.{Current, short, more, current, holds, whole, going,
 use Rattle.text.specs.declared.keeping.Held.{Held}
 use Rattle.text.specs.declared.keeping.Filled.the-variants.{Feed, Open}
 use Rattle.lines.specs.declared.Input.{Input}
-use Rattle.lines.specs.Lines.{ended, given, lastOf, front, waiting, fed, last, over, unread, NextLine}
+use Rattle.lines.specs.Lines.{ended, given, lastOf, front, waiting, handed, fed, last, over, unread, NextLine}
 
 -- a line that is open after some bytes goes on with more of them
 line-on : (room : ℕ) (c d : Current) (s t : List ℕ) → going d ≡ line room c s → line room d t ≡ line room c (s ++ t)
@@ -44,7 +44,7 @@ length-given : (room kept : ℕ) (skipping : Bool) → kept ≤ room → cond sk
 length-given room kept true h = omega arith
 length-given room kept false h = h
 
-front-none : (piece : List ℕ) → front piece 0 ≡ []
+pub front-none : (piece : List ℕ) → front piece 0 ≡ []
 front-none piece = rw (le-leb 0 (length piece) (omega arith))
 
 kept-some : (buffer : List ℕ) (kept : ℕ) → suc kept ≤ length buffer → short (take (suc kept) buffer) ≡ short [] → ⊥
@@ -65,14 +65,25 @@ reads-more {room} {first = first} {after = after} {read = read} {h = h} r l f = 
   inside = rw l at (f .inside (rw l (r .inside)));
 }
 
-module _ (input : Input) (piece₀ buffer₀ : List ℕ) (left : ℕ) (fewer : left ≤ input .left - 1) where
+-- an input that goes on is not over
+on-past : {ends : Bool} {r : Input} → ends ≡ false → ends ≡ true → r ≡ ended false
+on-past g e = absurd (let z : _≡_ {A = ℕ} 0 1 = cc in let bad : ⊥ = omega arith in bad)
+
+-- a line too long is handed over empty
+bytes-given : (buffer : List ℕ) (kept : ℕ) (skipping : Bool) → take (cond skipping 0 kept) buffer ≡ handed (current buffer (cond skipping 0 kept) skipping)
+bytes-given buffer kept true = refl
+bytes-given buffer kept false = refl
+
+module _ (input : Input) (piece₀ buffer₀ : List ℕ) (left : ℕ) (goes : input .ends ≡ false) (fewer : left ≤ input .left - 1) where
   -- the line feed came
   pub next-fed : (piece : List ℕ) (to : ℕ) {from next : ℕ} {buffer after : List ℕ} {held h : Held}
       → Reads (length buffer₀) (waiting piece₀ input) buffer held (drop from (front piece to)) → length buffer ≡ length buffer₀
-      → Fills (front piece to) from buffer held after (Feed h next) → NextLine input piece₀ buffer₀ piece after (given h left next to)
+      → Fills (front piece to) from buffer held after (Feed h next) → NextLine input piece₀ buffer₀ piece after (given h left false next to)
   next-fed piece to {next = next} {after = after} {h = h} r l f = record {
     came = r .came;
-    next = fed (sym (rw l at (f .same) ∙ r .same) ∙ ap (λ (c : Current). whole c (drop next (front piece to))) (held-given after (h .kept) (h .skipping))) refl;
+    next = λ g. fed (sym (rw l at (f .same) ∙ r .same) ∙ ap (λ (c : Current). whole c (drop next (front piece to))) (held-given after (h .kept) (h .skipping))) refl refl;
+    past = on-past goes;
+    bytes = bytes-given after (h .kept) (h .skipping);
     inside = length-given (length buffer₀) (h .kept) (h .skipping) (rw l at (f .inside (rw l (r .inside))));
     fewer = fewer;
   }
@@ -82,11 +93,11 @@ module _ (input : Input) (piece₀ buffer₀ : List ℕ) (left : ℕ) (fewer : l
       → line (length buffer₀) (short []) (waiting piece₀ input ++ came) ≡ going (current after kept skipping)
       → NextLine input piece₀ buffer₀ piece after (lastOf (record { kept = kept; skipping = skipping }) left)
   over-held piece came after kept true h l e =
-      record { came = came; next = last e (λ z. let bad : _≡_ {A = ℕ} 0 1 = cc in omega arith) (front-none piece) refl; inside = omega arith; fewer = fewer }
-  over-held piece came after zero false h l e = record { came = came; next = over e refl; inside = omega arith; fewer = omega arith }
+      record { came = came; next = λ g. last e (λ z. let bad : _≡_ {A = ℕ} 0 1 = cc in omega arith) refl refl; past = on-past goes; bytes = refl; inside = omega arith; fewer = fewer }
+  over-held piece came after zero false h l e = record { came = came; next = λ g. over e refl; past = on-past goes; bytes = refl; inside = omega arith; fewer = omega arith }
   over-held piece came after (suc kept) false h l e =
       let n : eqb (suc kept) 0 ≡ false = ne-eqb (suc kept) 0 (λ z. omega arith) in
-      rw n (record { came = came; next = last e (kept-some after kept (omega arith)) (front-none piece) refl; inside = h; fewer = fewer })
+      rw n (record { came = came; next = λ g. last e (kept-some after kept (omega arith)) refl refl; past = on-past goes; bytes = refl; inside = h; fewer = fewer })
 
   pub next-last : {from : ℕ} {piece buffer after p : List ℕ} {held h : Held}
       → Reads (length buffer₀) (waiting piece₀ input) buffer held (drop from p) → length buffer ≡ length buffer₀ → length after ≡ length buffer₀
@@ -95,5 +106,16 @@ module _ (input : Input) (piece₀ buffer₀ : List ℕ) (left : ℕ) (fewer : l
       over-held piece (r .came) after (h .kept) (h .skipping) (rw l at (f .inside (rw l (r .inside)))) k (sym (rw l at (f .same) ∙ r .same))
 
 -- a read failed, or the steps were used up
-pub next-unread : {input : Input} {piece₀ buffer₀ piece after : List ℕ} → NextLine input piece₀ buffer₀ piece after (ended true)
-next-unread = record { came = []; next = unread refl; inside = omega arith; fewer = omega arith }
+pub next-unread : {input : Input} {piece₀ buffer₀ piece after : List ℕ} → input .ends ≡ false → NextLine input piece₀ buffer₀ piece after (ended true)
+next-unread goes = record { came = []; next = λ g. unread refl; past = on-past goes; bytes = refl; inside = omega arith; fewer = omega arith }
+
+-- the input was over
+pub next-past : {input : Input} {piece₀ buffer₀ piece after : List ℕ} → input .ends ≡ true → NextLine input piece₀ buffer₀ piece after (ended false)
+next-past e = record {
+  came = [];
+  next = λ g. absurd (let z : _≡_ {A = ℕ} 0 1 = cc in let bad : ⊥ = omega arith in bad);
+  past = λ z. refl;
+  bytes = refl;
+  inside = omega arith;
+  fewer = omega arith;
+}

@@ -1,5 +1,6 @@
 // What a descriptor brings, a line at a time: each line stands at the start of a lent buffer.
 ghost use mathlib.Core.Path.{_≡_};
+ghost use mathlib.Core.Bool.{false};
 ghost use Rattle.text.specs.Kept.{Fills};
 ghost use lib.ListN.{drop};
 ghost use Rattle.lines.specs.Lines.{started, ended, given, lastOf, front, waiting, hasFeed, NextLine};
@@ -7,13 +8,15 @@ use text::Filled;
 use text::Held;
 
 // How many steps are left, 0 where there is no line any more; the length of the line, and whether it was too long for the buffer, when its length
-// is 0; whether a read failed, or the steps were used up, before the input was over; and which bytes of the piece that was read last are still to
-// be taken in. A proved loop has to end, and nothing says that an input does: so the steps are counted down.
+// is 0; whether a read failed, or the steps were used up, before the input was over; whether nothing comes behind the line, since the input is over;
+// and which bytes of the piece that was read last are still to be taken in. A proved loop has to end, and nothing says that an input does: so the
+// steps are counted down.
 pub struct Input {
     pub left: u64,
     pub len: usize,
     pub long: bool,
     pub failed: bool,
+    pub ends: bool,
     pub from: usize,
     pub to: usize,
 }
@@ -34,6 +37,7 @@ pub fn start(steps: u64) -> Input
         len: 0,
         long: false,
         failed: false,
+        ends: false,
         from: 0,
         to: 0,
     }
@@ -60,14 +64,15 @@ fn over(failed: bool) -> Input
         len: 0,
         long: false,
         failed,
+        ends: true,
         from: 0,
         to: 0,
     }
 }
 
 // The line that is held. One that was too long for the buffer is handed over empty.
-fn handed(held: Held, left: u64, from: usize, to: usize) -> Input
-    ensures { λ r. ⌜ r ≡ given held left from to ⌝ }
+fn handed(held: Held, left: u64, ends: bool, from: usize, to: usize) -> Input
+    ensures { λ r. ⌜ r ≡ given held left ends from to ⌝ }
 {
     let long = held.skipping;
     if long {
@@ -76,6 +81,7 @@ fn handed(held: Held, left: u64, from: usize, to: usize) -> Input
             len: 0,
             long,
             failed: left == 0,
+            ends,
             from,
             to,
         };
@@ -85,6 +91,7 @@ fn handed(held: Held, left: u64, from: usize, to: usize) -> Input
         len: held.kept,
         long,
         failed: left == 0,
+        ends,
         from,
         to,
     }
@@ -96,12 +103,12 @@ fn last(held: Held, left: u64) -> Input
 {
     let skipping = held.skipping;
     if skipping {
-        return handed(held, left, 0, 0);
+        return handed(held, left, true, 0, 0);
     }
     if held.kept == 0 {
         return over(false);
     }
-    handed(held, left, 0, 0)
+    handed(held, left, true, 0, 0)
 }
 
 // More of a line from what is left of the piece.
@@ -139,8 +146,9 @@ pub fn has_line(input: Input, piece: &[u8]) -> bool
     false
 }
 
-// The next line of the input. Pieces and line are kept in the lent buffers. A read that fails ends the input.
-pub fn next_line(fd: i32, input: Input, piece: &mut [u8], line: &mut [u8]) -> Input
+// The next line of an input that goes on.
+fn read_on(fd: i32, input: Input, piece: &mut [u8], line: &mut [u8]) -> Input
+    requires { ⌜ input .ends ≡ false ⌝ }
     ensures { λ r. ⌜ NextLine input (now (piece .entry)) (now (line .entry)) (now (piece .exit)) (now (line .exit)) r ⌝ }
 {
     let mut held = text::nothing();
@@ -151,7 +159,7 @@ pub fn next_line(fd: i32, input: Input, piece: &mut [u8], line: &mut [u8]) -> In
         left -= 1;
         match fill_on(piece, from, to, line, held) {
             Filled::Feed(h, next) => {
-                return handed(h, left, next, to);
+                return handed(h, left, false, next, to);
             }
             Filled::Open(h) => {
                 held = h;
@@ -171,4 +179,14 @@ pub fn next_line(fd: i32, input: Input, piece: &mut [u8], line: &mut [u8]) -> In
         }
     }
     over(true)
+}
+
+// The next line of the input. Pieces and line are kept in the lent buffers. A read that fails ends the input, and behind its end nothing is read.
+pub fn next_line(fd: i32, input: Input, piece: &mut [u8], line: &mut [u8]) -> Input
+    ensures { λ r. ⌜ NextLine input (now (piece .entry)) (now (line .entry)) (now (piece .exit)) (now (line .exit)) r ⌝ }
+{
+    if input.ends {
+        return over(false);
+    }
+    read_on(fd, input, piece, line)
 }

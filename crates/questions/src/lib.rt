@@ -5,7 +5,8 @@ ghost use lib.ListN.{length, take};
 ghost use Rattle.conversion.specs.Flat.{flat};
 ghost use Rattle.output.specs.Gathered.{Gathers};
 ghost use Rattle.questions.specs.Questions.{replyTo, wordsBy, answerWords};
-ghost use Rattle.questions.specs.Runs.{Lends, Answers, TurnDone};
+ghost use Rattle.questions.specs.Runs.{answering, loanOf, Lends, Answers};
+ghost use Rattle.asked.specs.Runs.{TurnDone};
 
 mod lists;
 mod months;
@@ -92,8 +93,8 @@ fn step(
     line: &mut [u8],
     out: &mut [u8],
 ) -> Stepped
-    ensures { λ r. ⌜ TurnDone t (record { lent = lent; rows = now (rows .entry); rules = now (rules .entry) }) (now (piece .entry))
-        (now (line .entry)) (now (out .entry)) (now (rows .exit)) (now (rules .exit)) (now (piece .exit)) (now (line .exit)) (now (out .exit)) r ⌝ }
+    ensures { λ r. ⌜ TurnDone answering t (loanOf lent (now (rows .entry)) (now (rules .entry))) (now (piece .entry)) (now (line .entry))
+        (now (out .entry)) (loanOf (r .lent) (now (rows .exit)) (now (rules .exit))) (now (piece .exit)) (now (line .exit)) (now (out .exit)) (r .turn) ⌝ }
 {
     let w = asked::split(line, t.len);
     let o = t.out;
@@ -105,7 +106,7 @@ fn step(
     }
 }
 
-// All turns, to the end of the input.
+// All turns, to the end of the input: every line that came is answered, in its order.
 fn run(
     first: Lent,
     rows: &mut [u16],
@@ -114,7 +115,7 @@ fn run(
     line: &mut [u8],
     out: &mut [u8],
 )
-    ensures { λ _. ⌜ Answers (record { lent = «first»; rows = now (rows .entry); rules = now (rules .entry) }) (now (out .entry)) (now (rows .exit))
+    ensures { λ _. ⌜ Answers (length (now (line .entry))) (loanOf «first» (now (rows .entry)) (now (rules .entry))) (now (out .entry)) (now (rows .exit))
         (now (rules .exit)) (now (out .exit)) ⌝ }
 {
     let mut t = asked::first_turn(piece, line, out);
@@ -128,7 +129,7 @@ fn run(
 
 // Answers every line of standard input on standard output, over what is lent at first and what lines lend in its place.
 pub fn answer_from(first: Lent, rows: &mut [u16], rules: &mut [u16])
-    ensures { λ _. ⌜ Lends (record { lent = «first»; rows = now (rows .entry); rules = now (rules .entry) }) (now (rows .exit)) (now (rules .exit)) ⌝ }
+    ensures { λ _. ⌜ Lends 4096 (loanOf «first» (now (rows .entry)) (now (rules .entry))) (now (rows .exit)) (now (rules .exit)) ⌝ }
 {
     let mut piece = [0u8; 4096];
     let mut line = [0u8; 4096];

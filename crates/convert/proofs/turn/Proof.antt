@@ -1,9 +1,9 @@
+-- `convert::turn` meets its contract. Assumes nothing.
 use mathlib.Core.Path.{sym}
 use lib.Seq.{length-take-le}
 use denote.Ref.{now}
-use native.Mathlib.Omega.{arith}
+use Rattle.convert.proofs.Puts.{turn-done}
 use borrow.Author.Needs.{needs}
-use Rattle.convert.proofs.Turns.{turn-inside}
 use Rattle.convert.proofs.turn.Statement.{statement}
 use Rattle.convert.proofs.turn.Tie as tie
 
@@ -13,9 +13,7 @@ slice-aggregate-answer c =
     sym (length-take-le (s .args .t .len) (now (s .args .line)) (s .pre))
 
 returns : tie.Need-returns
-returns c =
-    let t = c .before .before .before .before .before .before .next-turn .ensures in
-    (t .fewer, omega (arith, turn-inside t))
+returns c = turn-done (c .before .before .before .before .before .before .before .before .before .before .before .before .answer .ensures) (c .before .before .before .before .before .before .next-turn .ensures)
 
 pub turn-spec : {M : Type 1} → statement M
 turn-spec =

@@ -1,6 +1,6 @@
 -- `convert::reply::put_line` meets its contract. Assumes nothing.
 use mathlib.Core.Path.{sym}
-use Rattle.convert.proofs.Puts.{nothing-put}
+use Rattle.text.proofs.Writes.{wrote-none}
 use borrow.Author.Needs.{needs}
 use Rattle.convert.proofs.reply.put_line.Statement.{statement}
 use Rattle.convert.proofs.reply.put_line.Tie as tie
@@ -12,7 +12,7 @@ returns-2 : tie.Need-returns-2
 returns-2 c = rw (sym (c .before .before .before .before .before .before .before .before .read-line .ensures), c .before .before .before .before .before .before .y2 .given .1, ← c .before .before .before .ad-reply .ensures) (c .before .before .put-reply2 .ensures)
 
 returns-3 : tie.Need-returns-3
-returns-3 c = rw (sym (c .before .before .read-line .ensures), c .enum-told .given .1) (nothing-put (c .before .before .before .before .before .args .out .now) (c .before .before .before .before .before .args .at))
+returns-3 c = rw (sym (c .before .before .read-line .ensures), c .enum-told .given .1) (wrote-none (c .before .before .before .before .before .args .out .now) (c .before .before .before .before .before .args .at))
 
 pub put-line-spec : {M : Type 1} → statement M
 put-line-spec =

@@ -1,16 +1,12 @@
 -- `convert::reply::put_reply` meets its contract. Assumes nothing.
-use native.Mathlib.Omega.{arith}
-use mathlib.Core.Path.{refl}
-use Rattle.convert.proofs.Puts.{on, within, literal, fewest-put}
+use Rattle.text.proofs.Writes.{then}
 use borrow.Author.Needs.{needs}
 use Rattle.convert.proofs.reply.put_reply.Statement.{statement}
 use Rattle.convert.proofs.reply.put_reply.Tie as tie
 
 returns : tie.Need-returns
-returns c = let refusal = c .before .before .before .before .before .before .before .before .before .before .before .before .before .before .before .before .before .before .before .before .before .before .before .before .before .before .before .before .before .before .before .before .before .before .args .reply .refusal in
-    within (omega arith)
-    (on (literal 3 (omega arith) (c .before .before .before .before .before .before .before .before .before .before .before .before .before .before .before .before .before .before .before .before .before .before .before .before .before .before .before .before .before .before .put .ensures)) (on (c .before .before .before .before .before .before .before .before .before .before .before .before .before .before .before .before .before .before .before .before .before .before .before .before .before .before .put-shown .ensures) (on (literal 4 (omega arith) (c .before .before .before .before .before .before .before .before .before .before .before .before .before .before .before .before .before .before .before .before .before .put2 .ensures)) (on (c .before .before .before .before .before .before .before .before .before .before .before .before .before .before .before .before .before .put-shown2 .ensures)
-    (on (literal 9 (omega arith) (c .before .before .before .before .before .before .before .before .before .before .before .before .put3 .ensures)) (on (fewest-put 0 refusal (omega arith) refl (c .before .before .before .before .before .before .before .put-decimal .ensures)) (literal 1 (omega arith) (c .before .before .put4 .ensures))))))))
+returns c =
+    then (c .before .before .before .before .before .before .before .before .before .before .before .before .before .before .before .before .before .before .before .before .before .before .before .before .before .before .before .before .before .before .put .ensures) (then (c .before .before .before .before .before .before .before .before .before .before .before .before .before .before .before .before .before .before .before .before .before .before .before .before .before .before .put-shown .ensures) (then (c .before .before .before .before .before .before .before .before .before .before .before .before .before .before .before .before .before .before .before .before .before .put2 .ensures) (then (c .before .before .before .before .before .before .before .before .before .before .before .before .before .before .before .before .before .put-shown2 .ensures) (then (c .before .before .before .before .before .before .before .before .before .before .before .before .put3 .ensures) (then (c .before .before .before .before .before .before .before .put-decimal .ensures) (c .before .before .put4 .ensures))))))
 
 pub put-reply-spec : {M : Type 1} → statement M
 put-reply-spec =

@@ -1,38 +1,40 @@
 -- `files::reading::read_lines` meets its contract: the lines so far made what stands. The steps left fall. Assumes nothing.
 use mathlib.Core.Path.{_≡_, refl, sym, _∙_}
 use mathlib.Core.Bool.{true}
+use native.Mathlib.Omega.{arith}
 use lib.ListN.{length}
 use borrow.Author.Needs.{needs}
-use borrow.Author.Tests.{not-false}
+use borrow.Author.Tests.{not-false, not-true}
 use Rattle.files.specs.File.{made, well}
-use Rattle.files.specs.Inner.{Makes}
-use Rattle.files.proofs.Made.{makes-same, follow}
+use Rattle.files.proofs.Made.{Stood, stood-first, stood-turn, stood-fault, stood-over}
 use Rattle.files.proofs.reading.read_lines.Statement.{statement}
 use Rattle.files.proofs.reading.read_lines.Tie as tie
 
 abbrev Inv-loop : tie.InvT-loop
 Inv-loop fd width rows₀ names₀ piece₀ line₀ q₀ input₀ rows names piece line q input =
     (length rows ≡ length rows₀) × (length names ≡ length names₀) × (length piece ≡ length piece₀) × (length line ≡ length line₀)
-    × Makes width (made q₀ rows₀ names₀) (made q rows names) × (well (q .fault) ≡ true)
+    × Stood (length line₀) width (made q₀ rows₀ names₀) (made q rows names) piece input × (well (q .fault) ≡ true)
 
 abbrev μ-loop : tie.MeasureT-loop
 μ-loop fd width rows₀ names₀ piece₀ line₀ q₀ input₀ rows names piece line q input = input .left
 
 loop-holds : tie.Need-loop-holds Inv-loop μ-loop
-loop-holds c = (refl, refl, refl, refl, makes-same, c .before .before .before .before .before .pre .1)
+loop-holds c = (refl, refl, refl, refl, stood-first 50000 (omega arith) (c .start .ensures .0), c .before .before .before .before .before .pre .1)
 
 with-input-requires : tie.Need-with-input-requires Inv-loop μ-loop
-with-input-requires c κs = (c .before .before .before .before .before .before .before .before .before .before .before .before .before .before .before .before .before .before .pre .0, c .before .before .before .before .before .before .before .before .before .before .before .before .loop .inv .5, search needs)
+with-input-requires c κs = (c .before .before .before .before .before .before .before .before .before .before .before .before .before .before .before .before .before .before .pre .0, search needs)
 
 returns : tie.Need-returns Inv-loop μ-loop
-returns c = let l = c .before .before .before .before .before .before .before .before .before .before .before .before .before .before .before .before .before .before .before .loop in follow (l .inv .4) (l .inv .5) (c .before .before .before .before .before .before .with-input .ensures)
+returns c = let l = c .before .before .before .before .before .before .before .before .before .before .before .before .before .before .before .before .before .before .before .loop in
+    stood-fault (l .inv .4) (l .inv .5) (l .inv .3) (c .before .before .before .before .before .before .before .before .before .before .before .before .before .before .next-line .ensures) (c .before .before .before .before .before .before .with-input .ensures) (sym (c .before .is-well .ensures) ∙ not-true _ (c .if2 .taken))
 
 loop-again : tie.Need-loop-again Inv-loop μ-loop
 loop-again c = let l = c .before .before .before .before .before .before .before .before .before .before .before .before .before .before .before .before .before .before .before .loop in
-    (search needs, search needs, search needs, search needs, follow (l .inv .4) (l .inv .5) (c .before .before .before .before .before .before .with-input .ensures), sym (c .before .is-well .ensures) ∙ not-false _ (c .if2 .left))
+    let ok = sym (c .before .is-well .ensures) ∙ not-false _ (c .if2 .left) in
+    (search needs, search needs, search needs, search needs, stood-turn (l .inv .4) (l .inv .5) (l .inv .3) (c .before .before .before .before .before .before .before .before .before .before .before .before .before .before .next-line .ensures) (c .before .before .before .before .before .before .with-input .ensures) ok, ok)
 
 returns-2 : tie.Need-returns-2 Inv-loop μ-loop
-returns-2 c = c .before .before .loop .inv .4
+returns-2 c = stood-over (c .before .before .loop .inv .4) (omega (arith, c .if1 .left))
 
 pub read-lines-spec : {M : Type 1} → statement M
 read-lines-spec =

@@ -1,25 +1,26 @@
 -- `files::reading::with_input` meets its contract: one line came, or none. Assumes nothing.
-use mathlib.Core.Path.{sym}
-use lib.ListN.{take}
+use mathlib.Core.Path.{refl, sym, _∙_}
 use lib.Seq.{length-take-le}
-use Rattle.files.specs.File.{cameAs, made}
-use Rattle.files.proofs.Made.{makes-same, makes-broken, makes-line}
+use Rattle.files.specs.File.{made}
+use Rattle.files.proofs.Made.{instead, input-broken, input-over, input-line}
 use borrow.Author.Needs.{needs}
 use Rattle.files.proofs.reading.with_input.Statement.{statement}
 use Rattle.files.proofs.reading.with_input.Tie as tie
 
 returns : tie.Need-returns
-returns c = makes-broken (c .before .before .before .before .before .pre .1) (c .faulted .ensures)
+returns c = let a = c .before .before .before .before .before .args in
+    instead (c .faulted .ensures) refl refl (input-broken (a .width) (made (a .r) (a .rows .now) (a .names .now)) (a .input) (a .line .now) (c .before .if1 .taken))
 
 returns-2 : tie.Need-returns-2
-returns-2 c = makes-same
+returns-2 c = let a = c .before .before .before .before .before .before .args in
+    input-over (a .width) (made (a .r) (a .rows .now) (a .names .now)) (a .input) (a .line .now) (c .before .before .if1 .left) (c .if2 .taken)
 
 slice-aggregate-with-next : tie.Need-slice-aggregate-with-next
-slice-aggregate-with-next c = let a = c .before .before .before .before .before .before .before .before .before .args in sym (length-take-le (a .input .len) (a .line .now) (c .before .before .before .before .before .before .before .before .before .pre .2))
+slice-aggregate-with-next c = let a = c .before .before .before .before .before .before .before .before .before .args in sym (length-take-le (a .input .len) (a .line .now) (c .before .before .before .before .before .before .before .before .before .pre .1))
 
 returns-3 : tie.Need-returns-3
 returns-3 c = let a = c .before .before .before .before .before .before .before .before .before .before .before .before .before .before .args in
-    makes-line {x = made (a .r) (a .rows .now) (a .names .now)} (c .before .before .before .before .before .before .before .before .before .before .before .before .before .before .pre .1) (cameAs (a .input .long) (take (a .input .len) (a .line .now))) (c .before .before .before .before .with-next .ensures)
+    c .before .before .before .before .with-next .ensures ∙ input-line (a .width) (made (a .r) (a .rows .now) (a .names .now)) (a .input) (a .line .now) (c .before .before .before .before .before .before .before .before .before .before .if1 .left) (c .before .before .before .before .before .before .before .before .if2 .left)
 
 pub with-input-spec : {M : Type 1} → statement M
 with-input-spec =
