@@ -3,10 +3,10 @@ use Prim.Native.Nat.{ℕ, zero, suc, _%_, _≤_, _<_}
 use mathlib.Core.Path.{_≡_, sym, ap}
 use mathlib.Core.List.{List, []}
 use native.Mathlib.Omega.{arith}
-use lib.Dec.{T, leb}
+use lib.Dec.{leb}
 use borrow.Author.Tests.{leb-true}
 use lib.ListN.{length, getD}
-use Rattle.paper.proofs.Tests.{T-true, below, at}
+use Rattle.paper.proofs.Tests.{T-true, at}
 use Rattle.keyed.specs.Lines.{lineText, line}
 use Rattle.keyed.specs.Forms.{due}
 use Rattle.keyed.proofs.Lines.{line-short}

@@ -1,6 +1,5 @@
 -- `rulefile::reading::read_all` meets its contract: the lines so far and those that are left are the file's. Assumes nothing.
-use Prim.Native.Nat.{_-_, _+_, _≤_}
-use mathlib.Core.Path.{_≡_}
+use Prim.Native.Nat.{_-_}
 use native.Mathlib.Omega.{arith}
 use borrow.Author.Needs.{needs}
 use lib.ListN.{length}
@@ -38,26 +37,28 @@ add-i : tie.Need-add-i Inv-loop μ-loop
 add-i c =
     let due = c .before .before .before .before .before .before .before in
     let inv = due .before .loop .inv in
-    let known = c .before .before .before .before .before .n .given .1 in
     let r = due .read-due in
-    omega (arith, nearer ruleForm 0 inv (line-said (r .result) (r .ensures) known) (line-inside (r .result) (r .ensures) known), inv .short)
+    let known = c .before .before .before .before .before .n .given .1 in
+    let inside = line-inside (r .result) (r .ensures) known in
+    omega (arith, nearer ruleForm 0 inv (line-said (r .result) (r .ensures) known) inside, inv .short)
 
 loop-less : tie.Need-loop-less Inv-loop μ-loop
 loop-less c =
     let due = c .before .before .before .before .before .before .before in
     let inv = due .before .loop .inv in
-    let known = c .before .before .before .before .before .n .given .1 in
     let r = due .read-due in
-    omega (arith, nearer ruleForm 0 inv (line-said (r .result) (r .ensures) known) (line-inside (r .result) (r .ensures) known))
+    let known = c .before .before .before .before .before .n .given .1 in
+    let inside = line-inside (r .result) (r .ensures) known in
+    omega (arith, nearer ruleForm 0 inv (line-said (r .result) (r .ensures) known) inside, inside)
 
 loop-again : tie.Need-loop-again Inv-loop μ-loop
 loop-again c =
     let due = c .before .before .before .before .before .before .before in
     let inv = due .before .loop .inv in
-    let known = c .before .before .before .before .before .n .given .1 in
     let r = due .read-due in
-    rw (c .before .before .set-at .ensures)
-    (ahead-turn ruleForm 0 inv (line-said (r .result) (r .ensures) known) (line-inside (r .result) (r .ensures) known))
+    let known = c .before .before .before .before .before .n .given .1 in
+    let inside = line-inside (r .result) (r .ensures) known in
+    rw (c .before .before .set-at .ensures) (ahead-turn ruleForm 0 inv (line-said (r .result) (r .ensures) known) inside)
 
 pub read-all-spec : {M : Type 1} → statement M
 read-all-spec =
