@@ -1,4 +1,4 @@
--- The numbers of the refusal table (docs/RULES.md, Refusals). Assumes nothing.
+-- The numbers of the refusals in docs/RULES.md. Assumes nothing.
 use Prim.Native.Nat.{ℕ}
 use Rattle.paper.specs.declared.Refusal.{Refusal}
 use Rattle.paper.specs.declared.Refusal.the-variants as R
@@ -15,3 +15,4 @@ number R.OutOfRange = 8
 number R.NoRoom = 9
 number R.OffTable = 10
 number R.NotEnded = 11
+number (R.OutOfForm line) = 12
