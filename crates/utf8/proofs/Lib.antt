@@ -1,0 +1,5 @@
+pub mod Bytes
+pub mod Turns
+pub mod Encodes
+pub mod Cuts
+pub mod Theorems
