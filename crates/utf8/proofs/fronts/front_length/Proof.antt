@@ -1,6 +1,6 @@
 -- `utf8::fronts::front_length` meets its contract: what is left of the front follows the place reached. Assumes nothing.
 use Prim.Native.Nat.{_+_, _-_, _≤_}
-use mathlib.Core.Path.{_≡_, refl, sym, _∙_}
+use mathlib.Core.Path.{_≡_, sym, _∙_}
 use native.Mathlib.Omega.{arith}
 use lib.ListN.{length, drop}
 use Rattle.utf8.specs.Characters.{front}
