@@ -5,3 +5,4 @@ pub mod Checks
 pub mod Searches
 pub mod Files
 pub mod Theorems
+pub mod Examples

@@ -3,3 +3,4 @@ pub mod Turns
 pub mod Encodes
 pub mod Cuts
 pub mod Theorems
+pub mod Examples
