@@ -8,9 +8,10 @@ use native.Mathlib.Omega.{arith}
 use lib.Dec.{eqb}
 use lib.ListN.{length}
 use Rattle.utf8.specs.Utf8.{utf8}
+use Rattle.utf8.specs.Controls.{clear}
 use Rattle.utf8.proofs.Theorems.{fronts}
 use Rattle.naming.specs.Names.{Name, are, namesOf, present, shown, hasName, nameOf}
-use Rattle.naming.specs.Claims.{Rising, textAt, Exact, Finds}
+use Rattle.naming.specs.Claims.{Rising, textAt, Exact, Looked}
 use Rattle.naming.proofs.Files.{in-form, file-writes}
 
 pub exact : Exact
@@ -34,18 +35,21 @@ module _ (s : List ℕ) (xs : List Name) (number : ℕ) (e : namesOf s ≡ are x
 -- what is shown of a name of a list that rises
 record Fits (t : List ℕ) : Type 0 where
   encoded : utf8 t ≡ true
+  plain : clear false t ≡ true
   short : length t ≤ 480
 
 fits : (number least : ℕ) (xs : List Name) → Rising least xs → Fits (shown (textAt number xs))
-fits number least [] r = record { encoded = refl; short = omega arith }
+fits number least [] r = record { encoded = refl; plain = refl; short = omega arith }
 fits number least (x ∷ xs) r = go (eqb (x .number) number) (fits number (suc (x .number)) xs (r .2))
   where
     go : (f : Bool) → Fits (shown (textAt number xs)) → Fits (shown (cond f (some (x .text)) (textAt number xs)))
-    go true i = record { encoded = fronts .stays 120 (x .text) (r .1 .encoded); short = fronts .short 120 (x .text) (r .1 .encoded) }
+    go true i =
+        let g = r .1 in
+        record { encoded = fronts .stays 120 (x .text) (g .encoded); plain = fronts .plain false 120 (x .text) (g .plain); short = fronts .short 120 (x .text) (g .encoded) }
     go false i = i
 
-pub finds : Finds
-finds s xs number e =
+pub looked : Looked
+looked s xs number e =
     let n = name-found s xs number e in
     let f = fits number 0 xs (in-form s xs e .rising) in
     record {
@@ -53,5 +57,6 @@ finds s xs number e =
       name = n;
       whole = λ t p l. n ∙ ap shown p ∙ fronts .whole 120 t l;
       encoded = ap utf8 n ∙ f .encoded;
+      plain = ap (clear false) n ∙ f .plain;
       short = let l = f .short in omega (arith, ap length n);
     }

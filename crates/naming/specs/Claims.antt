@@ -41,13 +41,16 @@ pub record Exact : Type 0 where
   pub writes : (xs : List Name) → Rising 0 xs → namesOf (written xs) ≡ are xs
   pub same : (s t : List ℕ) (xs : List Name) → namesOf s ≡ are xs → namesOf t ≡ are xs → s ≡ t
 
--- Of a file in form, the name of a number is the text in its list, cut; whole where it has at most 120 characters; UTF-8, and of at most 480 bytes.
-pub record Found (s : List ℕ) (xs : List Name) (number : ℕ) : Type 0 where
+-- Of a file in form, the name of a number is the text in its list, cut, and whole where it has at most 120 characters. It is UTF-8 without control
+-- characters, and has at most 480 bytes.
+pub record InList (s : List ℕ) (xs : List Name) (number : ℕ) : Type 0 where
   pub has : hasName number s ≡ present (textAt number xs)
   pub name : nameOf number s ≡ shown (textAt number xs)
   pub whole : (t : List ℕ) → textAt number xs ≡ some t → characters t ≤ 120 → nameOf number s ≡ t
   pub encoded : utf8 (nameOf number s) ≡ true
+  pub plain : clear false (nameOf number s) ≡ true
   pub short : length (nameOf number s) ≤ 480
 
-abbrev pub Finds : Type 0
-Finds = (s : List ℕ) (xs : List Name) (number : ℕ) → namesOf s ≡ are xs → Found s xs number
+-- each number, in each file in form
+abbrev pub Looked : Type 0
+Looked = (s : List ℕ) (xs : List Name) (number : ℕ) → namesOf s ≡ are xs → InList s xs number

@@ -10,7 +10,7 @@ use Rattle.naming.specs.declared.finding.Begin.the-variants as begin
 use Rattle.naming.specs.declared.finding.Found.{Found}
 use Rattle.naming.specs.declared.finding.Found.the-variants as found
 
--- the text of a line from its place on, and no further than the line
+-- the text of a line from a place of it on
 abbrev pub beginSays : List ℕ → Begin → Option (List ℕ)
 beginSays s (begin.At k) = some (drop k s)
 beginSays s begin.Not = none
@@ -19,6 +19,7 @@ abbrev pub BeginInside : List ℕ → Begin → Type 0
 BeginInside s (begin.At k) = k ≤ length s
 BeginInside s begin.Not = Unit {0}
 
+-- the place is that of the text where the line has the number
 pub record Begins (s : List ℕ) (number : ℕ) (r : Begin) : Type 0 where
   pub same : beginSays s r ≡ textOf number s none
   pub inside : BeginInside s r
@@ -32,6 +33,7 @@ abbrev pub FoundInside : List ℕ → Found → Type 0
 FoundInside s (found.Text from to) = (from ≤ to) × (to ≤ length s)
 FoundInside s found.Nothing = Unit {0}
 
+-- the places are those of the text in the first line with the number
 pub record Finds (s : List ℕ) (number : ℕ) (r : Found) : Type 0 where
   pub same : foundSays s r ≡ textIn number (linesOf s)
   pub inside : FoundInside s r

@@ -24,6 +24,7 @@ pub data Lines : Type 0 where
   ended : List ℕ → Lines → Lines
   last : List ℕ → Lines
 
+-- one byte more in front of the first line
 abbrev pub longer : ℕ → Lines → Lines
 longer b (ended s more) = ended (b ∷ s) more
 longer b (last s) = last (b ∷ s)
@@ -33,6 +34,7 @@ abbrev pub linesOf : List ℕ → Lines
 linesOf [] = last []
 linesOf (b ∷ s) = cond (eqb b 10) (ended [] (linesOf s)) (longer b (linesOf s))
 
+-- the line in front, or what there is of one
 abbrev pub firstLine : Lines → List ℕ
 firstLine (ended s more) = s
 firstLine (last s) = s
@@ -73,6 +75,7 @@ pub data Names : Type 0 where
   are : List Name → Names
   fails : ℕ → Fault → Names
 
+-- one name more in front
 abbrev pub ahead : Name → Names → Names
 ahead x (are xs) = are (x ∷ xs)
 ahead x (fails n fault) = fails n fault
@@ -91,6 +94,7 @@ namesFrom n least (last s) = cond (isEnd s) (are []) (named (judged least s) n (
 unfoldable pub marked : List ℕ → Bool
 marked s = starts 239 s && (starts 187 (drop 1 s) && starts 191 (drop 2 s))
 
+-- the names of a file, whose lines count from 1
 unfoldable pub namesOf : List ℕ → Names
 namesOf s = cond (marked s) (fails 1 Mark) (namesFrom 1 0 (linesOf s))
 
@@ -105,6 +109,7 @@ abbrev pub textIn : ℕ → Lines → Option (List ℕ)
 textIn number (ended s more) = textOf number s (textIn number more)
 textIn number (last s) = textOf number s none
 
+-- there is such a line
 abbrev pub present : Option (List ℕ) → Bool
 present (some text) = true
 present none = false
@@ -114,6 +119,7 @@ abbrev pub shown : Option (List ℕ) → List ℕ
 shown (some text) = front 120 text
 shown none = []
 
+-- whether a file has a name of that number, and what is written of it
 unfoldable pub hasName : ℕ → List ℕ → Bool
 hasName number s = present (textIn number (linesOf s))
 
@@ -122,10 +128,12 @@ nameOf number s = shown (textIn number (linesOf s))
 
 -- ---- what the code's answers say
 
+-- of a name its number
 abbrev pub lineOf : Judged → Line
 lineOf (is x) = line.Name (x .number)
 lineOf (wrong fault) = line.Wrong fault
 
+-- in form, or the first line that is not
 abbrev pub told : Names → Checked
 told (are xs) = answer.InForm
 told (fails n fault) = answer.At n fault

@@ -9,15 +9,21 @@ use text::Passed;
 use text::Read;
 use utf8::Found;
 
-// What is wrong with a line: the file begins with a byte order mark; it is not NUMBER=TEXT; its number is not greater than the one before; it has no
-// text; its text is not UTF-8; it has this control character; or the file ends before its line feed.
+// What is wrong with a line; of several the first.
 pub enum Fault {
+    // The file begins with a byte order mark.
     Mark,
+    // The line is not NUMBER=TEXT.
     Form,
+    // Its number is not greater than the one before.
     NotGreater,
+    // It has no text.
     NoText,
+    // Its text is not UTF-8.
     NotUtf8,
+    // Its text has this control character.
     Control(u8),
+    // The file ends before its line feed.
     NoFeed,
 }
 

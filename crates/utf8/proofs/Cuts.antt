@@ -1,8 +1,9 @@
 -- The front of a text: the turns of the loop that measures it, and its laws. Assumes nothing.
 use Prim.Native.Nat.{ℕ, zero, suc, _+_, _-_, _*_, _≤_, _<_}
-use mathlib.Core.Path.{_≡_, refl, sym, ap}
+use mathlib.Core.Path.{_≡_, refl, sym, ap, _∙_}
 use mathlib.Core.Bool.{Bool, true, false, cond, _&&_, true≢false}
-use mathlib.Core.List.{List, [], _∷_}
+use mathlib.Core.List.{List, [], _∷_, _++_}
+use mathlib.Core.Option.{some}
 use native.Mathlib.Omega.{arith}
 use borrow.Author.Tests.{leb-true, le-leb, ne-eqb, eqb-true, eqb-false}
 use lib.Dec.{leb, eqb}
@@ -10,6 +11,7 @@ use lib.ListN.{length, getD, drop}
 use Rattle.paper.proofs.Tests.{and-left, and-right}
 use Rattle.text.proofs.Texts.{cut, over}
 use Rattle.utf8.specs.Utf8.{follow, low, high, comes, utf8}
+use Rattle.utf8.specs.Controls.{control, firstControl, missing, clear}
 use Rattle.utf8.specs.Characters.{goesOn, characters, front}
 use Rattle.utf8.specs.Claims.{Cut}
 use Rattle.utf8.proofs.Bytes.{follow-tail, low-tail, high-tail, passed}
@@ -63,6 +65,20 @@ front-whole most (b ∷ s) h = go (goesOn b) (eqb most 0) refl (front-whole most
     go true z e p q h = ap (λ (t : List ℕ). b ∷ t) (p h)
     go false true e p q h = absurd (let m = eqb-true most 0 e in let bad : ⊥ = omega arith in bad)
     go false false e p q h = ap (λ (t : List ℕ). b ∷ t) (q (omega arith))
+
+-- ---- without control characters
+
+clear-part : (feed : Bool) (t u : List ℕ) → clear feed (t ++ u) ≡ true → clear feed t ≡ true
+clear-part feed [] u h = refl
+clear-part feed (b ∷ t) u h = go (control feed b) (clear-part feed t u) h
+  where
+    go : (c : Bool) → (clear feed (t ++ u) ≡ true → clear feed t ≡ true) → missing (cond c (some b) (firstControl feed (t ++ u))) ≡ true
+        → missing (cond c (some b) (firstControl feed t)) ≡ true
+    go true ih h = h
+    go false ih h = ih h
+
+pub front-plain : (feed : Bool) (most : ℕ) (s : List ℕ) → clear feed s ≡ true → clear feed (front most s) ≡ true
+front-plain feed most s h = let p = front-part most s in clear-part feed (front most s) (p .behind) (ap (clear feed) (sym (p .same)) ∙ h)
 
 -- ---- of UTF-8
 

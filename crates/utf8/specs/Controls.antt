@@ -16,14 +16,15 @@ abbrev pub firstControl : Bool → List ℕ → Option ℕ
 firstControl feed [] = none
 firstControl feed (b ∷ s) = cond (control feed b) (some b) (firstControl feed s)
 
+-- what the code's answer says
 abbrev pub foundSays : Found → Option ℕ
 foundSays (Control b) = some b
 foundSays Nothing = none
 
--- a text without one
 abbrev pub missing : Option ℕ → Bool
 missing (some b) = false
 missing none = true
 
+-- a text without one
 abbrev pub clear : Bool → List ℕ → Bool
 clear feed s = missing (firstControl feed s)

@@ -20,10 +20,12 @@ encode c =
     (cond (leb c 65535) ((224 + c / 4096) ∷ tail (c / 64) ∷ tail c ∷ [])
     ((240 + c / 262144) ∷ tail (c / 4096) ∷ tail (c / 64) ∷ tail c ∷ [])))
 
+-- the bytes of characters, one after the other
 abbrev pub encoded : List ℕ → List ℕ
 encoded [] = []
 encoded (c ∷ cs) = encode c ++ encoded cs
 
+-- each of these is a character's number
 abbrev pub scalars : List ℕ → Bool
 scalars [] = true
 scalars (c ∷ cs) = cond (scalar c) (scalars cs) false
