@@ -1,12 +1,11 @@
 -- What is proved of a month that is answered, for any calendar, any day lists, any readings and any today: whole weeks from Sunday, as many blanks
 -- before the first day as its weekday says, the days in their order with no gap, blanks to the week's end; and what a cell's holiday number and its
 -- count say of the day's list. Assumes nothing.
-use Prim.Native.Nat.{ℕ, zero, suc, _+_, _-_, _*_, _%_, _<_}
+use Prim.Native.Nat.{ℕ, _+_, _-_, _*_, _%_, _<_}
 use mathlib.Core.Path.{_≡_, refl, sym, ap, subst, _∙_}
 use mathlib.Core.Bool.{Bool}
 use mathlib.Core.List.{List}
 use native.Mathlib.Nat.{zero-add}
-use native.Mathlib.Omega.{arith}
 use lib.ListN.{length, getD, take, drop, replicate}
 use lib.Seq.{take-at}
 use Rattle.paper.specs.Answers.{Answer, answered, refused}
@@ -19,17 +18,13 @@ use Rattle.rules.specs.Festivals.{Pair}
 use Rattle.rules.proofs.Listed.{numbers-length}
 use Rattle.panchanga.specs.declared.lunar.Reading.{Reading}
 use Rattle.grid.specs.declared.Month.{Month}
-use Rattle.grid.specs.Cells.{one, holidayOf, cellWith, blank, toFill, each}
+use Rattle.festivals.specs.Months.{each}
+use Rattle.festivals.proofs.Moons.{each-length, each-at}
+use Rattle.grid.specs.Cells.{one, holidayOf, cellWith, blank, toFill}
 use Rattle.grid.specs.Month.{Grid, listOn, cellOn, gridOf, cellNumbers, festivalNumbers, monthGrid, shown}
 use Rattle.grid.proofs.Marks.{cell-length}
-use Rattle.grid.proofs.Weeks.{each-length, month-length, month-numbers, weeks-whole, weeks-lead, weeks-at, weeks-tail}
+use Rattle.grid.proofs.Weeks.{month-length, month-numbers, weeks-whole, weeks-lead, weeks-at, weeks-tail}
 use Rattle.grid.proofs.Asked.{told}
-
-each-at : {A : Type 0} (f : ℕ → A) (k n d : ℕ) (z : A) → d < n → getD (each f k n) d z ≡ f (k + d)
-unfolding each
-each-at f k zero d z h = absurd (omega arith)
-each-at f k (suc n) zero z h = ap f (omega arith)
-each-at f k (suc n) (suc d) z h = each-at f (k + 1) n d z (omega arith) ∙ ap f (omega arith)
 
 -- cells in whole weeks: blanks, so many days, and blanks to the week's end
 pub record InWeeks (lead days : ℕ) (day : ℕ → List ℕ) (cells : List (List ℕ)) : Type 0 where
