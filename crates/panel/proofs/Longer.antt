@@ -14,7 +14,7 @@ use Rattle.gregorian.specs.Calendar.{dayNumber}
 use Rattle.conversion.specs.declared.Table.{Table}
 use Rattle.conversion.specs.Flat.{accepted, flat, date}
 use Rattle.conversion.specs.Claims.{Added}
-use Rattle.rules.specs.Steady.{AddedDay}
+use Rattle.rules.specs.Longer.{AddedDay}
 use Rattle.rules.specs.Festivals.{Listed}
 use Rattle.grid.specs.Month.{Shown}
 use Rattle.steady.specs.Composed.{Place, ref}
