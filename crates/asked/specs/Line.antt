@@ -2,7 +2,7 @@
 use Prim.Native.Nat.{ℕ, zero, suc, _+_, _-_, _*_}
 use mathlib.Core.Bool.{Bool, true, false, cond, _&&_}
 use mathlib.Core.List.{List, [], _∷_}
-use lib.Dec.{leb}
+use lib.Dec.{leb, ltb}
 use lib.Ieee.{Float, binary64, ofBits}
 use lib.IntN.{pos, negsuc}
 use lib.ListN.{drop, replicate, getD}
@@ -105,19 +105,23 @@ abbrev pub foundKind : Found → ℕ
 foundKind (Word kind n next) = kind
 foundKind Not = 0
 
+-- the value at a place, and 0 past the sixteen places
+abbrev pub valueAt : Words → ℕ → ℕ
+valueAt w i = cond (ltb i 16) (getD (w .values) i 0) 0
+
 -- a word's value, and 0 where it is larger than asked
 unfoldable pub fitting : ℕ → ℕ → ℕ
 fitting most v = cond (leb v most) v 0
 
 -- a line's word: a number up to 65,535, one that a u32 holds, a float
 abbrev pub small : Words → ℕ → ℕ
-small w i = fitting 65535 (getD (w .values) i 0)
+small w i = fitting 65535 (valueAt w i)
 
 abbrev pub large : Words → ℕ → ℕ
-large w i = fitting 4294967295 (getD (w .values) i 0)
+large w i = fitting 4294967295 (valueAt w i)
 
 abbrev pub float : Words → ℕ → Float
-float w i = ofBits binary64 (getD (w .values) i 0)
+float w i = ofBits binary64 (valueAt w i)
 
 -- a whole number of an i32, behind a minus sign or not
 unfoldable pub wholeOf : Bool → ℕ → Whole

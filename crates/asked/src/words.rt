@@ -1,8 +1,8 @@
 // A line taken apart into its tag and the words after it.
 ghost use mathlib.Core.Path.{_≡_};
-ghost use Prim.Native.Nat.{_<_, _≤_};
+ghost use Prim.Native.Nat.{_≤_};
 ghost use mathlib.Core.Bool.{true, false};
-ghost use lib.ListN.{take, drop, getD};
+ghost use lib.ListN.{take, drop};
 ghost use Rattle.text.specs.Reading.{Says, readSays, readEnd};
 ghost use Rattle.asked.specs.Line as Line;
 ghost use Rattle.asked.specs.Line.{letter, letters, kindOf, kinded, foundSays, foundEnd, foundKind, unformed, wordsOf, wholeOf};
@@ -142,55 +142,54 @@ pub fn split(line: &[u8], n: usize) -> Words
 }
 
 impl Words {
-    // The word at a place, if it is a number up to 65,535.
-    pub fn small(self, i: usize) -> u16
-        ensures { λ r. ⌜ (i < 16 → r ≡ Line.small self i) ⌝ }
+    // The value at a place, and 0 past the sixteen places.
+    fn value(self, i: usize) -> u64
+        ensures { λ r. ⌜ r ≡ Line.valueAt self i ⌝ }
     {
         if i < 16 {
-            let v = self.values[i];
-            if v <= 65535 {
-                return v as u16;
-            }
+            return self.values[i];
         }
         0
     }
 
-    // The word at a place, if it is a number that a u32 holds.
-    pub fn large(self, i: usize) -> u32
-        ensures { λ r. ⌜ (i < 16 → r ≡ Line.large self i) ⌝ }
+    // The word at a place, if it is a number up to 65,535; else 0.
+    pub fn small(self, i: usize) -> u16
+        ensures { λ r. ⌜ r ≡ Line.small self i ⌝ }
     {
-        if i < 16 {
-            let v = self.values[i];
-            if v <= 4294967295 {
-                return v as u32;
-            }
+        let v = self.value(i);
+        if v <= 65535 {
+            return v as u16;
+        }
+        0
+    }
+
+    // The word at a place, if it is a number that a u32 holds; else 0.
+    pub fn large(self, i: usize) -> u32
+        ensures { λ r. ⌜ r ≡ Line.large self i ⌝ }
+    {
+        let v = self.value(i);
+        if v <= 4294967295 {
+            return v as u32;
         }
         0
     }
 
     // The word at a place, as the bits of a float.
     pub fn float(self, i: usize) -> f64
-        ensures { λ r. ⌜ (i < 16 → r ≡ Line.float self i) ⌝ }
+        ensures { λ r. ⌜ r ≡ Line.float self i ⌝ }
     {
-        if i < 16 {
-            floats::float_of(self.values[i])
-        } else {
-            0.0
-        }
+        floats::float_of(self.value(i))
     }
 
     // The word at a place, with its sign.
     pub fn whole(self, i: usize, minus: bool) -> Whole
-        ensures { λ r. ⌜ (i < 16 → r ≡ wholeOf minus (getD (self .values) i 0)) ⌝ }
+        ensures { λ r. ⌜ r ≡ wholeOf minus (Line.valueAt self i) ⌝ }
     {
-        if i < 16 {
-            let v = self.values[i];
-            if minus {
-                return below(v);
-            }
-            return above(v);
+        let v = self.value(i);
+        if minus {
+            return below(v);
         }
-        Whole::TooLarge
+        above(v)
     }
 }
 

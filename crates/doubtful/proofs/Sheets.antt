@@ -24,9 +24,8 @@ use Rattle.conversion.specs.Answers.{daysSays}
 use Rattle.conversion.specs.Calendar.{Calendar, yearOk, monthOk, monthLen}
 use Rattle.rules.specs.declared.Rule.{Rule}
 use Rattle.rules.specs.Days.{holds}
-use Rattle.rules.specs.Festivals.{lastOf, inMonth}
-use Rattle.festivals.specs.Kathmandu.{moonsAround, kathmandu, openingIn}
-use Rattle.festivals.specs.Months.{yearDays, monthAt}
+use Rattle.festivals.specs.Kathmandu.{moonsAround, kathmandu, lastIn, openingIn}
+use Rattle.festivals.specs.Months.{yearDays, monthsBy, monthAt}
 use Rattle.festivals.specs.Answers.{daysAre}
 use Rattle.festivals.specs.declared.months.Months.{Months}
 use Rattle.festivals.specs.declared.months.YearDays.{YearDays}
@@ -43,6 +42,7 @@ use Rattle.notes.specs.declared.moons.Dated.the-variants as D
 use Rattle.notes.specs.declared.moons.Nearness.{Nearness}
 use Rattle.notes.specs.declared.moons.Nearness.the-variants as N
 use Rattle.output.proofs.Pieces.{then}
+use Rattle.festivals.proofs.Moons.{month-at}
 use Rattle.festivals.proofs.TableYears.{opens}
 
 -- ---- lines under a heading
@@ -214,8 +214,12 @@ module _ (rules : List Rule) (names : List ℕ) (y : ℕ) where
 
 -- the last of its new moons in a month opens it
 pub places-opened : (c : Calendar) (y : ℕ) {q : YearDays} → daysAre q ≡ yearDays c y → {a b : ℕ} → q ≡ YD.Days a b → {xs : List Float} → xs ≡ moonsAround a b → (places : Months)
-    → ((j : ℕ) → j < 12 → monthAt places j ≡ lastOf (inMonth kathmandu c y (j + 1)) none xs) → Opened c y places
-places-opened c y e g f places k j h = k j h ∙ ap (lastOf (inMonth kathmandu c y (j + 1)) none) f ∙ opens kathmandu c y _ (sym (ap daysAre g) ∙ e) (j + 1)
+    → places ≡ monthsBy (λ m. lastIn c y m xs) → Opened c y places
+places-opened c y e g {xs} f places k j h =
+    ap (λ (p : Months). monthAt p j) k
+    ∙ month-at (λ m. lastIn c y m xs) j h
+    ∙ ap (lastIn c y (j + 1)) f
+    ∙ opens kathmandu c y _ (sym (ap daysAre g) ∙ e) (j + 1)
 
 module _ (c : Calendar) (y : ℕ) (rules : List Rule) (names : List ℕ) (l : List ℕ) (p : Page) (q : YearDays) (e : daysAre q ≡ yearDays c y) where
   year-is : {d : Option (ℕ × ℕ)} → daysAre q ≡ d → daysPage c y rules names d (sheet l p) ≡ yearPage c y rules names (sheet l p)

@@ -24,7 +24,8 @@ use Rattle.rules.proofs.Walk.{rest, left, left-none, count-turn, count-skip}
 use Rattle.rules.proofs.Accepted.{computed-of}
 use Rattle.rules.proofs.Used.{fill-none, fill-not, fill-is}
 use Rattle.festivals.specs.declared.months.Months.{Months}
-use Rattle.festivals.specs.Months.{monthAt, dayBy}
+use Rattle.festivals.specs.Months.{monthsBy, monthAt, dayBy}
+use Rattle.festivals.proofs.Moons.{month-at}
 
 -- ---- where a tithi begins
 module _ {I : Type 0} (s : Sky I) (t : ℕ) (x : I) where
@@ -56,11 +57,11 @@ unfolding ruleDay dayBy
 rule-day-by s c y r o d e q = sym (q ∙ ap (dayBy s r) e)
 
 -- from the lunar months of the year
-pub rule-day-at : (s : Sky Float) (c : Calendar) (y : ℕ) (r : Rule) (m : Months) (d : Option ℕ) → ruleGood r ≡ true → r .kind ≡ 3 → ((j : ℕ) → j < 12 → monthAt m j ≡ opening s c y (j + 1)) → d ≡ dayBy s r (monthAt m (r .month - 1)) → ruleDay s c y r ≡ d
+pub rule-day-at : (s : Sky Float) (c : Calendar) (y : ℕ) (r : Rule) (m : Months) (d : Option ℕ) → ruleGood r ≡ true → r .kind ≡ 3 → m ≡ monthsBy (opening s c y) → d ≡ dayBy s r (monthAt m (r .month - 1)) → ruleDay s c y r ≡ d
 rule-day-at s c y r m d g k h q =
     let f = computed-of r g k in
     let e : r .month - 1 + 1 ≡ r .month = omega (arith, f .month-from) in
-    rule-day-by s c y r _ d (h (r .month - 1) (omega (arith, f .month-to)) ∙ ap (opening s c y) e) q
+    rule-day-by s c y r _ d (ap (λ (x : Months). monthAt x (r .month - 1)) h ∙ month-at (opening s c y) (r .month - 1) (omega (arith, f .month-to)) ∙ ap (opening s c y) e) q
 
 -- ---- its entry
 module _ {I : Type 0} (s : Sky I) (c : Calendar) (y : ℕ) (r : Rule) (d : List ℕ) (j : ℕ) where

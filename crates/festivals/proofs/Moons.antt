@@ -1,15 +1,15 @@
 -- Laws of the twelve places: what a turn of the loop does, and what the places hold at the end. Assumes nothing.
-use mathlib.Core.Path.{_≡_, refl, ap, _∙_}
+use mathlib.Core.Path.{_≡_, refl, sym, ap, _∙_}
 use mathlib.Core.Bool.{Bool, true, false, cond, _&&_}
 use mathlib.Core.List.{List, [], _∷_, _++_}
 use mathlib.Core.Option.{Option, some, none}
-use Prim.Native.Nat.{ℕ, _+_, _-_, _≤_, _<_}
+use Prim.Native.Nat.{ℕ, zero, suc, _+_, _-_, _≤_, _<_}
 use native.Mathlib.Numerals.{add-one}
 use native.Mathlib.Omega.{arith}
 use borrow.Author.Tests.{eq-eqb, ne-eqb, eqb-true, eqb-false}
 use lib.Dec.{eqb}
-use lib.ListN.{length, getD, set, take, drop, replicate, length-set, getD-replicate}
-use lib.Seq.{slice, slice-cons, slice-empty, getD-set-same, getD-set-other}
+use lib.ListN.{length, getD, set, take, drop, replicate, length-set}
+use lib.Seq.{slice, slice-cons, slice-empty, getD-set-same, getD-set-other, ext-getD}
 use lib.Ieee.{Float, nan}
 use Rattle.paper.specs.declared.Refusal.{Refusal}
 use Rattle.paper.specs.Answers.{Answer, answered, refused}
@@ -27,7 +27,7 @@ use Rattle.rules.specs.Days.{holds}
 use Rattle.rules.specs.Festivals.{dated, lastOf, inMonth}
 use Rattle.festivals.specs.declared.months.Months.{Months}
 use Rattle.festivals.specs.Kathmandu.{moonsAround}
-use Rattle.festivals.specs.Months.{monthAt}
+use Rattle.festivals.specs.Months.{each, moonOf, isMoon, monthsBy, monthAt}
 
 -- ---- the loop's shape
 unfoldable pub put : Months → ℕ → Float → Months
@@ -89,83 +89,100 @@ module _ (s : Sky Float) (c : Calendar) (y : ℕ) where
         place-in z = rw (← e, f, eq-eqb (t .year) y z)
 
 -- ---- what the places hold
-record Twelve (m : Months) : Type 0 where
-  moons : length (m .moon) ≡ 12
-  marks : length (m .has) ≡ 12
+pub each-length : {A : Type 0} (f : ℕ → A) (k n : ℕ) → length (each f k n) ≡ n
+unfolding each
+each-length f k zero = refl
+each-length f k (suc n) = ap suc (each-length f (k + 1) n)
 
-put-twelve : (m : Months) (j : ℕ) (x : Float) → Twelve m → Twelve (put m j x)
-unfolding put
-put-twelve m j x t = record { moons = length-set (m .moon) j x ∙ t .moons; marks = length-set (m .has) j true ∙ t .marks }
+pub each-at : {A : Type 0} (f : ℕ → A) (k n d : ℕ) (z : A) → d < n → getD (each f k n) d z ≡ f (k + d)
+unfolding each
+each-at f k zero d z h = absurd (omega arith)
+each-at f k (suc n) zero z h = ap f (omega arith)
+each-at f k (suc n) (suc d) z h = each-at f (k + 1) n d z (omega arith) ∙ ap f (omega arith)
 
-put-same : (m : Months) (j : ℕ) (x : Float) → Twelve m → j < 12 → monthAt (put m j x) j ≡ some x
-unfolding put monthAt
-put-same m j x t h =
-    rw (getD-set-same (m .has) j true false (omega (arith, t .marks)), getD-set-same (m .moon) j x nan (omega (arith, t .moons)))
+-- one place of twelve set
+module _ {A : Type 0} (f g : ℕ → A) (v d : A) (j : ℕ) (e : (m : ℕ) → g m ≡ cond (eqb (j + 1) m) v (f m)) where
+  set-at : (i : ℕ) → i < 12 → (b : Bool) → eqb (j + 1) (1 + i) ≡ b → getD (set (each f 1 12) j v) i d ≡ cond b v (f (1 + i))
+  set-at i h true q =
+      let s : j ≡ i = omega (arith, eqb-true (j + 1) (1 + i) q) in
+      rw s (getD-set-same (each f 1 12) i v d (omega (arith, each-length f 1 12)))
+  set-at i h false q =
+      getD-set-other (each f 1 12) j i v d (λ s. eqb-false (j + 1) (1 + i) q (omega arith)) ∙ each-at f 1 12 i d h
 
-put-other : (m : Months) (i j : ℕ) (x : Float) → (j ≡ i → ⊥) → monthAt (put m i x) j ≡ monthAt m j
-unfolding put monthAt
-put-other m i j x h = rw (getD-set-other (m .has) i j true false h, getD-set-other (m .moon) i j x nan h)
+  set-each : set (each f 1 12) j v ≡ each g 1 12
+  set-each =
+      ext-getD d _ _ (length-set (each f 1 12) j v ∙ each-length f 1 12 ∙ sym (each-length g 1 12))
+      (λ i h.
+      let l : i < 12 = omega (arith, length-set (each f 1 12) j v, each-length f 1 12) in
+      set-at i l (eqb (j + 1) (1 + i)) refl ∙ sym (each-at g 1 12 i d l ∙ e (1 + i)))
 
-module _ (m : Months) (x : Float) (w : Twelve m) (j : ℕ) (h : j < 12) where
-  put-reads : (i : ℕ) → 1 ≤ i → monthAt (put m (i - 1) x) j ≡ cond (eqb i (j + 1)) (some x) (monthAt m j)
-  put-reads i f = go (eqb i (j + 1)) refl
-    where
-      go : (b : Bool) → eqb i (j + 1) ≡ b → monthAt (put m (i - 1) x) j ≡ cond b (some x) (monthAt m j)
-      go true q = let e : i - 1 ≡ j = omega (arith, eqb-true i (j + 1) q) in rw e (put-same m j x w h)
-      go false q = put-other m (i - 1) j x (λ e. eqb-false i (j + 1) q (omega arith))
+moon-over : (b : Bool) (x : Float) (o : Option Float) → moonOf (cond b (some x) o) ≡ cond b x (moonOf o)
+moon-over true x o = refl
+moon-over false x o = refl
 
-  date-reads : (y : ℕ) (a : Answer BsDate) → ((t : BsDate) → a ≡ answered t → 1 ≤ t .month) → monthAt (placeDate y m x a) j ≡ cond (dated a (λ t. eqb (t .year) y && eqb (t .month) (j + 1))) (some x) (monthAt m j)
+is-over : (b : Bool) (x : Float) (o : Option Float) → isMoon (cond b (some x) o) ≡ cond b true (isMoon o)
+is-over true x o = refl
+is-over false x o = refl
+
+module _ (f : ℕ → Option Float) (x : Float) where
+  put-over : (j : ℕ) → put (monthsBy f) j x ≡ monthsBy (λ m. cond (eqb (j + 1) m) (some x) (f m))
+  unfolding put monthsBy
+  put-over j =
+      rw (set-each (λ m. moonOf (f m)) (λ m. moonOf (cond (eqb (j + 1) m) (some x) (f m))) x nan j (λ m. moon-over (eqb (j + 1) m) x (f m)),
+      set-each (λ m. isMoon (f m)) (λ m. isMoon (cond (eqb (j + 1) m) (some x) (f m))) true false j (λ m. is-over (eqb (j + 1) m) x (f m)))
+
+  date-over : (y : ℕ) (a : Answer BsDate) → ((t : BsDate) → a ≡ answered t → 1 ≤ t .month)
+      → placeDate y (monthsBy f) x a ≡ monthsBy (λ m. cond (dated a (λ t. eqb (t .year) y && eqb (t .month) m)) (some x) (f m))
   unfolding placeDate dated
-  date-reads y (refused k) f = refl
-  date-reads y (answered t) f = go (eqb (t .year) y)
+  date-over y (refused k) h = refl
+  date-over y (answered t) h = go (eqb (t .year) y)
     where
-      go : (b : Bool) → monthAt (cond b (put m (t .month - 1) x) m) j ≡ cond (b && eqb (t .month) (j + 1)) (some x) (monthAt m j)
-      go true = put-reads (t .month) (f t refl)
+      go : (b : Bool) → cond b (put (monthsBy f) (t .month - 1) x) (monthsBy f) ≡ monthsBy (λ m. cond (b && eqb (t .month) m) (some x) (f m))
+      go true =
+          let e : t .month - 1 + 1 ≡ t .month = omega (arith, h t refl) in
+          put-over (t .month - 1) ∙ ap (λ (i : ℕ). monthsBy (λ m. cond (eqb i m) (some x) (f m))) e
       go false = refl
 
-  day-reads : (c : Calendar) (y : ℕ) (o : Option ℕ) → monthAt (placeDay c y m x o) j ≡ cond (holds o (λ n. dated (fromDay c n) (λ t. eqb (t .year) y && eqb (t .month) (j + 1)))) (some x) (monthAt m j)
+  day-over : (c : Calendar) (y : ℕ) (o : Option ℕ)
+      → placeDay c y (monthsBy f) x o ≡ monthsBy (λ m. cond (holds o (λ n. dated (fromDay c n) (λ t. eqb (t .year) y && eqb (t .month) m))) (some x) (f m))
   unfolding placeDay holds
-  day-reads c y none = refl
-  day-reads c y (some n) = date-reads y (fromDay c n) (λ t q. month-of c n t q .0)
+  day-over c y none = refl
+  day-over c y (some n) = date-over y (fromDay c n) (λ t q. month-of c n t q .0)
 
-date-twelve : (m : Months) (x : Float) (y : ℕ) (a : Answer BsDate) → Twelve m → Twelve (placeDate y m x a)
-unfolding placeDate
-date-twelve m x y (refused k) w = w
-date-twelve m x y (answered t) w = go (eqb (t .year) y)
-  where
-    go : (b : Bool) → Twelve (cond b (put m (t .month - 1) x) m)
-    go true = put-twelve m _ x w
-    go false = w
-
-day-twelve : (m : Months) (x : Float) (c : Calendar) (y : ℕ) (o : Option ℕ) → Twelve m → Twelve (placeDay c y m x o)
-unfolding placeDay
-day-twelve m x c y none w = w
-day-twelve m x c y (some n) w = date-twelve m x y (fromDay c n) w
-
-none-yet : (m : Months) → m .has ≡ replicate 12 false → (j : ℕ) → j < 12 → monthAt m j ≡ none
-unfolding monthAt
-none-yet m e j h = rw (e, getD-replicate 12 j false false h)
-
-module _ (s : Sky Float) (c : Calendar) (y : ℕ) (j : ℕ) (h : j < 12) where
-  -- place j holds the last that lies in month j + 1
-  placed-reads : (xs : List Float) (m : Months) → Twelve m → monthAt (placed s c y xs m) j ≡ lastOf (inMonth s c y (j + 1)) (monthAt m j) xs
+module _ (s : Sky Float) (c : Calendar) (y : ℕ) where
+  -- a month's place holds the last that lies in it
+  placed-over : (xs : List Float) (f : ℕ → Option Float) → placed s c y xs (monthsBy f) ≡ monthsBy (λ m. lastOf (inMonth s c y m) (f m) xs)
   unfolding placed place lastOf inMonth
-  placed-reads [] m w = refl
-  placed-reads (x ∷ xs) m w =
-      placed-reads xs (placeDay c y m x (s .dayOf x)) (day-twelve m x c y (s .dayOf x) w)
-      ∙ ap (λ o. lastOf (inMonth s c y (j + 1)) o xs) (day-reads m x w j h c y (s .dayOf x))
+  placed-over [] f = refl
+  placed-over (x ∷ xs) f = ap (placed s c y xs) (day-over f x c y (s .dayOf x)) ∙ placed-over xs _
 
   -- from no new moon on
-  pub placed-first : (xs : List Float) (m : Months) → length (m .moon) ≡ 12 → m .has ≡ replicate 12 false → monthAt (placed s c y xs m) j ≡ lastOf (inMonth s c y (j + 1)) none xs
-  placed-first xs m l e =
-      placed-reads xs m (record { moons = l; marks = ap length e }) ∙ ap (λ o. lastOf (inMonth s c y (j + 1)) o xs) (none-yet m e j h)
+  pub placed-first : (xs : List Float) (m : Months) → m ≡ monthsBy (λ m. none) → placed s c y xs m ≡ monthsBy (λ m. lastOf (inMonth s c y m) none xs)
+  placed-first xs m e = ap (placed s c y xs) e ∙ placed-over xs (λ m. none)
+
+-- no month is open yet
+pub none-yet : record { moon = replicate 12 (dec 0 0); has = replicate 12 false } ≡ monthsBy (λ m. none)
+unfolding monthsBy each
+none-yet = refl
+
+-- the new moon of a place is the one that opens its month
+read-back : (o : Option Float) → cond (isMoon o) (some (moonOf o)) none ≡ o
+read-back (some x) = refl
+read-back none = refl
+
+pub month-at : (f : ℕ → Option Float) (j : ℕ) → j < 12 → monthAt (monthsBy f) j ≡ f (j + 1)
+unfolding monthAt monthsBy
+month-at f j h =
+    rw (each-at (λ m. isMoon (f m)) 1 12 j false h, each-at (λ m. moonOf (f m)) 1 12 j nan h)
+    (read-back (f (1 + j)) ∙ ap f (let e : 1 + j ≡ j + 1 = omega arith in e))
 
 -- ---- the new moons that a walk wrote to the front of a list of 1,024 places
-pub moons-front : (a b : Float) (d x : List Float) (n : ℕ) → n ≡ length (startsOf 1 a b .starts) → x ≡ startsOf 1 a b .starts ++ drop n d → length d ≡ 1024
-    → ((n ≤ 1024) × (length x ≡ 1024)) × (take n x ≡ startsOf 1 a b .starts)
+pub moons-front : (a b : ℕ) (d x : List Float) (n : ℕ) → n ≡ length (moonsAround a b) → x ≡ moonsAround a b ++ drop n d → length d ≡ 1024
+    → ((n ≤ 1024) × (length x ≡ 1024)) × (take n x ≡ moonsAround a b)
+unfolding moonsAround
 moons-front a b d x n en ex l =
-    let few : n ≤ 1024 = omega (arith, en, starts-bounded (offset elongationOf (targetOf 1)) a b) in
-    ((few, over-length (startsOf 1 a b .starts) d ex en (omega arith) ∙ l), over-front (startsOf 1 a b .starts) d ex en)
+    let few : n ≤ 1024 = omega (arith, en, starts-bounded (offset elongationOf (targetOf 1)) (zeroOf a ⊖ dec 35 0) (zeroOf b ⊕ dec 5 0)) in
+    ((few, over-length (moonsAround a b) d ex en (omega arith) ∙ l), over-front (moonsAround a b) d ex en)
 
 -- they are those around two days, by 0h of each
 pub moons-from : (first last : ℕ) (a b : Float) → a ≡ zeroOf first → b ≡ zeroOf last → startsOf 1 (a ⊖ dec 35 0) (b ⊕ dec 5 0) .starts ≡ moonsAround first last

@@ -7,6 +7,7 @@ use mathlib.Core.Option.{Option, some, none}
 use native.Mathlib.Omega.{arith}
 use borrow.Author.Tests.{leb-true, ltb-true, le-leb, lt-ltb}
 use lib.Dec.{leb}
+use lib.Ieee.{Float}
 use Rattle.paper.specs.declared.Refusal.{Refusal}
 use Rattle.paper.specs.Answers.{answered, refused}
 use Rattle.paper.proofs.Answers.{answered-same, refused-answered}
@@ -19,7 +20,7 @@ use Rattle.conversion.proofs.Rows.{row-lens}
 use Rattle.conversion.proofs.Days.{InTable, of-month, converts, converted}
 use Rattle.rules.specs.Sky.{Sky}
 use Rattle.rules.specs.Festivals.{firstDay, lastDay, lastOf, moons, inMonth, opening}
-use Rattle.festivals.specs.Months.{yearDays}
+use Rattle.festivals.specs.Months.{yearDays, monthsBy}
 
 module _ (t : Table) (rows : List ℕ) (g : accepted t rows ≡ true) (y : ℕ) where
   abbrev c : Calendar
@@ -97,3 +98,8 @@ module _ {I : Type 0} (s : Sky I) (c : Calendar) (y : ℕ) where
   pub opens : (o : Option (ℕ × ℕ)) → o ≡ yearDays c y → (m : ℕ) → lastOf (inMonth s c y m) none (around s o) ≡ opening s c y m
   unfolding opening moons yearDays
   opens o e m = ap (lastOf (inMonth s c y m) none) (sym (moons-by (c .good && yearOk c y) o e))
+
+-- so of the twelve places
+pub opens-all : (s : Sky Float) (c : Calendar) (y : ℕ) (o : Option (ℕ × ℕ)) → o ≡ yearDays c y
+    → monthsBy (λ m. lastOf (inMonth s c y m) none (around s o)) ≡ monthsBy (opening s c y)
+opens-all s c y o e = λ i. monthsBy (λ m. opens s c y o e m i)

@@ -10,14 +10,15 @@ use gregorian::UtDay;
 use sky::search;
 ghost use mathlib.Core.Path.{_≡_};
 ghost use mathlib.Core.Bool.{true};
-ghost use Prim.Native.Nat.{ℕ, _+_, _≤_, _<_};
-ghost use lib.ListN.{length, take};
+ghost use mathlib.Core.List.{_++_};
+ghost use Prim.Native.Nat.{_≤_};
+ghost use lib.ListN.{length, take, drop};
 ghost use Rattle.conversion.specs.Flat.{accepted, flat};
 ghost use Rattle.festivals.specs.Kathmandu.{moonsAround, lastIn, openingIn};
-ghost use Rattle.festivals.specs.Months.{yearDays, monthAt};
+ghost use Rattle.festivals.specs.Months.{yearDays, monthsBy};
 ghost use Rattle.festivals.specs.Answers.{daysAre};
 
-// The new moon that opens each lunar month, where one does.
+// The new moon that opens each lunar month, and whether one does; 0.0 where none does.
 pub struct Months {
     pub moon: [f64; 12],
     pub has: [bool; 12],
@@ -56,11 +57,11 @@ pub fn year_days(table: Table, rows: &[u16], year: u16) -> YearDays
     YearDays::Days(a, b)
 }
 
-// The new moons from 35 days before 0h of one day to 5 after 0h of another, to the front of `found`; how many they are.
+// The new moons from 35 days before 0h of one day to 5 after 0h of another, to the front of `found`; how many they are. What lies past them stays.
 pub fn new_moons(first: u32, last: u32, found: &mut [f64; 1024]) -> usize
     requires { ⌜ length (now found) ≡ 1024 ⌝ }
-    ensures { λ r. ⌜ (r ≤ 1024) × (length (now (found .exit)) ≡ 1024) ⌝ }
-    ensures { λ r. ⌜ take r (now (found .exit)) ≡ moonsAround first last ⌝ }
+    ensures count { λ r. ⌜ r ≡ length (moonsAround first last) ⌝ }
+    ensures written { λ r. ⌜ now (found .exit) ≡ moonsAround first last ++ drop r (now (found .entry)) ⌝ }
 {
     let from = UtDay(gregorian::zero_hour(first) - 35.0);
     let to = UtDay(gregorian::zero_hour(last) + 5.0);
@@ -72,7 +73,7 @@ pub fn new_moons(first: u32, last: u32, found: &mut [f64; 1024]) -> usize
 // another year opens none.
 pub fn months_of(table: Table, rows: &[u16], year: u16, found: &[f64; 1024], n: usize) -> Months
     requires { ⌜ (accepted table (now rows) ≡ true) × (n ≤ 1024) × (length (now found) ≡ 1024) ⌝ }
-    ensures { λ r. ⌜ ((j : ℕ) → j < 12 → monthAt r j ≡ lastIn (flat table (now (rows .entry))) year (j + 1) (take n (now (found .entry)))) ⌝ }
+    ensures { λ r. ⌜ r ≡ monthsBy (λ m. lastIn (flat table (now (rows .entry))) year m (take n (now (found .entry)))) ⌝ }
 {
     let mut m = Months {
         moon: [0.0; 12],
@@ -101,7 +102,7 @@ pub fn months_of(table: Table, rows: &[u16], year: u16, found: &[f64; 1024], n: 
 // The lunar months of a year; a year not in the table has none.
 pub fn lunar_months(table: Table, rows: &[u16], year: u16) -> Months
     requires { ⌜ accepted table (now rows) ≡ true ⌝ }
-    ensures { λ r. ⌜ ((j : ℕ) → j < 12 → monthAt r j ≡ openingIn (flat table (now (rows .entry))) year (j + 1)) ⌝ }
+    ensures { λ r. ⌜ r ≡ monthsBy (openingIn (flat table (now (rows .entry))) year) ⌝ }
 {
     let mut found = [0.0; 1024];
     let YearDays::Days(first, last) = year_days(table, rows, year) else {

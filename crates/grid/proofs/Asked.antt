@@ -21,7 +21,7 @@ use Rattle.rules.specs.Lent.{accepting}
 use Rattle.rules.specs.Festivals.{Pair}
 use Rattle.rules.proofs.Lent.{given-not, lent-on, lent-told, lent-not}
 use Rattle.panchanga.specs.declared.lunar.Reading.{Reading}
-use Rattle.grid.specs.Cells.{each}
+use Rattle.festivals.specs.Months.{each}
 use Rattle.grid.specs.Month.{Grid, dayOn, listOn, cellOn, gridOf, fitted, monthGrid}
 
 -- ---- the refusals, in their order

@@ -15,7 +15,8 @@ use Rattle.gregorian.specs.Calendar.{weekdayOf}
 use Rattle.rules.specs.Festivals.{numbers}
 use Rattle.grid.specs.declared.Month.{Month}
 use Rattle.grid.specs.declared.page.Plan.{Plan}
-use Rattle.grid.specs.Cells.{each, joined}
+use Rattle.festivals.specs.Months.{each}
+use Rattle.grid.specs.Cells.{joined}
 use Rattle.grid.specs.Month.{Grid, cellNumbers, festivalNumbers, fitted, shown, gridOf}
 use Rattle.grid.specs.Inner.{listAt, cellAt, gridBy, cellsOf, monthOf}
 use Rattle.rules.proofs.Listed.{numbers-length}

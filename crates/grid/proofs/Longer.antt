@@ -26,7 +26,7 @@ use Rattle.rules.proofs.Longer.{Filled, list-same}
 use Rattle.panchanga.specs.declared.lunar.Reading.{Reading}
 use Rattle.grid.specs.Month.{Grid, gridOf, fitted, monthGrid, shown}
 use Rattle.grid.specs.Kathmandu.{readingOn, listUnder}
-use Rattle.grid.specs.Steady.{Steady}
+use Rattle.grid.specs.Longer.{MonthsStay}
 use Rattle.grid.proofs.Asked.{by-length, told, grid-ext}
 
 -- ---- for any lists that agree on the days of the shorter
@@ -77,7 +77,7 @@ module _ (rules : List ℕ) (today : Date) (c e : Calendar) (x : Extends c e) (w
   list-under : (y m d n : ℕ) → toDay c y m d ≡ answered n → listUnder c rules (dayNumbered (bs y m d) n) ≡ listUnder e rules (dayNumbered (bs y m d) n)
   list-under y m d n h = list-same _ c e x w (rulesOf rules) n (bs y m d) (from-to c y m d n h)
 
-  pub steady-by : Steady rules today c e
+  pub steady-by : MonthsStay rules today c e
   steady-by =
       let longer = grid-longer c e x w _ (listUnder c rules) (listUnder e rules) list-under readingOn today in
       record {
@@ -88,7 +88,7 @@ module _ (rules : List ℕ) (today : Date) (c e : Calendar) (x : Extends c e) (w
 
 -- the rows of one accepted table are the first rows of another, with the same rules, the same today and the same buffers
 pub steady : (rules : List ℕ) (today : Date) (t : Table) (rows more : List ℕ) → accepted t rows ≡ true → accepted t (rows ++ more) ≡ true
-    → Steady rules today (flat t rows) (flat t (rows ++ more))
+    → MonthsStay rules today (flat t rows) (flat t (rows ++ more))
 steady rules today t rows more a b =
     steady-by rules today (flat t rows) (flat t (rows ++ more)) (extends t rows more a b)
     (λ i m h k. omega (arith, row-lens rows i m (facts t rows a .row i h) k))

@@ -9,7 +9,8 @@ use lib.Seq.{sets, length-sets}
 use Rattle.paper.proofs.Stores.{sets-append}
 use Rattle.rules.specs.Festivals.{Pair, numbers}
 use Rattle.rules.proofs.Listed.{numbers-length, numbers-append}
-use Rattle.grid.specs.Cells.{each, joined}
+use Rattle.festivals.specs.Months.{each}
+use Rattle.grid.specs.Cells.{joined}
 
 -- nothing is left at the end
 none-left : {A : Type 0} (f : ℕ → List A) (d k : ℕ) → k ≡ 0 → joined (each f d k) ≡ []

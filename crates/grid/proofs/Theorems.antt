@@ -1,13 +1,12 @@
 -- What is proved of a month that is answered, for any calendar, any day lists, any readings and any today: whole weeks from Sunday, as many blanks
 -- before the first day as its weekday says, the days in their order with no gap, blanks to the week's end; and what a cell's holiday number and its
 -- count say of the day's list. Assumes nothing.
-use Prim.Native.Nat.{ℕ, zero, suc, _+_, _-_, _*_, _%_, _<_}
+use Prim.Native.Nat.{ℕ, _+_, _-_, _*_, _%_, _<_}
 use mathlib.Core.Path.{_≡_, refl, sym, ap, subst, _∙_}
 use mathlib.Core.Bool.{Bool}
 use mathlib.Core.List.{List}
 use native.Mathlib.Nat.{zero-add}
-use native.Mathlib.Omega.{arith}
-use lib.ListN.{length, getD, take, drop, replicate}
+use lib.ListN.{length, getD}
 use lib.Seq.{take-at}
 use Rattle.paper.specs.Answers.{Answer, answered, refused}
 use Rattle.paper.proofs.Answers.{answered-same, refused-answered}
@@ -19,25 +18,14 @@ use Rattle.rules.specs.Festivals.{Pair}
 use Rattle.rules.proofs.Listed.{numbers-length}
 use Rattle.panchanga.specs.declared.lunar.Reading.{Reading}
 use Rattle.grid.specs.declared.Month.{Month}
-use Rattle.grid.specs.Cells.{one, holidayOf, cellWith, blank, toFill, each}
+use Rattle.festivals.specs.Months.{each}
+use Rattle.festivals.proofs.Moons.{each-length, each-at}
+use Rattle.grid.specs.Cells.{one, holidayOf, cellWith, blank}
+use Rattle.grid.specs.Claims.{InWeeks, Written}
 use Rattle.grid.specs.Month.{Grid, listOn, cellOn, gridOf, cellNumbers, festivalNumbers, monthGrid, shown}
 use Rattle.grid.proofs.Marks.{cell-length}
-use Rattle.grid.proofs.Weeks.{each-length, month-length, month-numbers, weeks-whole, weeks-lead, weeks-at, weeks-tail}
+use Rattle.grid.proofs.Weeks.{month-length, month-numbers, weeks-whole, weeks-lead, weeks-at, weeks-tail}
 use Rattle.grid.proofs.Asked.{told}
-
-each-at : {A : Type 0} (f : ℕ → A) (k n d : ℕ) (z : A) → d < n → getD (each f k n) d z ≡ f (k + d)
-unfolding each
-each-at f k zero d z h = absurd (omega arith)
-each-at f k (suc n) zero z h = ap f (omega arith)
-each-at f k (suc n) (suc d) z h = each-at f (k + 1) n d z (omega arith) ∙ ap f (omega arith)
-
--- cells in whole weeks: blanks, so many days, and blanks to the week's end
-pub record InWeeks (lead days : ℕ) (day : ℕ → List ℕ) (cells : List (List ℕ)) : Type 0 where
-  pub whole : length cells % 7 ≡ 0
-  pub count : length cells ≡ lead + days + toFill (lead + days)
-  pub before : take lead cells ≡ replicate lead blank
-  pub each-day : (d : ℕ) → d < days → getD cells (lead + d) blank ≡ day d
-  pub after : drop (lead + days) cells ≡ replicate (toFill (lead + days)) blank
 
 module _ (list : Day → List Pair) (reading : Day → Reading) (today : Date) (y m first : ℕ) where
   -- a month of so many days: the blanks before the first are as many as its weekday
@@ -83,12 +71,7 @@ module _ (c : Calendar) (ok : Bool) (list : Day → List Pair) (reading : Day �
   pub month-count : (d : ℕ) → d < days → getD (getD (g .cells) (weekdayOf first + d) blank) 11 0 ≡ length (listOn list reading today y m first d)
   month-count d k = ap (λ (l : List ℕ). getD l 11 0) (month-weeks .each-day d k) ∙ count-says list reading today y m first d
 
--- ---- what the call answers and writes: the cells answered are those of the month, a multiple of seven, and they stand at the front of the buffer
-
-pub record Written (g : Grid) (cells festivals : List ℕ) (r : Month) : Type 0 where
-  pub whole : r .cells % 7 ≡ 0
-  pub cells-at-front : take (r .cells * 12) cells ≡ cellNumbers g
-  pub festivals-at-front : take (r .festivals * 2) festivals ≡ festivalNumbers g
+-- ---- what the call answers and writes
 
 numbers-count : (list : Day → List Pair) (reading : Day → Reading) (today : Date) (y m first days : ℕ)
     → let g = gridOf list reading today y m first days in length (cellNumbers g) ≡ length (g .cells) * 12

@@ -5,14 +5,11 @@ use mathlib.Core.List.{List, [], _∷_, _++_, append-assoc}
 use native.Mathlib.Omega.{arith}
 use lib.ListN.{length, getD, take, drop, replicate, length-append, length-replicate, replicate-append-replicate}
 use lib.Seq.{getD-take, getD-drop, sets, sets-eq, take-at, drop-at}
-use Rattle.grid.specs.Cells.{blank, toFill, weeks, each, joined}
+use Rattle.festivals.specs.Months.{each}
+use Rattle.festivals.proofs.Moons.{each-length}
+use Rattle.grid.specs.Cells.{blank, toFill, weeks, joined}
 
 -- ---- lists of cells
-
-pub each-length : {A : Type 0} (f : ℕ → A) (k n : ℕ) → length (each f k n) ≡ n
-unfolding each
-each-length f k zero = refl
-each-length f k (suc n) = ap suc (each-length f (k + 1) n)
 
 joined-append : {A : Type 0} (a b : List (List A)) → joined (a ++ b) ≡ joined a ++ joined b
 unfolding joined

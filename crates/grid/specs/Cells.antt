@@ -1,5 +1,5 @@
 -- A day's cell of twelve numbers, and cells laid out in weeks from Sunday. Assumes nothing.
-use Prim.Native.Nat.{ℕ, zero, suc, _+_, _-_, _%_}
+use Prim.Native.Nat.{ℕ, _+_, _-_, _%_}
 use mathlib.Core.Bool.{Bool, true, false, _&&_, _||_}
 use mathlib.Core.List.{List, [], _∷_, _++_}
 use lib.Dec.{eqb}
@@ -66,11 +66,6 @@ toFill k = (7 - k % 7) % 7
 -- whole weeks: blanks up to the first day's weekday, the days, blanks to the week's end
 unfoldable pub weeks : ℕ → List (List ℕ) → List (List ℕ)
 weeks lead days = replicate lead blank ++ days ++ replicate (toFill (lead + length days)) blank
-
--- f k, f (k + 1), .., f (k + n - 1)
-unfoldable pub each : {A : Type 0} → (ℕ → A) → ℕ → ℕ → List A
-each f k zero = []
-each f k (suc n) = f k ∷ each f (k + 1) n
 
 -- one after the other
 unfoldable pub joined : {A : Type 0} → List (List A) → List A

@@ -3,5 +3,6 @@ pub mod Step
 pub mod Cells
 pub mod Month
 pub mod Kathmandu
-pub mod Steady
+pub mod Longer
 pub mod Inner
+pub mod Claims

@@ -18,7 +18,8 @@ use Rattle.panchanga.specs.declared.lunar.Reading.{Reading}
 use Rattle.grid.specs.declared.Month.{Month}
 use Rattle.grid.specs.declared.GridAnswer.{GridAnswer}
 use Rattle.grid.specs.declared.GridAnswer.the-variants as GA
-use Rattle.grid.specs.Cells.{dayCell, weeks, each, joined}
+use Rattle.festivals.specs.Months.{each}
+use Rattle.grid.specs.Cells.{dayCell, weeks, joined}
 
 -- a month whose first day has the number `first`: its day d, counted from 0
 abbrev pub dayOn : ℕ → ℕ → ℕ → ℕ → Day

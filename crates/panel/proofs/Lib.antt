@@ -1,1 +1,4 @@
 pub mod Handing
+pub mod Crossing
+pub mod Once
+pub mod Longer

@@ -23,7 +23,7 @@ use Rattle.rules.specs.declared.Rule.{Rule}
 use Rattle.rules.specs.Sky.{Sky}
 use Rattle.rules.specs.Days.{next, holds}
 use Rattle.rules.specs.Festivals.{dated, firstDay, lastDay, moons, inMonth, opening, ruleDay, inTable, entry, entryOn, isComputed, dayPairs, dayList}
-use Rattle.rules.specs.Steady.{AddedDay, SameEntry}
+use Rattle.rules.specs.Longer.{AddedDay, SameEntry}
 
 -- ---- the tests of a date and of an entry
 same-dated : (p : BsDate → Bool) (a b : Answer BsDate) → ((t : BsDate) → a ≡ answered t → b ≡ answered t) → ((t : BsDate) (k : Refusal) → a ≡ refused k → b ≡ answered t → p t ≡ false) → dated a p ≡ dated b p

@@ -25,7 +25,7 @@ use Rattle.rules.specs.declared.Rule.{Rule}
 use Rattle.rules.specs.Lent.{lent}
 use Rattle.rules.specs.Sky.{Sky}
 use Rattle.rules.specs.Festivals.{Pair, listed, listOnBs, listOnAd}
-use Rattle.rules.specs.Steady.{AddedDay, SameList, Steady}
+use Rattle.rules.specs.Longer.{AddedDay, SameList, ListsStay}
 use Rattle.rules.proofs.Lent.{lent-told}
 use Rattle.rules.proofs.Questions.{then-by, on-bs, on-ad}
 use Rattle.rules.proofs.Following.{then-told, then-longer, then-added}
@@ -92,7 +92,7 @@ module _ {I : Type 0} (s : Sky I) (rs : List Rule) (ok : Bool) (c e : Calendar) 
       rw (on-ad s c rs ok y m d (x .good) (o .0) (o .1))
       (then-added (fromDay c n) (fromDay e n) _ _ (from-day-longer c e x n) (λ t q. ap answered (list-same s c e x w rs n t q)) Outside (AddedDay c e n) (t .0) l (t .1 .0) (day-refused c e x n (t .0) (t .1 .0)) q)
 
-pub steady-by : {I : Type 0} (s : Sky I) (rs : List Rule) (ok : Bool) (out : List ℕ) (c e : Calendar) → Extends c e → Filled c → Steady s rs ok out c e
+pub steady-by : {I : Type 0} (s : Sky I) (rs : List Rule) (ok : Bool) (out : List ℕ) (c e : Calendar) → Extends c e → Filled c → ListsStay s rs ok out c e
 steady-by s rs ok out c e x w =
     record {
       opens = λ y m h. opening-same s c e x w y h m;
@@ -108,5 +108,5 @@ filled t rows g i m h k = omega (arith, row-lens rows i m (facts t rows g .row i
 
 -- DEMAND 3: the rows of one accepted table are the first rows of another, with the same rules, the same sky and the same buffer
 pub steady : {I : Type 0} (s : Sky I) (rs : List Rule) (ok : Bool) (out : List ℕ) (t : Table) (rows more : List ℕ) → accepted t rows ≡ true → accepted t (rows ++ more) ≡ true
-    → Steady s rs ok out (flat t rows) (flat t (rows ++ more))
+    → ListsStay s rs ok out (flat t rows) (flat t (rows ++ more))
 steady s rs ok out t rows more a b = steady-by s rs ok out (flat t rows) (flat t (rows ++ more)) (extends t rows more a b) (filled t rows a)

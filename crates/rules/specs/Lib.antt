@@ -5,4 +5,4 @@ pub mod Days
 pub mod Festivals
 pub mod Resolved
 pub mod Inner
-pub mod Steady
+pub mod Longer

@@ -49,7 +49,7 @@ abbrev written : Shown → List ℕ × List ℕ
 written w = (w .cells, w .festivals)
 
 -- a today, for the claims that ask none
-abbrev any : Date
+abbrev pub any : Date
 any = record { year = 1950; month = 1; day = 1 }
 
 -- a table and the same with more rows, both accepted, lent at any two places

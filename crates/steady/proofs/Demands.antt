@@ -44,7 +44,8 @@ pub use Rattle.grid.proofs.month_grid.Met.{met as month-grid}
 pub use Rattle.steady.proofs.Refusals.{list-left, month-left, starts-left}
 -- DEMAND 2: for every accepted table the BS dates and the table days match one to one, in order, and all else is refused with its number; a table that
 -- is not accepted answers nothing
-pub use Rattle.conversion.proofs.Theorems.{OneToOne, NoTable, one-to-one, no-table}
+pub use Rattle.conversion.specs.Claims.{OneToOne, NoTable}
+pub use Rattle.conversion.proofs.Theorems.{one-to-one, no-table}
 -- DEMAND 3: rows added to a table change no answer
 pub use Rattle.steady.proofs.Steady.{steady}
 -- and so of two results that meet a call's contract, under the table and under the longer one

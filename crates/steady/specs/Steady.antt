@@ -13,7 +13,7 @@ use Rattle.conversion.specs.declared.Table.{Table}
 use Rattle.conversion.specs.Calendar.{Calendar, monthLen, validBs, toAd, fromAd}
 use Rattle.conversion.specs.Flat.{flat, date}
 use Rattle.conversion.specs.Claims.{Added, RefusedIf}
-use Rattle.rules.specs.Steady.{AddedDay}
+use Rattle.rules.specs.Longer.{AddedDay}
 use Rattle.festivals.specs.Answers.{onBs, onAd}
 use Rattle.grid.specs.Step.{stepMonth}
 use Rattle.grid.specs.Kathmandu.{monthShown}

@@ -24,7 +24,7 @@ loop-holds c = let a = c .before .args in (omega arith, wrote-none (a .list .now
 loop-again : tie.Need-loop-again Inv-loop μ-loop
 loop-again c = let l = c .before .before .before .before .before .before .loop in
     let a = c .before .before .before .before .before .before .before .before .args in
-    (omega arith, append-turn (a .w) (l .i) (c .before .before .before .small .result) (l .inv .1) (c .before .before .before .small .ensures (omega arith)) (c .before .before .put .ensures))
+    (omega arith, append-turn (a .w) (l .i) (c .before .before .before .small .result) (l .inv .1) (c .before .before .before .small .ensures) (c .before .before .put .ensures))
 
 same-length : tie.Need-same-length Inv-loop μ-loop
 same-length c = let l = c .before .loop in let a = c .before .before .before .args in

@@ -1,5 +1,4 @@
 -- `answers::almanac::reply` meets its contract. Assumes nothing.
-use lib.Dec.{lit<}
 use Rattle.answers.specs.Almanac.{almanacReply}
 use borrow.Author.Needs.{needs}
 use borrow.Author.Tests.{ne-eqb}
@@ -12,7 +11,7 @@ returns c = rw (c .before .before .if1 .taken, c .of-date .ensures, c .before .d
 
 returns-2 : tie.Need-returns-2
 unfolding almanacReply
-returns-2 c = rw (ne-eqb _ _ (c .before .before .before .before .before .if1 .left), c .before .before .before .if2 .taken, c .kala .ensures, c .before .small .ensures (lit< tt), c .before .before .date-of2 .ensures)
+returns-2 c = rw (ne-eqb _ _ (c .before .before .before .before .before .if1 .left), c .before .before .before .if2 .taken, c .kala .ensures, c .before .small .ensures, c .before .before .date-of2 .ensures)
 
 returns-3 : tie.Need-returns-3
 unfolding almanacReply

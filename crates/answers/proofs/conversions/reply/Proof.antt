@@ -1,5 +1,4 @@
 -- `answers::conversions::reply` meets its contract. Assumes nothing.
-use lib.Dec.{lit<}
 use denote.Ref.{now}
 use Rattle.conversion.specs.Flat.{flat}
 use Rattle.replies.specs.Replies.{among}
@@ -20,11 +19,11 @@ returns-2 c = rw (c .before .before .before .before .match .keys2, c .before .be
 
 returns-3 : tie.Need-returns-3
 unfolding conversionsReply among
-returns-3 c = rw (c .before .before .before .before .before .before .match .keys3, c .before .before .before .before .before .if3 .taken, c .bs .ensures, c .before .ad-to-bs .ensures, c .before .before .small3 .ensures (lit< tt), c .before .before .before .small2 .ensures (lit< tt), c .before .before .before .before .small .ensures (lit< tt))
+returns-3 c = rw (c .before .before .before .before .before .before .match .keys3, c .before .before .before .before .before .if3 .taken, c .bs .ensures, c .before .ad-to-bs .ensures, c .before .before .small3 .ensures, c .before .before .before .small2 .ensures, c .before .before .before .before .small .ensures)
 
 returns-4 : tie.Need-returns-4
 unfolding conversionsReply among
-returns-4 c = rw (c .before .before .before .before .before .match .keys4, c .before .before .before .before .if4 .taken, c .len .ensures, c .before .bs-month-len .ensures, c .before .before .small5 .ensures (lit< tt), c .before .before .before .small4 .ensures (lit< tt))
+returns-4 c = rw (c .before .before .before .before .before .match .keys4, c .before .before .before .before .if4 .taken, c .len .ensures, c .before .bs-month-len .ensures, c .before .before .small5 .ensures, c .before .before .before .small4 .ensures)
 
 returns-5 : tie.Need-returns-5
 unfolding conversionsReply among

@@ -1,5 +1,4 @@
 -- `answers::days::reply` meets its contract. Assumes nothing.
-use lib.Dec.{lit<}
 use Rattle.replies.specs.Replies.{among}
 use Rattle.answers.specs.Days.{daysRows, daysReply}
 use borrow.Author.Needs.{needs}
@@ -14,15 +13,15 @@ returns c = rw (c .before .before .before .match .keys1, c .before .before .if1 
 
 returns-2 : tie.Need-returns-2
 unfolding daysReply among
-returns-2 c = rw (c .before .before .before .before .match .keys2, c .before .before .before .if2 .taken, c .date .ensures, c .before .from-day-number .ensures, c .before .before .large .ensures (lit< tt))
+returns-2 c = rw (c .before .before .before .before .match .keys2, c .before .before .before .if2 .taken, c .date .ensures, c .before .from-day-number .ensures, c .before .before .large .ensures)
 
 returns-3 : tie.Need-returns-3
 unfolding daysReply among
-returns-3 c = rw (c .before .before .before .before .before .match .keys3, c .before .before .before .before .if3 .taken, c .julian .ensures, c .before .julian-day .ensures, c .before .before .float .ensures (lit< tt), c .before .before .before .date-of2 .ensures)
+returns-3 c = rw (c .before .before .before .before .before .match .keys3, c .before .before .before .before .if3 .taken, c .julian .ensures, c .before .julian-day .ensures, c .before .before .float .ensures, c .before .before .before .date-of2 .ensures)
 
 returns-4 : tie.Need-returns-4
 unfolding daysReply among
-returns-4 c = rw (c .before .before .before .before .match .keys4, c .before .before .before .if4 .taken, c .date2 .ensures, c .before .npt-date .ensures, c .before .before .float2 .ensures (lit< tt))
+returns-4 c = rw (c .before .before .before .before .match .keys4, c .before .before .before .if4 .taken, c .date2 .ensures, c .before .npt-date .ensures, c .before .before .float2 .ensures)
 
 returns-5 : tie.Need-returns-5
 unfolding daysReply among

@@ -1,5 +1,4 @@
 -- `answers::heavens::reply` meets its contract. Assumes nothing.
-use lib.Dec.{lit<}
 use Rattle.answers.specs.Heavens.{heavensReply}
 use borrow.Author.Needs.{needs}
 use borrow.Author.Tests.{ne-eqb}
@@ -8,7 +7,7 @@ use Rattle.answers.proofs.heavens.reply.Tie as tie
 
 returns : tie.Need-returns
 unfolding heavensReply
-returns c = rw (c .before .before .if1 .taken, c .of-float .ensures, c .before .float .ensures (lit< tt))
+returns c = rw (c .before .before .if1 .taken, c .of-float .ensures, c .before .float .ensures)
 
 returns-2 : tie.Need-returns-2
 unfolding heavensReply

@@ -1,5 +1,4 @@
 -- `answers::searches::search` meets its contract. Assumes nothing.
-use native.Mathlib.Omega.{arith}
 use Rattle.output.proofs.Gathering.{then}
 use Rattle.answers.specs.Searches.{startsWords}
 use borrow.Author.Needs.{needs}
@@ -8,7 +7,7 @@ use Rattle.answers.proofs.searches.search.Tie as tie
 
 returns : tie.Need-returns
 unfolding startsWords
-returns c = rw (← c .before .before .before .before .before .before .before .before .before .before .before .before .before .before .before .before .small .ensures (omega arith), ← c .before .before .before .before .before .before .before .before .before .before .before .before .before .before .before .float .ensures (omega arith), ← c .before .before .before .before .before .before .before .before .before .before .before .before .before .before .float2 .ensures (omega arith), ← c .before .before .before .before .before .before .before .before .before .before .before .before .tithi-starts-between .ensures .0, ← c .before .before .before .before .before .before .before .before .before .before .before .before .tithi-starts-between .ensures .1, ← c .before .before .before .before .before .before .before .before .before .counted .ensures) (then (c .before .before .before .before .before .before .before .put .ensures) (c .before .before .elements .ensures))
+returns c = rw (← c .before .before .before .before .before .before .before .before .before .before .before .before .before .before .before .before .small .ensures, ← c .before .before .before .before .before .before .before .before .before .before .before .before .before .before .before .float .ensures, ← c .before .before .before .before .before .before .before .before .before .before .before .before .before .before .float2 .ensures, ← c .before .before .before .before .before .before .before .before .before .before .before .before .tithi-starts-between .ensures .0, ← c .before .before .before .before .before .before .before .before .before .before .before .before .tithi-starts-between .ensures .1, ← c .before .before .before .before .before .before .before .before .before .counted .ensures) (then (c .before .before .before .before .before .before .before .put .ensures) (c .before .before .elements .ensures))
 
 pub search-spec : {M : Type 1} → statement M
 search-spec =

@@ -3,17 +3,17 @@ use borrow.Author.Needs.{needs}
 use mathlib.Core.Path.{_≡_, refl, sym, ap, _∙_}
 use Prim.Native.Nat.{_-_, _≤_}
 use native.Mathlib.Omega.{arith}
+use lib.Ieee.{ofBits}
 use lib.ListN.{length}
+use Rattle.paper.specs.Floats.{near}
 use Rattle.paper.specs.declared.Refusal.the-variants.{Outside}
 use Rattle.paper.specs.Answers.{answered}
 use Rattle.conversion.specs.Calendar.{fromDay}
 use Rattle.conversion.specs.Flat.{flat}
-use Rattle.festivals.specs.declared.months.Months.{Months}
 use Rattle.festivals.specs.Kathmandu.{kathmandu}
-use Rattle.festivals.specs.Months.{monthAt}
 use Rattle.festivals.specs.Answers.{dayIs}
 use Rattle.festivals.proofs.Placed.{inside, outside, month-of}
-use Rattle.festivals.proofs.Moons.{put, Stands, stands-turn, place-nothing, place-outside, place-other, place-in, placed-none, placed-first}
+use Rattle.festivals.proofs.Moons.{put, Stands, stands-turn, place-nothing, place-outside, place-other, place-in, placed-none, placed-first, none-yet}
 use Rattle.festivals.proofs.months.months_of.Statement.{statement}
 use Rattle.festivals.proofs.months.months_of.Tie as tie
 
@@ -78,15 +78,13 @@ loop-again-4 c =
     stands-turn _ _ _ _ _ _ _ _ _ (d .before .before .loop-test .taken) (fits d) (place-in _ _ _ _ _ _ (sym (ap dayIs (n .k .given .1)) ∙ d .nepal-day .ensures) _ (dated-in t) (c .before .if1 .left)) (d .before .before .before .loop .inv)
 
 returns : tie.Need-returns Inv-loop μ-loop
+unfolding near ofBits
 returns c =
     let l = c .before in
     let a = l .before .before .args in
     let k = flat (a .table) (a .rows .now) in
     let e : l .loop .i ≡ a .n = omega arith in
-    let q = sym (placed-none _ k (a .year) (a .found .now) (a .n) (l .loop .m)) ∙ (rw e at (l .loop .inv .1)) in
-    λ j h.
-    ap (λ (m : Months). monthAt m j) q
-    ∙ placed-first _ k (a .year) j h _ _ refl refl
+    sym (placed-none _ k (a .year) (a .found .now) (a .n) (l .loop .m)) ∙ (rw e at (l .loop .inv .1)) ∙ placed-first _ k (a .year) _ _ none-yet
 
 pub months-of-spec : {M : Type 1} → statement M
 months-of-spec =

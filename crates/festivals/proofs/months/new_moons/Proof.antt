@@ -1,9 +1,8 @@
 -- `festivals::months::new_moons` meets its contract. Assumes nothing.
 use borrow.Author.Needs.{needs}
-use mathlib.Core.Path.{_∙_}
 use lib.Ieee.{ofBits}
 use Rattle.paper.specs.Floats.{near}
-use Rattle.festivals.proofs.Moons.{moons-front, moons-from}
+use Rattle.festivals.proofs.Moons.{moons-from}
 use Rattle.festivals.proofs.months.new_moons.Statement.{statement}
 use Rattle.festivals.proofs.months.new_moons.Tie as tie
 
@@ -11,9 +10,8 @@ returns : tie.Need-returns
 unfolding near ofBits
 returns c =
     let w = c .walk .ensures in
-    let to = c .before .before in
-    let m = moons-front _ _ _ _ _ (w .0) (w .1 .1 .1) (to .before .before .pre) in
-    (m .0, m .1 ∙ moons-from _ _ _ _ (to .before .zero-hour .ensures) (to .zero-hour2 .ensures))
+    let e = moons-from _ _ _ _ (c .before .before .before .zero-hour .ensures) (c .before .before .zero-hour2 .ensures) in
+    (rw (← e) (w .0), rw (← e) (w .1 .1 .1))
 
 pub new-moons-spec : {M : Type 1} → statement M
 new-moons-spec =

@@ -1,6 +1,5 @@
 -- The line's first three numbers are the date that is asked. Assumes nothing.
 use borrow.Author.Tests.{ne-eqb}
-use lib.Dec.{lit<}
 use Rattle.questions.specs.Lists.{listAsked}
 use borrow.Author.Needs.{needs}
 use Rattle.questions.proofs.lists.asked.Statement.{statement}
@@ -9,12 +8,12 @@ use Rattle.questions.proofs.lists.asked.Tie as tie
 returns : tie.Need-returns
 unfolding listAsked
 returns c = rw (c .before .before .before .before .if1 .taken)
-    (rw (c .before .before .before .before .before .before .before .before .small .ensures (lit< tt), c .before .before .before .before .before .before .before .small2 .ensures (lit< tt), c .before .before .before .before .before .before .small3 .ensures (lit< tt)) at (c .before .before .festivals-on .ensures))
+    (rw (c .before .before .before .before .before .before .before .before .small .ensures, c .before .before .before .before .before .before .before .small2 .ensures, c .before .before .before .before .before .before .small3 .ensures) at (c .before .before .festivals-on .ensures))
 
 returns-2 : tie.Need-returns-2
 unfolding listAsked
 returns-2 c = rw (ne-eqb _ _ (c .before .before .before .before .if1 .left))
-    (rw (c .before .before .before .before .before .before .before .before .small .ensures (lit< tt), c .before .before .before .before .before .before .before .small2 .ensures (lit< tt), c .before .before .before .before .before .before .small3 .ensures (lit< tt)) at (c .before .before .festivals-on-ad .ensures))
+    (rw (c .before .before .before .before .before .before .before .before .small .ensures, c .before .before .before .before .before .before .before .small2 .ensures, c .before .before .before .before .before .before .small3 .ensures) at (c .before .before .festivals-on-ad .ensures))
 
 pub asked-spec : {M : Type 1} → statement M
 asked-spec =

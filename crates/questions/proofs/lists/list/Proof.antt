@@ -2,7 +2,6 @@
 use Prim.Native.Nat.{ℕ}
 use mathlib.Core.Path.{sym}
 use borrow.Author.Tests.{eq-eqb, ne-eqb}
-use lib.Dec.{lit<}
 use lib.Seq.{length-take-le}
 use Rattle.answers.proofs.Lent.{taken}
 use Rattle.questions.specs.Lists.{listWords}
@@ -15,7 +14,7 @@ slice-aggregate-put-asked c = sym (length-take-le (c .before .before .small .res
 
 returns : tie.Need-returns
 unfolding listWords
-returns c = rw (eq-eqb _ _ (c .before .before .before .before .before .before .before .if1 .taken), ← c .before .before .before .before .before .before .small .ensures (lit< tt), ← taken {A = ℕ} (c .before .before .before .before .before .before .small .result) 65535 7 (search needs)) (c .before .before .before .put-asked .ensures)
+returns c = rw (eq-eqb _ _ (c .before .before .before .before .before .before .before .if1 .taken), ← c .before .before .before .before .before .before .small .ensures, ← taken {A = ℕ} (c .before .before .before .before .before .before .small .result) 65535 7 (search needs)) (c .before .before .before .put-asked .ensures)
 
 returns-2 : tie.Need-returns-2
 unfolding listWords

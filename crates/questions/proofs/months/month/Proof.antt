@@ -2,7 +2,6 @@
 use Prim.Native.Nat.{ℕ}
 use mathlib.Core.Path.{sym}
 use borrow.Author.Tests.{eq-eqb, ne-eqb}
-use lib.Dec.{lit<}
 use lib.Seq.{length-take-le}
 use Rattle.answers.proofs.Lent.{taken}
 use Rattle.questions.specs.Months.{gridWords}
@@ -26,8 +25,8 @@ returns : tie.Need-returns
 unfolding gridWords
 returns c = rw (
   eq-eqb _ _ (c .before .before .before .before .before .before .before .before .before .before .if1 .taken),
-  ← c .before .before .before .before .before .before .before .before .before .small .ensures (lit< tt),
-  ← c .before .before .before .before .before .before .before .before .small2 .ensures (lit< tt),
+  ← c .before .before .before .before .before .before .before .before .before .small .ensures,
+  ← c .before .before .before .before .before .before .before .before .small2 .ensures,
   ← taken {A = ℕ} (c .before .before .before .before .before .before .before .before .before .small .result) 65535 7 (search needs),
   ← taken {A = ℕ} (c .before .before .before .before .before .before .before .before .small2 .result) 65535 7 (search needs),
 )

@@ -32,7 +32,7 @@ pub record SameList (short long : Answer (List Pair)) (out : List ℕ) (l : List
   pub written : listed long out ≡ listed short out
 
 module _ {I : Type 0} (s : Sky I) (rs : List Rule) (ok : Bool) (out : List ℕ) (short long : Calendar) where
-  pub record Steady : Type 0 where
+  pub record ListsStay : Type 0 where
     -- of a year of the shorter, or one before it: the lunar months are the same, and the computed entries, but those in an added year
     pub opens : (y m : ℕ) → y < short .first + short .years → opening s short y m ≡ opening s long y m
     pub entries : (y : ℕ) (r : Rule) → y < short .first + short .years → SameEntry short long (entry s short y r) (entry s long y r)

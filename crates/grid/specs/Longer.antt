@@ -11,7 +11,7 @@ use Rattle.conversion.specs.Claims.{Added, RefusedIf}
 use Rattle.grid.specs.Month.{Grid, shown}
 use Rattle.grid.specs.Kathmandu.{monthUnder}
 
-pub record Steady (rules : List ℕ) (today : Date) (short long : Calendar) : Type 0 where
+pub record MonthsStay (rules : List ℕ) (today : Date) (short long : Calendar) : Type 0 where
   -- every month that the shorter answers: the same grid
   pub month : (y m a b : ℕ) (g : Grid) → monthUnder short rules today y m a b ≡ answered g → monthUnder long rules today y m a b ≡ answered g
   -- and so the same answer and the same numbers in both buffers

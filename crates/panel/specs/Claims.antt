@@ -1,0 +1,27 @@
+-- What is claimed of the C functions. A contract, as the checker reads it (`Learnt`), is a claim on the lifetimes, the arguments, the number that is
+-- answered and the parameters at exit. Assumes nothing.
+use Prim.Native.Nat.{ℕ}
+use mathlib.Core.Path.{_≡_}
+use Rattle.steady.specs.Once.{OneOutcome}
+
+module _ {K : Type 0} {A S : K → Type 0} {B : Type 0} (C : (k : K) → A k → ℕ → S k → Type 0) where
+  -- `before` reads the lent places and buffers from the arguments, `after` from the parameters at exit
+  pub record Crosses (before : (k : K) → A k → B) (after : (k : K) → S k → B) : Type 0 where
+    -- no second number, and no second state of a place or a buffer, meets the contract
+    pub once : OneOutcome C after
+    -- a number other than 0 leaves every place and buffer
+    pub left : (k : K) (a : A k) (x : ℕ) (s : S k) → C k a x s → (x ≡ 0 → ⊥) → after k s ≡ before k a
+
+-- the number x is n where P holds, and 0 where it does not
+pub record NumberIf (x n : ℕ) (P : Type 0) : Type 0 where
+  pub when : P → x ≡ n
+  pub only : (x ≡ 0 → ⊥) → P
+
+module _ {K : Type 0} {A S : K → Type 0} {B : Type 0} (C : (k : K) → A k → ℕ → S k → Type 0) where
+  -- DEMAND 3 at the boundary: `short` and `long` are the arguments of two calls, under a table and under the same with more rows, in all else the
+  -- same; P says of what the second wrote that it lies in an added year, and n is the refusal's number
+  pub record Grows (after : (k : K) → S k → B) (short long : (k : K) → A k) (n : ℕ) (P : B → Type 0) : Type 0 where
+    -- what the shorter answers the longer answers, with the same numbers in each place and buffer
+    pub same : (k l : K) (x y : ℕ) (s : S k) (t : S l) → C k (short k) x s → C l (long l) y t → x ≡ 0 → (y ≡ 0) × (after l t ≡ after k s)
+    -- what the longer answers the shorter refuses exactly if it lies in an added year
+    pub added : (k l : K) (x y : ℕ) (s : S k) (t : S l) → C k (short k) x s → C l (long l) y t → y ≡ 0 → NumberIf x n (P (after l t))
