@@ -6,9 +6,11 @@ use mathlib.Core.Option.{Option, some, none}
 use lib.Dec.{leb}
 use lib.Ieee.{Float}
 use Rattle.paper.specs.Answers.{Answer, answered, refused, given}
-use Rattle.paper.specs.Refusals.{number}
+use Rattle.paper.specs.Refusals.{number, line}
 use Rattle.paper.specs.declared.Refusal.{Refusal}
-use Rattle.paper.specs.declared.Refusal.the-variants as R
+use Rattle.paper.specs.declared.Refusal.the-variants.{BadRules}
+use Rattle.paper.specs.declared.Told.{Told}
+use Rattle.paper.specs.declared.Told.the-variants.{Line, Nothing}
 use Rattle.gregorian.specs.declared.Date.{Date}
 use Rattle.conversion.specs.declared.BsDate.{BsDate}
 use Rattle.conversion.specs.declared.Table.{Table}
@@ -42,24 +44,18 @@ givesSome (refused k) parts old = (number k, old)
 abbrev pub givesList : Listed → ℕ → (ℕ × ℕ) × List ℕ
 givesList l old = (gives (l .answer) (λ n. n) old, l .buffer)
 
--- with 12 the number of the line goes to a place of its own, which every answer and every other refusal leaves
-abbrev pub lineOf : Refusal → ℕ → ℕ
-lineOf R.BadTable old = old
-lineOf R.BadRules old = old
-lineOf R.NoSuchDate old = old
-lineOf R.NoYear old = old
-lineOf R.NoMonth old = old
-lineOf R.NoDay old = old
-lineOf R.Outside old = old
-lineOf R.OutOfRange old = old
-lineOf R.NoRoom old = old
-lineOf R.OffTable old = old
-lineOf R.NotEnded old = old
-lineOf (R.OutOfForm line) old = line
+-- the place for a line: a line that is told goes there, all else leaves it
+abbrev pub lineIn : Told → ℕ → ℕ
+lineIn (Line k) old = k
+lineIn Nothing old = old
 
+abbrev pub numberAndLine : Refusal → ℕ → ℕ × ℕ
+numberAndLine k old = (number k, lineIn (line k) old)
+
+-- an answer and the place for a line
 abbrev pub givesLine : Answer ℕ → ℕ × ℕ → ℕ × (ℕ × ℕ)
 givesLine (answered n) old = (0, (n, old .1))
-givesLine (refused k) old = (number k, (old .0, lineOf k (old .1)))
+givesLine (refused k) old = (number k, (old .0, lineIn (line k) (old .1)))
 
 -- a rule file read: its count and the place of the line, and the lent buffer; one written: its bytes, and the lent buffer
 abbrev pub givesRead : Answer ℕ × List ℕ → ℕ × ℕ → (ℕ × (ℕ × ℕ)) × List ℕ
@@ -102,7 +98,7 @@ lent first y m d rows = flat (table first y m d) rows
 
 -- the instant of a kala by its number in a rule; a number that a rule may not have is refused as that rule is
 unfoldable pub kalaBy : ℕ → Date → Answer (Option Float)
-kalaBy k x = given (leb k 5) R.BadRules (kalaAnswer (kalaNamed k) x)
+kalaBy k x = given (leb k 5) BadRules (kalaAnswer (kalaNamed k) x)
 
 -- whether what is lent is accepted: yes, or the refusal k
 abbrev pub accepting : Bool → Refusal → Answer Unit

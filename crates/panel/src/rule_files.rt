@@ -1,20 +1,24 @@
 // Rules as a text file, read and written.
 ghost use mathlib.Core.Path.{_≡_};
-ghost use Rattle.paper.specs.Refusals.{number};
 ghost use Rattle.rulefile.specs.Files.{readSays, writtenSays, readInto, writeInto};
-ghost use Rattle.panel.specs.Boundary.{gives, lineOf, givesLine, givesRead, givesWritten};
+ghost use Rattle.panel.specs.Boundary.{gives, numberAndLine, givesLine, givesRead, givesWritten};
 use paper::Refusal;
+use paper::Told;
 use rulefile::FileRead;
 use rulefile::FileWritten;
 
-// The number of a refusal, and with 12 the line where it is asked for.
+// The number of a refusal, and the line that it tells where that is asked for.
 fn give_line(refusal: Refusal, line: &mut usize) -> u16
-    ensures { λ r. ⌜ (r, now (line .exit)) ≡ (number refusal, lineOf refusal (now (line .entry))) ⌝ }
+    ensures { λ r. ⌜ (r, now (line .exit)) ≡ numberAndLine refusal (now (line .entry)) ⌝ }
 {
-    if let Refusal::OutOfForm(k) = refusal {
-        *line = k;
+    let told = refusal.line();
+    match told {
+        Told::Line(k) => {
+            *line = k;
+            refusal.number()
+        }
+        Told::Nothing => refusal.number(),
     }
-    refusal.number()
 }
 
 // The number of rules where it is asked for, and with 12 the line.
