@@ -68,30 +68,28 @@ last-first : (y a b c d h k l : Bool) → (y && (a && (b && (c && (d && (h && (k
 last-first y a b c d h k l = simp and-assoc at (and-comm (y && (a && (b && (c && (d && (h && k)))))) l)
 
 module _ (r : Rule) where
+  -- the tests of a date, with others before and behind them, and the holiday's last or first
+  dated : (y h k : Bool) (last : ℕ) → (y && (leb 1 (r .month) && (leb (r .month) 12 && (leb 1 (r .day) && (leb (r .day) last && (h && (k && leb (r .holiday) 1)))))))
+      ≡ (leb (r .holiday) 1 && (y && (leb 1 (r .month) && (leb (r .month) 12 && (leb 1 (r .day) && (leb (r .day) last && (h && k)))))))
+  dated y h k last = last-first y (leb 1 (r .month)) (leb (r .month) 12) (leb 1 (r .day)) (leb (r .day) last) h k (leb (r .holiday) 1)
+
   fixed-rule : r .kind ≡ 1 → isNothing (firstField r) ≡ ruleGood r
   unfolding ruleGood mostDay onlyIn
-  fixed-rule e =
-      chain r ∙ rw e (simp (leb·zero, only-zero, or-false, and-assoc)
-      (last-first (eqb (r .year) 0) (leb 1 (r .month)) (leb (r .month) 12) (leb 1 (r .day)) (leb (r .day) 32) (eqb (r .half) 0) (eqb (r .kala) 0) (leb (r .holiday) 1)))
+  fixed-rule e = chain r ∙ rw e (simp (leb·zero, only-zero, or-false, and-assoc) (dated (eqb (r .year) 0) (eqb (r .half) 0) (eqb (r .kala) 0) 32))
 
   gregorian-rule : r .kind ≡ 2 → isNothing (firstField r) ≡ ruleGood r
   unfolding ruleGood mostDay onlyIn
-  gregorian-rule e =
-      chain r ∙ rw e (simp (leb·zero, only-zero, or-false, and-assoc)
-      (last-first (eqb (r .year) 0) (leb 1 (r .month)) (leb (r .month) 12) (leb 1 (r .day)) (leb (r .day) 31) (eqb (r .half) 0) (eqb (r .kala) 0) (leb (r .holiday) 1)))
+  gregorian-rule e = chain r ∙ rw e (simp (leb·zero, only-zero, or-false, and-assoc) (dated (eqb (r .year) 0) (eqb (r .half) 0) (eqb (r .kala) 0) 31))
 
   computed-rule : r .kind ≡ 3 → isNothing (firstField r) ≡ ruleGood r
   unfolding ruleGood mostDay onlyIn
-  computed-rule e =
-      chain r ∙ rw e (simp (leb·zero, only-zero, or-false, and-assoc)
-      (last-first (eqb (r .year) 0) (leb 1 (r .month)) (leb (r .month) 12) (leb 1 (r .day)) (leb (r .day) 15) (leb (r .half) 1) (leb (r .kala) 5) (leb (r .holiday) 1)))
+  computed-rule e = chain r ∙ rw e (simp (leb·zero, only-zero, or-false, and-assoc) (dated (eqb (r .year) 0) (leb (r .half) 1) (leb (r .kala) 5) 15))
 
   override-rule : r .kind ≡ 4 → isNothing (firstField r) ≡ ruleGood r
   unfolding ruleGood mostDay onlyIn
   override-rule e =
       let y : leb (r .year) (r .year) ≡ true = le-leb (r .year) (r .year) (omega arith) in
-      chain r ∙ rw (e, y) (simp (leb·zero, only-zero, or-false, and-assoc)
-      (last-first true (leb 1 (r .month)) (leb (r .month) 12) (leb 1 (r .day)) (leb (r .day) 32) (eqb (r .half) 0) (eqb (r .kala) 0) (leb (r .holiday) 1)))
+      chain r ∙ rw (e, y) (simp (leb·zero, only-zero, and-assoc) (dated true (eqb (r .half) 0) (eqb (r .kala) 0) 32))
 
   no-rule : r .kind ≡ 0 → isNothing (firstField r) ≡ ruleGood r
   unfolding ruleGood
