@@ -57,7 +57,7 @@ fn put_asked_page(
     doubtful::put_counts(p, q, out)
 }
 
-// Tests the rules and the years, and writes the page or one line on standard error.
+// Tests the rules and the years, and writes the page or one line on standard error. Where the rules are refused, that was said as they were read.
 fn answer_over(
     table: Table,
     rows: &[u16],
@@ -70,7 +70,6 @@ fn answer_over(
     requires { ⌜ accepted table (now rows) ≡ true ⌝ }
 {
     if !rules::accepts_rules(rules) {
-        complain(b"RULES: refused with 2\n");
         return;
     }
     if last < first {
@@ -89,7 +88,7 @@ fn answer_over(
     o.finish(out);
 }
 
-// Tests the table first.
+// Tests the table first, in the same way.
 fn answer(
     table: Table,
     rows: &[u16],
@@ -101,9 +100,7 @@ fn answer(
 ) {
     if conversion::accepts(table, rows) {
         answer_over(table, rows, first, last, rules, names, out);
-        return;
     }
-    complain(b"TABLE: refused with 1; ./patro spring TABLE TABLE says where it breaks a rule\n");
 }
 
 // The number that argument i is; a longer one than a buffer of eight bytes holds is none.

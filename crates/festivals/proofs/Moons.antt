@@ -128,8 +128,10 @@ module _ (f : ℕ → Option Float) (x : Float) where
   put-over : (j : ℕ) → put (monthsBy f) j x ≡ monthsBy (λ m. cond (eqb (j + 1) m) (some x) (f m))
   unfolding put monthsBy
   put-over j =
-      rw (set-each (λ m. moonOf (f m)) (λ m. moonOf (cond (eqb (j + 1) m) (some x) (f m))) x nan j (λ m. moon-over (eqb (j + 1) m) x (f m)),
-      set-each (λ m. isMoon (f m)) (λ m. isMoon (cond (eqb (j + 1) m) (some x) (f m))) true false j (λ m. is-over (eqb (j + 1) m) x (f m)))
+      rw (
+        set-each (λ m. moonOf (f m)) (λ m. moonOf (cond (eqb (j + 1) m) (some x) (f m))) x nan j (λ m. moon-over (eqb (j + 1) m) x (f m)),
+        set-each (λ m. isMoon (f m)) (λ m. isMoon (cond (eqb (j + 1) m) (some x) (f m))) true false j (λ m. is-over (eqb (j + 1) m) x (f m)),
+      )
 
   date-over : (y : ℕ) (a : Answer BsDate) → ((t : BsDate) → a ≡ answered t → 1 ≤ t .month)
       → placeDate y (monthsBy f) x a ≡ monthsBy (λ m. cond (dated a (λ t. eqb (t .year) y && eqb (t .month) m)) (some x) (f m))

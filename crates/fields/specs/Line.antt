@@ -3,10 +3,11 @@
 use Prim.Native.Nat.{ℕ, zero, suc, _+_, _*_, _/_}
 use mathlib.Core.Bool.{Bool, cond, _||_}
 use mathlib.Core.List.{List, [], _∷_}
+use mathlib.Core.Option.{Option, some, none}
 use lib.Dec.{ltb, eqb}
 use lib.ListN.{length, replicate, take, drop}
 use lib.Seq.{sets}
-use Rattle.text.specs.Digits.{Got, got, no, found, starts, isEnd, decimal}
+use Rattle.text.specs.Digits.{Got, got, no, found, starts, isEnd, wide, decimal}
 use Rattle.text.specs.Fronts.{upTo}
 use Rattle.fields.specs.declared.row.Form.{Form}
 use Rattle.fields.specs.declared.row.Form.the-variants.{Numbers, NoNumber, TooMany}
@@ -24,6 +25,10 @@ skip (b ∷ s) = cond (eqb b 32) (skip s) (b ∷ s)
 -- nothing more that counts: the end, or a comment
 unfoldable pub ends : List ℕ → Bool
 ends s = isEnd s || starts 35 s
+
+-- no word, so the line counts for nothing
+abbrev pub blank : List ℕ → Bool
+blank s = ends (skip s)
 
 -- a word is over: nothing more, or a space
 unfoldable pub wordEnds : List ℕ → Bool
@@ -88,12 +93,16 @@ judgedAs wanted (Numbers k) = countedAs wanted k
 judgedAs wanted NoNumber = judged.NoNumber
 judgedAs wanted TooMany = judged.OtherCount
 
--- ---- the name behind a rule
+-- ---- the comment behind a row or a rule
 
 -- the text after the first #, without the spaces before it
 abbrev pub comment : List ℕ → List ℕ
 comment [] = []
 comment (b ∷ s) = cond (eqb b 35) (skip s) (comment s)
+
+-- the year that a comment says: four digits, and nothing behind them but spaces
+unfoldable pub yearSaid : List ℕ → Option ℕ
+yearSaid s = found (wide 4 (comment s)) (λ n t. cond (isEnd (skip t)) (some n) none) none
 
 -- a list of names with room for 64 bytes each, after the name of a line is stored at place i
 abbrev pub named : List ℕ → ℕ → List ℕ → List ℕ

@@ -1,12 +1,16 @@
-// The names that stand behind rules as text, 64 bytes of a lent buffer for each.
+// The comments behind rows and rules: the year that one says, and the names of rules, 64 bytes of a lent buffer for each.
 ghost use mathlib.Core.Path.{_≡_};
 ghost use Prim.Native.Nat.{_+_, _≤_};
 ghost use lib.ListN.{drop, length, take};
 ghost use lib.Seq.{sets};
 ghost use Rattle.text.specs.Fronts.{upTo};
+ghost use Rattle.text.specs.Reading.{wholeSays};
 ghost use Rattle.text.specs.Written.{Wrote};
-ghost use Rattle.fields.specs.Line.{comment, named, nameOf};
+ghost use Rattle.fields.specs.Line.{comment, named, nameOf, yearSaid};
 use crate::row;
+use text::Cursor;
+use text::Read;
+use text::Whole;
 
 // Where the comment of a line begins, without its mark and the spaces before its text.
 fn comment_at(s: &[u8]) -> usize
@@ -20,6 +24,21 @@ fn comment_at(s: &[u8]) -> usize
         i += 1;
     }
     i
+}
+
+// The year that a line's comment is, if it is four digits and nothing else.
+pub fn year_said(s: &[u8]) -> Whole
+    ensures { λ r. ⌜ wholeSays r ≡ yearSaid (now (s .entry)) ⌝ }
+{
+    let from = comment_at(s);
+    let Read::Number(n, next) = (Cursor { at: from }).wide(s, 4) else {
+        return Whole::Not;
+    };
+    let end = row::past_spaces(s, next.at);
+    if end < s.len() {
+        return Whole::Not;
+    }
+    Whole::Is(n as u16)
 }
 
 // Stores at most 64 bytes of a text from a place on.

@@ -51,6 +51,13 @@ fn ends(s: &[u8], at: usize) -> bool
     (Cursor { at }).at_end(s) | text::stands(s, at, b'#')
 }
 
+// Whether a line has no word, so that it counts for nothing.
+pub fn is_blank(s: &[u8]) -> bool
+    ensures { λ r. ⌜ r ≡ Line.blank (now (s .entry)) ⌝ }
+{
+    ends(s, past_spaces(s, 0))
+}
+
 // Whether a word is over at a place.
 fn word_ends(s: &[u8], at: usize) -> bool
     ensures { λ r. ⌜ r ≡ Line.wordEnds (drop at (now (s .entry))) ⌝ }

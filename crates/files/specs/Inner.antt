@@ -1,4 +1,4 @@
--- What the loop over a file's lines promises its caller. Assumes nothing.
+-- What the loops over a file's lines promise their callers. Assumes nothing.
 use Prim.Native.Nat.{ℕ}
 use mathlib.Core.Bool.{Bool, cond}
 use mathlib.Core.Path.{_≡_}
@@ -7,7 +7,10 @@ use lib.Dec.{eqb}
 use Rattle.lines.specs.declared.Input.{Input}
 use Rattle.lines.specs.Lines.{lineIn}
 use Rattle.files.specs.declared.reading.Fault.the-variants as fault
+use Rattle.files.specs.declared.telling.Sought.{Sought}
+use Rattle.files.specs.declared.telling.Place.{Place}
 use Rattle.files.specs.File.{End, File, Made, fails, withNext, readBytes, readAll}
+use Rattle.files.specs.Told.{looked}
 
 -- a line in the lent buffer, the input's end, or that it cannot be read on
 unfoldable pub withInput : ℕ → Made → Input → List ℕ → Made
@@ -23,3 +26,8 @@ pub record Makes (room w : ℕ) (x y : Made) : Type 0 where
 pub record Reads (awaits : Bool) (rows names : List ℕ) (y : Made) : Type 0 where
   pub file : File
   pub same : y ≡ readAll awaits rows names file
+
+-- some lines lead from p to q
+pub record Looks (w : Sought) (p q : Place) : Type 0 where
+  pub lines : List (List ℕ)
+  pub same : q ≡ looked w p lines

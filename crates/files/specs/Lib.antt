@@ -1,4 +1,5 @@
 -- What the contracts of `files` are written in.
 pub mod Problems
 pub mod File
+pub mod Told
 pub mod Inner

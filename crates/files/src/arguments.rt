@@ -2,30 +2,7 @@
 ghost use Rattle.files.specs.File.{ReadsTable, ReadsRules};
 use crate::RulesRead;
 use crate::TableRead;
-use crate::problems::Problem;
-
-// Says what is wrong with a file.
-fn report(path: &[u8], p: Problem) {
-    let mut out = [0u8; 4608];
-    let n = crate::put_problem(&mut out, 0, path, p);
-    io::write_all(libc::STDERR_FILENO, &out[..n]);
-}
-
-// Says what is wrong with a table, where something is.
-fn report_table(path: &[u8], r: TableRead) {
-    match r {
-        TableRead::Is(_, _) => {}
-        TableRead::Not(p) => report(path, p),
-    }
-}
-
-// Says what is wrong with rules, where something is.
-fn report_rules(path: &[u8], r: RulesRead) {
-    match r {
-        RulesRead::Are(_) => {}
-        RulesRead::Not(p) => report(path, p),
-    }
-}
+use crate::telling;
 
 // The year table in the file that argument i names.
 pub fn table_at(i: usize, rows: &mut [u16]) -> TableRead
@@ -33,8 +10,10 @@ pub fn table_at(i: usize, rows: &mut [u16]) -> TableRead
 {
     let mut path = [0u8; 4096];
     let n = os::arg(i, &mut path);
-    let r = crate::read_table(&path[..n], rows);
-    report_table(&path[..n], r);
+    let fd = os::open_read(&path[..n]);
+    let r = crate::read_table(fd, rows);
+    telling::tell_table(fd, &path[..n], r, rows);
+    libc::close(fd);
     r
 }
 
@@ -44,8 +23,10 @@ pub fn rules_at(i: usize, rules: &mut [u16], names: &mut [u8]) -> RulesRead
 {
     let mut path = [0u8; 4096];
     let n = os::arg(i, &mut path);
-    let r = crate::read_rules(&path[..n], rules, names);
-    report_rules(&path[..n], r);
+    let fd = os::open_read(&path[..n]);
+    let r = crate::read_rules(fd, rules, names);
+    telling::tell_rules(fd, &path[..n], r, rules);
+    libc::close(fd);
     r
 }
 

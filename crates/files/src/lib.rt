@@ -3,6 +3,7 @@
 mod arguments;
 mod problems;
 mod reading;
+mod telling;
 
 pub use arguments::rules_asked;
 pub use arguments::rules_at;
@@ -88,18 +89,18 @@ fn rules_of(r: Reading) -> RulesRead
     }
 }
 
-// Reads the year table in a file: at most as many rows as the lent buffer has room for.
-pub fn read_table(path: &[u8], rows: &mut [u16]) -> TableRead
+// Reads the year table in an open file: at most as many rows as the lent buffer has room for.
+pub fn read_table(fd: i32, rows: &mut [u16]) -> TableRead
     ensures { λ r. ⌜ ReadsTable (now (rows .entry)) r (now (rows .exit)) ⌝ }
 {
     let mut names = [0u8; 0];
-    table_of(reading::read_all(path, true, rows, &mut names))
+    table_of(reading::read_all(fd, true, rows, &mut names))
 }
 
-// Reads the rules in a file, at most as many as the lent buffer has room for, and the name behind each: 64 bytes of `names` for a rule, and a shorter
+// Reads the rules in an open file, at most as many as the lent buffer has room for, and the name behind each: 64 bytes of `names` for a rule, and a shorter
 // name ends with a 0 where the buffer held zeros.
-pub fn read_rules(path: &[u8], rules: &mut [u16], names: &mut [u8]) -> RulesRead
+pub fn read_rules(fd: i32, rules: &mut [u16], names: &mut [u8]) -> RulesRead
     ensures { λ r. ⌜ ReadsRules (now (rules .entry)) (now (names .entry)) r (now (rules .exit)) (now (names .exit)) ⌝ }
 {
-    rules_of(reading::read_all(path, false, rules, names))
+    rules_of(reading::read_all(fd, false, rules, names))
 }

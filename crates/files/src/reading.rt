@@ -294,15 +294,12 @@ fn read_open(fd: i32, awaits: bool, rows: &mut [u16], names: &mut [u8]) -> Readi
     )
 }
 
-// The reading of the file that a path names.
-pub fn read_all(path: &[u8], awaits: bool, rows: &mut [u16], names: &mut [u8]) -> Reading
+// The reading of an open file; a number below 0 is none.
+pub fn read_all(fd: i32, awaits: bool, rows: &mut [u16], names: &mut [u8]) -> Reading
     ensures { λ q. ⌜ Reads awaits (now (rows .entry)) (now (names .entry)) (made q (now (rows .exit)) (now (names .exit))) ⌝ }
 {
-    let fd = os::open_read(path);
     if fd < 0 {
         return faulted(first(awaits), Fault::NotOpened);
     }
-    let q = read_open(fd, awaits, rows, names);
-    libc::close(fd);
-    q
+    read_open(fd, awaits, rows, names)
 }

@@ -16,41 +16,45 @@ use Rattle.rules.specs.Festivals.{Pair, Listed, listed}
 use Rattle.grid.specs.Month.{Grid, Shown, shown}
 use Rattle.steady.proofs.Refusals.{list-left, month-left, starts-left}
 use Rattle.panel.specs.Boundary.{code, gives, givesSome, givesList, givesMonth, MonthPlaces, monthNumbers}
+use Rattle.panel.specs.Lent.{MonthState}
 use Rattle.panel.specs.Claims.{Crosses}
 use Rattle.panel.proofs.Handing.{both}
 
 -- no refusal has the number 0
-number-is : (k : Refusal) → number k ≡ 0 → ⊥
-number-is R.BadTable h = omega arith
-number-is R.BadRules h = omega arith
-number-is R.NoSuchDate h = omega arith
-number-is R.NoYear h = omega arith
-number-is R.NoMonth h = omega arith
-number-is R.NoDay h = omega arith
-number-is R.Outside h = omega arith
-number-is R.OutOfRange h = omega arith
-number-is R.NoRoom h = omega arith
-number-is R.OffTable h = omega arith
-number-is R.NotEnded h = omega arith
+number-not-zero : (k : Refusal) → number k ≡ 0 → ⊥
+number-not-zero R.BadTable h = omega arith
+number-not-zero R.BadRules h = omega arith
+number-not-zero R.NoSuchDate h = omega arith
+number-not-zero R.NoYear h = omega arith
+number-not-zero R.NoMonth h = omega arith
+number-not-zero R.NoDay h = omega arith
+number-not-zero R.Outside h = omega arith
+number-not-zero R.OutOfRange h = omega arith
+number-not-zero R.NoRoom h = omega arith
+number-not-zero R.OffTable h = omega arith
+number-not-zero R.NotEnded h = omega arith
 
 -- what has the number 0 is answered
 pub zero-answered : {A : Type 0} (a : Answer A) → code a ≡ 0 → (x : A) × (a ≡ answered x)
 zero-answered (answered x) h = (x, refl)
-zero-answered (refused k) h = absurd (number-is k h)
+zero-answered (refused k) h = absurd (number-not-zero k h)
 
 -- what has another number is refused
 pub other-refused : {A : Type 0} (a : Answer A) → (code a ≡ 0 → ⊥) → (k : Refusal) × (a ≡ refused k)
 other-refused (answered x) h = absurd (h refl)
 other-refused (refused k) h = (k, refl)
 
+-- the number that is given is the answer's
 pub gives-code : {A P : Type 0} (a : Answer A) (parts : A → P) (old : P) → gives a parts old .0 ≡ code a
 gives-code (answered x) parts old = refl
 gives-code (refused k) parts old = refl
 
+-- a number other than 0 leaves the places
 gives-left : {A P : Type 0} (a : Answer A) (parts : A → P) (old : P) → (gives a parts old .0 ≡ 0 → ⊥) → gives a parts old .1 ≡ old
 gives-left (answered x) parts old h = absurd (h refl)
 gives-left (refused k) parts old h = refl
 
+-- the same of an answer that may be none
 some-left : {A P : Type 0} (a : Answer (Option A)) (parts : A → P) (old : ℕ × P) → (givesSome a parts old .0 ≡ 0 → ⊥) → givesSome a parts old .1 ≡ old
 some-left (answered (some x)) parts old h = absurd (h refl)
 some-left (answered none) parts old h = absurd (h refl)
@@ -64,15 +68,15 @@ Told B = ℕ × B
 abbrev pub toldList : Listed → ℕ → Told (ℕ × List ℕ)
 toldList l old = let g = givesList l old in (g .0 .0, (g .0 .1, g .1))
 
-abbrev pub toldMonth : Shown → MonthPlaces → Told (MonthPlaces × (List ℕ × List ℕ))
+abbrev pub toldMonth : Shown → MonthPlaces → Told MonthState
 toldMonth m old = let g = givesMonth m old in (g .0 .0, (g .0 .1, g .1))
 
--- beside a buffer
+-- an equation on the number and the places, beside the buffers, is one on the number and all of these
 pub beside : {P X : Type 0} {x : ℕ} {u : P} {b : X} {d : (ℕ × P) × X} → _≡_ {A = (ℕ × P) × X} ((x, u), b) d → _≡_ {A = ℕ × (P × X)} (x, (u, b)) (d .0 .0, (d .0 .1, d .1))
 beside {P} {X} e = ap (λ (z : (ℕ × P) × X). (z .0 .0, (z .0 .1, z .1))) e
 
 module _ {K : Type 0} {A S : K → Type 0} {B : Type 0} {C : (k : K) → A k → ℕ → S k → Type 0} {before : (k : K) → A k → B} {after : (k : K) → S k → B} where
-  -- THE LAW
+  -- THE LAW: a contract that is an equation of the number and all that was lent with what a definition tells
   crosses : (told : (k : K) → A k → Told B) → ((k : K) (a : A k) (x : ℕ) (s : S k) → C k a x s → _≡_ {A = Told B} (x, after k s) (told k a))
       → ((k : K) (a : A k) → (told k a .0 ≡ 0 → ⊥) → told k a .1 ≡ before k a) → Crosses C before after
   crosses told e h =
@@ -85,6 +89,7 @@ module _ {K : Type 0} {A S : K → Type 0} {B : Type 0} {C : (k : K) → A k →
             ap (λ (z : Told B). z .1) d ∙ h k a (λ z. n (ap (λ (z : Told B). z .0) d ∙ z));
       }
 
+  -- a contract that is an equation with `gives`
   pub by-gives : {X : Type 0} (answer : (k : K) → A k → Answer X) (parts : X → B)
       → ((k : K) (a : A k) (x : ℕ) (s : S k) → C k a x s → _≡_ {A = Told B} (x, after k s) (gives (answer k a) parts (before k a))) → Crosses C before after
   by-gives answer parts e = crosses (λ k a. gives (answer k a) parts (before k a)) e (λ k a. gives-left (answer k a) parts (before k a))
@@ -94,18 +99,22 @@ module _ {K : Type 0} {A S : K → Type 0} {B : Type 0} {C : (k : K) → A k →
   by-value value e = crosses (λ k a. (0, value k a)) (λ k a x s p. let q = e k a x s p in both (q .0) (q .1)) (λ k a h. absurd (h refl))
 
 module _ {K : Type 0} {A S : K → Type 0} {P : Type 0} {C : (k : K) → A k → ℕ → S k → Type 0} {before : (k : K) → A k → ℕ × P} {after : (k : K) → S k → ℕ × P} where
+  -- a contract that is an equation with `givesSome`
   pub by-some : {X : Type 0} (answer : (k : K) → A k → Answer (Option X)) (parts : X → P)
       → ((k : K) (a : A k) (x : ℕ) (s : S k) → C k a x s → _≡_ {A = Told (ℕ × P)} (x, after k s) (givesSome (answer k a) parts (before k a))) → Crosses C before after
   by-some answer parts e = crosses (λ k a. givesSome (answer k a) parts (before k a)) e (λ k a. some-left (answer k a) parts (before k a))
 
 -- ---- with buffers
+
+-- a number other than 0 leaves the count and the buffer of a day's list
 list-leaves : (a : Answer (List Pair)) (old : ℕ × List ℕ) → (toldList (listed a (old .1)) (old .0) .0 ≡ 0 → ⊥) → toldList (listed a (old .1)) (old .0) .1 ≡ old
 list-leaves a old h =
     let l = listed a (old .1) in
     let r = other-refused (l .answer) (λ z. h (gives-code (l .answer) (λ n. n) (old .0) ∙ z)) in
     both (gives-left (l .answer) (λ n. n) (old .0) h) (list-left a (old .1) (r .0) (r .1))
 
-month-leaves : (a : Answer Grid) (old : MonthPlaces × (List ℕ × List ℕ)) → (toldMonth (shown a (old .1 .0) (old .1 .1)) (old .0) .0 ≡ 0 → ⊥)
+-- the numbers and both buffers of a month
+month-leaves : (a : Answer Grid) (old : MonthState) → (toldMonth (shown a (old .1 .0) (old .1 .1)) (old .0) .0 ≡ 0 → ⊥)
     → toldMonth (shown a (old .1 .0) (old .1 .1)) (old .0) .1 ≡ old
 month-leaves a old h =
     let m = shown a (old .1 .0) (old .1 .1) in
@@ -113,6 +122,7 @@ month-leaves a old h =
     let b = month-left a (old .1 .0) (old .1 .1) (r .0) (r .1) in
     both (gives-left (m .answer) monthNumbers (old .0) h) (both (b .0) (b .1))
 
+-- the two counts and the buffer of a search
 starts-leaves : (n : ℕ) (from to : Float) (old : (ℕ × ℕ) × List Float)
     → (gives (startsAnswer n from to (length (old .1))) (λ x. x) (old .0) .0 ≡ 0 → ⊥)
     → _≡_ {A = (ℕ × ℕ) × List Float} (gives (startsAnswer n from to (length (old .1))) (λ x. x) (old .0) .1, startsBuffer n from to (old .1)) old
@@ -122,20 +132,22 @@ starts-leaves n from to old h =
     both (gives-left a (λ x. x) (old .0) h) (starts-left n from to (old .1) (r .0) (r .1))
 
 module _ {K : Type 0} {A S : K → Type 0} {C : (k : K) → A k → ℕ → S k → Type 0} where
+  -- a day's list
   pub by-list : {before : (k : K) → A k → ℕ × List ℕ} {after : (k : K) → S k → ℕ × List ℕ} (answer : (k : K) → A k → Answer (List Pair))
       → ((k : K) (a : A k) (x : ℕ) (s : S k) → C k a x s → _≡_ {A = (ℕ × ℕ) × List ℕ} ((x, after k s .0), after k s .1) (givesList (listed (answer k a) (before k a .1)) (before k a .0)))
       → Crosses C before after
   by-list {before} answer e =
       crosses (λ k a. toldList (listed (answer k a) (before k a .1)) (before k a .0)) (λ k a x s p. beside (e k a x s p)) (λ k a. list-leaves (answer k a) (before k a))
 
-  pub by-month : {before : (k : K) → A k → MonthPlaces × (List ℕ × List ℕ)} {after : (k : K) → S k → MonthPlaces × (List ℕ × List ℕ)} (answer : (k : K) → A k → Answer Grid)
+  -- a month
+  pub by-month : {before : (k : K) → A k → MonthState} {after : (k : K) → S k → MonthState} (answer : (k : K) → A k → Answer Grid)
       → ((k : K) (a : A k) (x : ℕ) (s : S k) → C k a x s
       → _≡_ {A = (ℕ × MonthPlaces) × (List ℕ × List ℕ)} ((x, after k s .0), after k s .1) (givesMonth (shown (answer k a) (before k a .1 .0) (before k a .1 .1)) (before k a .0)))
       → Crosses C before after
   by-month {before} answer e =
       crosses (λ k a. toldMonth (shown (answer k a) (before k a .1 .0) (before k a .1 .1)) (before k a .0)) (λ k a x s p. beside (e k a x s p)) (λ k a. month-leaves (answer k a) (before k a))
 
-
+  -- a search for the starts of a tithi
   pub by-starts : {before : (k : K) → A k → (ℕ × ℕ) × List Float} {after : (k : K) → S k → (ℕ × ℕ) × List Float} (n : (k : K) → A k → ℕ) (from to : (k : K) → A k → Float)
       → ((k : K) (a : A k) (x : ℕ) (s : S k) → C k a x s → (after k s .1 ≡ startsBuffer (n k a) (from k a) (to k a) (before k a .1))
       × _≡_ {A = Told (ℕ × ℕ)} (x, after k s .0) (gives (startsAnswer (n k a) (from k a) (to k a) (length (before k a .1))) (λ x. x) (before k a .0)))

@@ -1,4 +1,4 @@
--- DEMAND 3 AT THE BOUNDARY, for each C function that is lent a year table: its number and all that it leaves in lent places and buffers, under a table
+-- DEMAND 3 AT THE BOUNDARY, for each C function that answers by a lent year table: its number and all that it leaves in lent places and buffers, under a table
 -- and under the same table with more rows, both accepted. Assumes nothing.
 use Prim.Native.Nat.{ℕ}
 use mathlib.Core.Path.{_≡_, refl, sym, ap, _∙_}

@@ -55,8 +55,7 @@ MonthState = MonthPlaces × (List ℕ × List ℕ)
 abbrev pub month : MonthLent → MonthState
 month s =
     let p = s .1 .1 in
-    let to = p .1 .1 .1 .1 in
-    (
+    let to = p .1 .1 .1 .1 in (
       (
         now (p .0),
         (now (p .1 .0), now (p .1 .1 .0), now (p .1 .1 .1 .0)),
@@ -89,8 +88,7 @@ abbrev pub lendMonth : (ℕ → Place) → MonthState → MonthLent
 lendMonth e x =
     let p = x .0 in
     let from = p .1 in
-    let to = p .2 in
-    (
+    let to = p .2 in (
       ref (e 0) (x .1 .0),
       (
         ref (e 1) (x .1 .1),

@@ -37,8 +37,12 @@ fn from_words() -> Words {
     words::asked_by(count - 4, &first[..a], &second[..b], &third[..c])
 }
 
-// Writes the line that says why there is no page to standard error.
+// Writes the line that says why there is no page to standard error. Where the table or the rules are refused, with 1 or 2, that was said with the
+// line of the file as they were read.
 fn refuse(why: Refusal) {
+    if why.number() <= 2 {
+        return;
+    }
     let mut line = [0u8; 128];
     let n = refusals::put_refusal(&mut line, 0, why);
     io::write_all(STDERR_FILENO, &line[..n]);

@@ -3,7 +3,6 @@ use conversion::Table;
 use files::RulesRead;
 use files::TableRead;
 use libc::STDERR_FILENO;
-use tables::Broken;
 ghost use mathlib.Core.Path.{_≡_};
 ghost use mathlib.Core.Bool.{true};
 ghost use Prim.Native.Nat.{_≤_};
@@ -11,18 +10,22 @@ ghost use lib.ListN.{length};
 ghost use Rattle.conversion.specs.Flat.{accepted};
 ghost use Rattle.growth.specs.Growth.{sameFirst, Grown};
 
-// The refusal of a table and the first rule that it breaks, on standard error.
-fn report_broken(which: &[u8], table: Table, b: Broken) {
-    let mut line = [0u8; 256];
-    let n = tables::put_broken_line(&mut line, 0, which, table, b);
-    io::write_all(STDERR_FILENO, &line[..n]);
-}
-
 // The first row that NEW has not as OLD has it, on standard error.
 fn report_change(table: Table, i: usize) {
     let mut line = [0u8; 256];
     let n = tables::put_change_line(&mut line, 0, table, i);
     io::write_all(STDERR_FILENO, &line[..n]);
+}
+
+// That NEW has only the first rows of OLD, so many of so many, on standard error, with the command that has them in their order.
+fn report_exchanged(few: usize, all: usize) {
+    let mut old = [0u8; 4096];
+    let mut new = [0u8; 4096];
+    let mut line = [0u8; 8448];
+    let n = os::arg(1, &mut old);
+    let m = os::arg(2, &mut new);
+    let end = tables::put_exchanged_line(&mut line, 0, few, all, &old[..n], &new[..m]);
+    io::write_all(STDERR_FILENO, &line[..end]);
 }
 
 // The row of a table in which number n stands.
@@ -50,7 +53,19 @@ fn write_page(
     a.finish(out);
 }
 
-// Tests whether NEW is OLD with rows added, and the rules, and writes the page or one line on standard error.
+// Says that NEW, which has n numbers as OLD has them, is not OLD with rows added: it may be the shorter of the two.
+fn report_other(table: Table, old: &[u16], new: &[u16], n: usize)
+    requires { ⌜ n ≤ length (now old) ⌝ }
+{
+    if n == new.len() {
+        report_exchanged(conversion::year_count(new), conversion::year_count(old));
+        return;
+    }
+    report_change(table, row_at(old, n));
+}
+
+// Tests whether NEW is OLD with rows added, and writes the page or one line on standard error. Where the rules are refused, that was said as they
+// were read.
 fn answer_both(
     table: Table,
     old: &[u16],
@@ -64,17 +79,15 @@ fn answer_both(
 {
     let n = tables::shared(old, new);
     if n < old.len() {
-        report_change(table, row_at(old, n));
+        report_other(table, old, new, n);
         return;
     }
-    if !rules::accepts_rules(rules) {
-        io::write_all(STDERR_FILENO, b"RULES: refused with 2\n");
-        return;
+    if rules::accepts_rules(rules) {
+        write_page(table, old, new_table, new, rules, names, out);
     }
-    write_page(table, old, new_table, new, rules, names, out);
 }
 
-// Tests NEW.
+// Tests NEW. Where it is refused, that was said as it was read.
 fn answer_new(
     table: Table,
     old: &[u16],
@@ -95,12 +108,10 @@ fn answer_new(
     }
     if conversion::accepts(new_table, new) {
         answer_both(table, old, new_table, new, rules, names, out);
-        return;
     }
-    report_broken(b"NEW", new_table, tables::first_broken(new_table, new));
 }
 
-// Tests OLD first.
+// Tests OLD first, in the same way.
 fn answer(
     table: Table,
     old: &[u16],
@@ -112,9 +123,7 @@ fn answer(
 ) {
     if conversion::accepts(table, old) {
         answer_new(table, old, new_table, new, rules, names, out);
-        return;
     }
-    report_broken(b"OLD", table, tables::first_broken(table, old));
 }
 
 // Reads the rules that are asked, and answers over them and two tables.

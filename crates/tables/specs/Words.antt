@@ -29,21 +29,42 @@ sumText n = bytes ": the thirteenth number " ++ (digits n ++ bytes " is not the 
 unfoldable pub cellText : Table → ℕ → ℕ → ℕ → List ℕ
 cellText t i m n = rowText t i ++ cond (ltb m 12) (monthText m n) (sumText n)
 
+-- the first year
+unfoldable pub yearText : ℕ → List ℕ
+yearText year = bytes "the first BS year is " ++ (digits year ++ bytes ", expected 1 to 3000")
+
+-- the first day by its three numbers, 1943-4-31
+unfoldable pub firstDayText : Table → List ℕ
+firstDayText t = digits (t .year) ++ (bytes "-" ++ (digits (t .month) ++ (bytes "-" ++ digits (t .day))))
+
+-- what is wrong with it
+unfoldable pub dayText : Table → List ℕ → List ℕ
+dayText t wrong = bytes "the first day " ++ (firstDayText t ++ wrong)
+
 -- the first rule that a table breaks
 unfoldable pub ruleText : Table → Broken → List ℕ
 ruleText t broken.Nothing = bytes "its numbers are no whole rows"
-ruleText t broken.FirstYear = bytes "the first BS year is not 1 to 3000"
+ruleText t broken.FirstYear = yearText (t .«first_year»)
 ruleText t broken.NoRow = bytes "there is no row"
 ruleText t broken.ManyRows = bytes "there are more than 128 rows"
-ruleText t broken.NoDate = bytes "the first day is no Gregorian date"
-ruleText t broken.FirstDay = bytes "the first day is before 1901-01-01"
+ruleText t broken.NoDate = dayText t (bytes " is no Gregorian date")
+ruleText t broken.FirstDay = dayText t (bytes " is before 1901-01-01")
 ruleText t (broken.Cell i m n) = cellText t i m n
 ruleText t broken.LastDay = bytes "the last day is after 2099-12-31"
 
--- the refusal of a table that is named so
-unfoldable pub brokenText : List ℕ → Table → Broken → List ℕ
-brokenText which t b = which ++ (bytes ": refused with 1: " ++ (ruleText t b ++ bytes "\n"))
+-- the refusal behind what names the table
+unfoldable pub refusalText : Table → Broken → List ℕ
+refusalText t b = bytes ": refused with 1: " ++ (ruleText t b ++ bytes "\n")
 
 -- the first row that the longer table has not as the shorter has it
 unfoldable pub changeText : Table → ℕ → List ℕ
 changeText t i = bytes "NEW: not OLD with rows added: " ++ (rowText t i ++ bytes " is another or missing\n")
+
+-- the second table has only so many of the first one's rows
+unfoldable pub rowsText : ℕ → ℕ → List ℕ
+rowsText few all =
+    bytes "NEW: only the first " ++ (digits few ++ (bytes " of the " ++ (digits all ++ bytes " rows of OLD: the two files look exchanged; run ")))
+
+-- that, and the command with the two files exchanged
+unfoldable pub exchangedText : ℕ → ℕ → List ℕ → List ℕ → List ℕ
+exchangedText few all old new = rowsText few all ++ (bytes "./patro spring " ++ (new ++ (bytes " " ++ (old ++ bytes "\n"))))

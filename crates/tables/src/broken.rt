@@ -3,7 +3,7 @@ ghost use mathlib.Core.Path.{_≡_};
 ghost use Rattle.tables.specs.Breaks.{column, rowFrom, place, firstBroken};
 use conversion::Table;
 
-// The first of the year table's rules (docs/RULES.md, What is lent) that a table breaks: the first year is not 1 to 3,000; no row; more than 128; no such
+// The first rule on year tables (docs/RULES.md) that a table breaks: the first year is not 1 to 3,000; no row; more than 128; no such
 // Gregorian date, or one before 1901; in a row, counted from 0, the column of a month that has not 29 to 32 days, or 12 for a sum that is another,
 // with the number that stands there; or the last day is after 2099.
 pub enum Broken {

@@ -4,8 +4,9 @@ mod words;
 
 pub use broken::Broken;
 pub use broken::first_broken;
-pub use words::put_broken_line;
 pub use words::put_change_line;
+pub use words::put_exchanged_line;
+pub use words::put_refusal;
 ghost use mathlib.Core.Path.{_≡_};
 ghost use Rattle.tables.specs.Shared as Shared;
 

@@ -2,7 +2,7 @@
 use Prim.Native.Nat.{ℕ, _-_, _*_}
 use mathlib.Core.Bool.{cond}
 use mathlib.Core.List.{List, _++_}
-use lib.Dec.{ltb}
+use lib.Dec.{ltb, eqb}
 use Rattle.text.specs.Digits.{digits}
 use Rattle.text.specs.Quoted.{bytes}
 use Rattle.gregorian.specs.declared.Date.{Date}
@@ -78,9 +78,12 @@ dateLine cells i = fullDate (num cells i 1) (num cells i 2) (num cells i 3) ++ f
 unfoldable pub readingText : List ℕ → ℕ → List ℕ
 readingText cells i = tithiText (num cells i 7) ++ (endText (num cells i 8) ++ sunText (num cells i 9) (num cells i 10))
 
--- holiday  yes; holiday  no
+-- holiday  yes (Saturday), which is weekday 6; holiday  yes; holiday  no
 unfoldable pub holidayText : List ℕ → ℕ → List ℕ
-holidayText cells i = marked (num cells i 6) (bytes "holiday  yes\n") (bytes "holiday  no\n")
+holidayText cells i =
+    marked (num cells i 6)
+    (cond (eqb (num cells i 4) 6) (bytes "holiday  yes (Saturday)\n") (bytes "holiday  yes\n"))
+    (bytes "holiday  no\n")
 
 -- the day of cell i in a month
 unfoldable pub dayPage : ℕ → ℕ → ℕ → List ℕ → List ℕ → List ℕ → List ℕ → List ℕ

@@ -7,7 +7,7 @@ use crate::columns::put_clock;
 use crate::columns::put_short_date;
 use crate::columns::put_two;
 
-// Writes a text where a number is not 0, another of the same length where it is.
+// Writes a text where a number is not 0, another where it is.
 pub fn put_mark(out: &mut [u8], at: usize, n: u16, mark: &[u8], blank: &[u8]) -> usize
     ensures { λ r. ⌜ Wrote (now (out .entry)) at (marked n (now (mark .entry)) (now (blank .entry))) (now (out .exit)) r ⌝ }
 {

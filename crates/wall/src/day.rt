@@ -81,18 +81,22 @@ fn put_reading(out: &mut [u8], at: usize, cells: &[u16], i: usize) -> usize
     put_sun(out, b, number(cells, i, 9), number(cells, i, 10))
 }
 
-// Writes whether the day of a cell is a holiday.
+// Writes whether the day of a cell is a holiday, and of a Saturday that it is one.
 fn put_holiday(out: &mut [u8], at: usize, cells: &[u16], i: usize) -> usize
     requires { ⌜ i ≤ 4096 ⌝ }
     ensures { λ r. ⌜ Wrote (now (out .entry)) at (holidayText (now (cells .entry)) i) (now (out .exit)) r ⌝ }
 {
-    put_mark(
-        out,
-        at,
-        number(cells, i, 6),
-        b"holiday  yes\n",
-        b"holiday  no\n",
-    )
+    let holiday = number(cells, i, 6);
+    if number(cells, i, 4) == 6 {
+        return put_mark(
+            out,
+            at,
+            holiday,
+            b"holiday  yes (Saturday)\n",
+            b"holiday  no\n",
+        );
+    }
+    put_mark(out, at, holiday, b"holiday  yes\n", b"holiday  no\n")
 }
 
 // Writes the day of a cell of a month from a place on, as far as the buffer goes, and answers the place after it.

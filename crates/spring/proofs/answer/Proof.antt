@@ -11,5 +11,4 @@ pub answer-spec : {M : Type 1} → statement M
 answer-spec =
     tie.close
     (tie.spec
-    (λ c κs. search needs) answer-new-requires (λ c. search needs) (λ c. search needs) (λ c. search needs)
-    (λ c κs. search needs) (λ c κs. search needs) (λ c. search needs))
+    (λ c κs. search needs) answer-new-requires (λ c. search needs) (λ c. search needs) (λ c. search needs))

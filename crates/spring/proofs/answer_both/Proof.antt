@@ -20,6 +20,5 @@ pub answer-both-spec : {M : Type 1} → statement M
 answer-both-spec =
     tie.close
     (tie.spec
-    (λ c κs. search needs) (λ c κs. search needs) (λ c κs. search needs) (λ c. search needs) (λ c κs. search needs)
-    (λ c. search needs) (λ c κs. search needs) (λ c. search needs) write-page-requires (λ c. search needs)
-    (λ c. search needs))
+    (λ c κs. search needs) (λ c κs. search needs) (λ c. search needs) (λ c κs. search needs) write-page-requires
+    (λ c. search needs) (λ c. search needs) (λ c. search needs))

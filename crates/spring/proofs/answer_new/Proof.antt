@@ -15,5 +15,4 @@ answer-new-spec =
     tie.close
     (tie.spec
     (λ c κs. search needs) (λ c. search needs) (λ c κs. search needs) (λ c. search needs) (λ c κs. search needs)
-    answer-both-requires (λ c. search needs) (λ c. search needs) (λ c. search needs) (λ c κs. search needs)
-    (λ c κs. search needs) (λ c. search needs))
+    answer-both-requires (λ c. search needs) (λ c. search needs) (λ c. search needs))

@@ -1,9 +1,9 @@
--- `files::arguments::report` is proved: a line never goes past its buffer. Assumes nothing.
+-- `files::telling::report` is proved: a line never goes past its buffer. Assumes nothing.
 use mathlib.Core.Path.{sym}
 use lib.Seq.{length-take-le}
 use borrow.Author.Needs.{needs}
-use Rattle.files.proofs.arguments.report.Statement.{statement}
-use Rattle.files.proofs.arguments.report.Tie as tie
+use Rattle.files.proofs.telling.report.Statement.{statement}
+use Rattle.files.proofs.telling.report.Tie as tie
 
 slice-aggregate-write-all : tie.Need-slice-aggregate-write-all
 slice-aggregate-write-all c = sym (length-take-le (c .before .before .put-problem .result) _ (search needs))

@@ -1,0 +1,3 @@
+-- What the contracts of `faults` are written in.
+pub mod Faults
+pub mod Words

@@ -1,0 +1,288 @@
+// What is told on standard error of a file that was read: the line in which its table or its rules break a rule of acceptance, and the first row whose
+// comment says another year. To find a line the file is read once more, where it can be.
+ghost use mathlib.Core.Path.{_≡_};
+ghost use Rattle.text.specs.Reading.{wholeSays};
+ghost use Rattle.text.specs.Written.{Wrote};
+ghost use Rattle.files.specs.Told.{tableLine, ruleLine, yearOf, otherYear, yearIn, meets, nowhere, lookedAt, placeText, yearsText, warningText};
+ghost use Rattle.files.specs.Inner.{Looks};
+use crate::RulesRead;
+use crate::TableRead;
+use crate::problems::Problem;
+use conversion::Table;
+use faults::Fault;
+use libc::STDERR_FILENO;
+use std::num::wrapping_add_u64;
+use tables::Broken;
+use text::Whole;
+
+// What is sought among the lines that have a word: the one that so many come before; or, in a table that begins with this year, the first row
+// whose comment says another year.
+pub enum Sought {
+    Line(u64),
+    OtherYear(u16),
+}
+
+// The number of the line that was looked at last, from 1 on; how many lines with a word come before it; the year that it says, 0 for none, and whether
+// it is the one sought.
+pub struct Place {
+    pub line: u64,
+    pub before: u64,
+    pub said: u16,
+    pub found: bool,
+}
+
+// How many lines with a word come before the line in which a table of so many rows breaks a rule.
+fn table_line(b: Broken, rows: usize) -> u64
+    ensures { λ n. ⌜ n ≡ tableLine b rows ⌝ }
+{
+    match b {
+        Broken::Nothing => 0,
+        Broken::FirstYear => 0,
+        Broken::NoRow => 0,
+        Broken::ManyRows => 129,
+        Broken::NoDate => 0,
+        Broken::FirstDay => 0,
+        Broken::Cell(i, _, _) => wrapping_add_u64(i as u64, 1),
+        Broken::LastDay => rows as u64,
+    }
+}
+
+// The same of a list of rules, a rule to a line.
+fn rule_line(f: Fault) -> u64
+    ensures { λ n. ⌜ n ≡ ruleLine f ⌝ }
+{
+    match f {
+        Fault::Nothing => 0,
+        Fault::Uneven => 0,
+        Fault::At(i, _, _) => i as u64,
+        Fault::Many(i, _) => i as u64,
+    }
+}
+
+// The BS year of the row that so many lines with a word come before, of which the first is no row.
+fn year_of(first: u16, before: u64) -> u64
+    ensures { λ n. ⌜ n ≡ yearOf first before ⌝ }
+{
+    if before == 0 {
+        return 0;
+    }
+    wrapping_add_u64(first as u64, before - 1)
+}
+
+// Whether a comment says another year than its row has.
+fn says_other(first: u16, before: u64, said: Whole) -> bool
+    ensures { λ b. ⌜ b ≡ otherYear first before (wholeSays said) ⌝ }
+{
+    match said {
+        Whole::Is(n) => (before != 0) & (n as u64 != year_of(first, before)),
+        Whole::Not => false,
+    }
+}
+
+// The year that is said, 0 for none.
+fn year_in(said: Whole) -> u16
+    ensures { λ n. ⌜ n ≡ yearIn (wholeSays said) ⌝ }
+{
+    match said {
+        Whole::Is(n) => n,
+        Whole::Not => 0,
+    }
+}
+
+// Whether a line is the one sought, by how many with a word come before it and what its comment says.
+fn is_sought(sought: Sought, before: u64, said: Whole) -> bool
+    ensures { λ b. ⌜ b ≡ meets sought before (wholeSays said) ⌝ }
+{
+    match sought {
+        Sought::Line(n) => before == n,
+        Sought::OtherYear(first) => says_other(first, before, said),
+    }
+}
+
+// The next line looked at.
+fn look_at(p: Place, sought: Sought, s: &[u8]) -> Place
+    ensures { λ q. ⌜ q ≡ lookedAt sought p (now (s .entry)) ⌝ }
+{
+    let line = wrapping_add_u64(p.line, 1);
+    if fields::is_blank(s) {
+        return Place {
+            line,
+            before: p.before,
+            said: 0,
+            found: false,
+        };
+    }
+    let said = fields::year_said(s);
+    if is_sought(sought, p.before, said) {
+        return Place {
+            line,
+            before: p.before,
+            said: year_in(said),
+            found: true,
+        };
+    }
+    Place {
+        line,
+        before: wrapping_add_u64(p.before, 1),
+        said: 0,
+        found: false,
+    }
+}
+
+// Before the first line.
+fn no_place() -> Place
+    ensures { λ p. ⌜ p ≡ nowhere ⌝ }
+{
+    Place {
+        line: 0,
+        before: 0,
+        said: 0,
+        found: false,
+    }
+}
+
+// Looks at the lines of a descriptor until one is the one sought.
+fn look_through(fd: i32, sought: Sought, piece: &mut [u8], line: &mut [u8]) -> Place
+    ensures { λ p. ⌜ Looks sought nowhere p ⌝ }
+{
+    let mut p = no_place();
+    let mut input = lines::start(50000);
+    while 0 < input.left {
+        input = lines::next_line(fd, input, piece, line);
+        let n = input.len;
+        p = look_at(p, sought, &line[..n]);
+        if p.found {
+            return p;
+        }
+    }
+    p
+}
+
+// The place of what is sought in a file that was read, from its beginning; none where the file cannot be read twice.
+fn look(fd: i32, sought: Sought) -> Place
+    ensures { λ p. ⌜ Looks sought nowhere p ⌝ }
+{
+    if libc::lseek(fd, 0, libc::SEEK_SET) != 0 {
+        return no_place();
+    }
+    let mut piece = [0u8; 4096];
+    let mut line = [0u8; 4096];
+    look_through(fd, sought, &mut piece, &mut line)
+}
+
+// Writes the name of a file and, where it was found, the line.
+fn put_place(out: &mut [u8], at: usize, path: &[u8], p: Place) -> usize
+    ensures { λ r. ⌜ Wrote (now (out .entry)) at (placeText (now (path .entry)) p) (now (out .exit)) r ⌝ }
+{
+    let a = text::put(out, at, path);
+    if p.found {
+        let b = text::put(out, a, b": line ");
+        return text::put_decimal(out, b, p.line);
+    }
+    a
+}
+
+// Writes the year that a comment says and the year that its row has.
+fn put_years(out: &mut [u8], at: usize, said: u16, year: u64) -> usize
+    ensures { λ r. ⌜ Wrote (now (out .entry)) at (yearsText said year) (now (out .exit)) r ⌝ }
+{
+    let a = text::put(out, at, b": the comment says ");
+    let b = text::put_decimal(out, a, said as u64);
+    let c = text::put(out, b, b", the row is BS ");
+    let d = text::put_decimal(out, c, year);
+    text::put(out, d, b"\n")
+}
+
+// Writes that the comment at a place says another year than its row, which is this one, has.
+fn put_warning(out: &mut [u8], at: usize, path: &[u8], p: Place, year: u64) -> usize
+    ensures { λ r. ⌜ Wrote (now (out .entry)) at (warningText (now (path .entry)) p year) (now (out .exit)) r ⌝ }
+{
+    let a = text::put(out, at, b"warning: ");
+    let b = put_place(out, a, path, p);
+    put_years(out, b, p.said, year)
+}
+
+// Says what is wrong with a file.
+fn report(path: &[u8], p: Problem) {
+    let mut out = [0u8; 4608];
+    let n = crate::put_problem(&mut out, 0, path, p);
+    io::write_all(STDERR_FILENO, &out[..n]);
+}
+
+// Says where a table breaks a rule.
+fn report_table(path: &[u8], p: Place, table: Table, b: Broken) {
+    let mut out = [0u8; 4608];
+    let a = put_place(&mut out, 0, path, p);
+    let n = tables::put_refusal(&mut out, a, table, b);
+    io::write_all(STDERR_FILENO, &out[..n]);
+}
+
+// Says where a list of rules breaks a rule.
+fn report_rules(path: &[u8], p: Place, f: Fault) {
+    let mut out = [0u8; 4608];
+    let a = put_place(&mut out, 0, path, p);
+    let n = faults::put_refusal(&mut out, a, f);
+    io::write_all(STDERR_FILENO, &out[..n]);
+}
+
+// Warns of a comment that says another year.
+fn warn(path: &[u8], p: Place, first: u16) {
+    let mut out = [0u8; 4608];
+    let n = put_warning(&mut out, 0, path, p, year_of(first, p.before));
+    io::write_all(STDERR_FILENO, &out[..n]);
+}
+
+// Says what is wrong with the years that the comments of a table say.
+fn tell_years(fd: i32, path: &[u8], first: u16) {
+    let p = look(fd, Sought::OtherYear(first));
+    if p.found {
+        warn(path, p, first);
+    }
+}
+
+// Says where a table is refused, or else of a comment that says another year.
+fn judge_table(fd: i32, path: &[u8], table: Table, rows: &[u16]) {
+    if conversion::accepts(table, rows) {
+        tell_years(fd, path, table.first_year);
+        return;
+    }
+    let b = tables::first_broken(table, rows);
+    let p = look(
+        fd,
+        Sought::Line(table_line(b, conversion::year_count(rows))),
+    );
+    report_table(path, p, table, b);
+}
+
+// Says where a list of rules is refused.
+fn judge_rules(fd: i32, path: &[u8], rules: &[u16]) {
+    if rules::accepts_rules(rules) {
+        return;
+    }
+    let f = faults::first_fault(rules);
+    report_rules(path, look(fd, Sought::Line(rule_line(f))), f);
+}
+
+// Says what there is to say of a table that was read.
+pub fn tell_table(fd: i32, path: &[u8], r: TableRead, rows: &[u16]) {
+    match r {
+        TableRead::Is(table, n) => {
+            if n <= rows.len() {
+                judge_table(fd, path, table, &rows[..n]);
+            }
+        }
+        TableRead::Not(p) => report(path, p),
+    }
+}
+
+// The same of rules.
+pub fn tell_rules(fd: i32, path: &[u8], r: RulesRead, rules: &[u16]) {
+    match r {
+        RulesRead::Are(n) => {
+            if n <= rules.len() {
+                judge_rules(fd, path, &rules[..n]);
+            }
+        }
+        RulesRead::Not(p) => report(path, p),
+    }
+}
