@@ -39,7 +39,7 @@ pub struct Kept {
 }
 
 // Stores x at index i, if there is such an index.
-fn set_at(buf: &mut [u16], i: usize, x: u16)
+pub fn set_at(buf: &mut [u16], i: usize, x: u16)
     ensures { λ _. ⌜ now (buf .exit) ≡ set (now (buf .entry)) i x ⌝ }
 {
     if i < buf.len() {
