@@ -7,7 +7,11 @@ use Rattle.paper.specs.Refusals.{number}
 use Rattle.text.specs.Digits.{digits}
 use Rattle.text.specs.Quoted.{bytes}
 
--- what a refusal means for a page; 8, 10 and 11 are none of a page's
+-- line 3 is out of form
+abbrev pub formText : ℕ → List ℕ
+formText line = bytes "line " ++ (digits line ++ bytes " is out of form")
+
+-- what a refusal means for a page; 8, 10, 11 and 12 are none of a page's
 abbrev pub reasonText : Refusal → List ℕ
 reasonText R.BadTable = bytes "the year table is not good"
 reasonText R.BadRules = bytes "the rules are not good"
@@ -20,6 +24,7 @@ reasonText R.OutOfRange = bytes "an instant is out of range"
 reasonText R.NoRoom = bytes "the page is longer than this program can hold"
 reasonText R.OffTable = bytes "the month is not in the year table"
 reasonText R.NotEnded = bytes "a search did not end"
+reasonText (R.OutOfForm line) = formText line
 
 -- patro: refused, 5: the BS month is not 1 to 12
 unfoldable pub refusalText : Refusal → List ℕ

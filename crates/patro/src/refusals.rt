@@ -1,7 +1,16 @@
 // Why there is no page, in words.
 ghost use Rattle.text.specs.Written.{Wrote};
-ghost use Rattle.patro.specs.Refusals.{reasonText, refusalText};
+ghost use Rattle.patro.specs.Refusals.{formText, reasonText, refusalText};
 use paper::Refusal;
+
+// Writes which line is out of form.
+fn put_out_of_form(out: &mut [u8], at: usize, line: usize) -> usize
+    ensures { λ r. ⌜ Wrote (now (out .entry)) at (formText line) (now (out .exit)) r ⌝ }
+{
+    let a = text::put(out, at, b"line ");
+    let b = text::put_decimal(out, a, line as u64);
+    text::put(out, b, b" is out of form")
+}
 
 // Writes what a refusal means.
 fn put_reason(out: &mut [u8], at: usize, why: Refusal) -> usize
@@ -27,6 +36,7 @@ fn put_reason(out: &mut [u8], at: usize, why: Refusal) -> usize
         Refusal::NoRoom => text::put(out, at, b"the page is longer than this program can hold"),
         Refusal::OffTable => text::put(out, at, b"the month is not in the year table"),
         Refusal::NotEnded => text::put(out, at, b"a search did not end"),
+        Refusal::OutOfForm(line) => put_out_of_form(out, at, line),
     }
 }
 
