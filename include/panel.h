@@ -4,14 +4,14 @@
  * Link target/staticlib/libpanel.a, which `rt staticlib panel` writes (x86-64), and the C library's mathematics, -lm: of other code the engine calls
  * fmod, memcpy and memset alone. It has no heap, no state and no threads, and each call ends.
  *
- * Every call answers 0 and writes what was asked for, or answers the number of a refusal and writes nothing at all:
+ * Every call answers 0 and writes what was asked for, or answers the number of a refusal and writes nothing at all (12 alone writes the number of a line):
  *
  *    1  the year table breaks a rule             7  a Gregorian day before the first or after the last day of the table
  *    2  a festival rule breaks a rule            8  an instant out of range or no number; a tithi not 1 to 30
  *    3  no such Gregorian date in 1900 to 2149   9  a lent buffer is shorter than the answer
  *    4  the BS year is not in the table         10  a month step that leaves the table
  *    5  the BS month is not 1 to 12             11  a search not ended after 1,024 steps
- *    6  the BS day is 0 or past the month
+ *    6  the BS day is 0 or past the month       12  a line of a rule file is out of form
  *
  * Each comment names the refusals that its call can meet, in the order in which they are tested.
  *
@@ -41,7 +41,7 @@
  *  - A length and a size: a length counts elements, so sizeof a / sizeof *a and never sizeof a alone. Too large a length lets a call read or write past
  *    what is lent.
  *  - A count and a length: count and festival_count count festivals, of two numbers each, and cell_count counts cells, of twelve. Festival i, from 0, is at
- *    festivals[2 * i] and festivals[2 * i + 1]; a buffer for n of them has the length 2 * n.
+ *    festivals[2 * i] and festivals[2 * i + 1]; a buffer for n of them has the length 2 * n. In panel_read_rules count counts rules, of eight numbers each.
  *  - A day number and an instant: the number of panel_date_day_number is the day's noon; its 0h is the instant half a day before.
  *  - Radians and degrees: sine, cosine, tangent and the arcs are in radians, all else in degrees.
  *  - Minute 0 and none: 0 is midnight, 1,440 is none.
@@ -186,6 +186,17 @@ uint16_t panel_reading(uint16_t year, uint16_t month, uint16_t day, uint16_t *ti
 
 /* Whether rules are accepted: 0 if they are. Every other call that takes rules tests them too. Refusal: 2. */
 uint16_t panel_check_rules(const uint16_t *rules, size_t rules_len);
+
+/* The rules of a text file at the front of rules, eight numbers each; count gets how many rules there are. The text is eight lines for each rule, in this order:
+   kind=, year=, month=, day=, half=, kala=, name=, holiday=, each with a decimal number of at most 65,535 without leading zeros and a line feed, and nothing
+   else; it may be empty and of any length, and needs no byte 0 behind it. With 12 line gets the number of the first line that is out of form, from 1, or of
+   the line after the last where the text ends inside a rule; an answer and every other refusal leave it. rules_len 2,560 serves every file: more than 320
+   rules are not accepted, which is proved. Refusals: 12, 2, 9. */
+uint16_t panel_read_rules(const uint8_t *text, size_t text_len, uint16_t *rules, size_t rules_len, size_t *count, size_t *line);
+
+/* The text file of rules at the front of text, as panel_read_rules reads it; bytes gets how many bytes it has, and no byte 0 is written behind them. A rule
+   takes at most 91 bytes, so text_len 29,120 should serve all rules; this is argued and not proved, and what is too short gets 9. Refusals: 2, 9. */
+uint16_t panel_write_rules(const uint16_t *rules, size_t rules_len, uint8_t *text, size_t text_len, size_t *bytes);
 
 /* The festivals of a BS date at the front of festivals, two numbers each: name, holiday; count gets how many there are. festivals_len 768 serves every day:
    there are at most 384, which is proved. A Saturday is a holiday by itself, but no list has an entry for that: a Saturday's list may be empty.

@@ -6,9 +6,11 @@ use mathlib.Core.Option.{Option, some, none}
 use lib.Dec.{leb}
 use lib.Ieee.{Float}
 use Rattle.paper.specs.Answers.{Answer, answered, refused, given}
-use Rattle.paper.specs.Refusals.{number}
+use Rattle.paper.specs.Refusals.{number, line}
 use Rattle.paper.specs.declared.Refusal.{Refusal}
 use Rattle.paper.specs.declared.Refusal.the-variants.{BadRules}
+use Rattle.paper.specs.declared.Told.{Told}
+use Rattle.paper.specs.declared.Told.the-variants.{Line, Nothing}
 use Rattle.gregorian.specs.declared.Date.{Date}
 use Rattle.conversion.specs.declared.BsDate.{BsDate}
 use Rattle.conversion.specs.declared.Table.{Table}
@@ -41,6 +43,26 @@ givesSome (refused k) parts old = (number k, old)
 -- a day's list: its count, and the lent buffer
 abbrev pub givesList : Listed → ℕ → (ℕ × ℕ) × List ℕ
 givesList l old = (gives (l .answer) (λ n. n) old, l .buffer)
+
+-- the place for a line: a line that is told goes there, all else leaves it
+abbrev pub lineIn : Told → ℕ → ℕ
+lineIn (Line k) old = k
+lineIn Nothing old = old
+
+abbrev pub numberAndLine : Refusal → ℕ → ℕ × ℕ
+numberAndLine k old = (number k, lineIn (line k) old)
+
+-- an answer and the place for a line
+abbrev pub givesLine : Answer ℕ → ℕ × ℕ → ℕ × (ℕ × ℕ)
+givesLine (answered n) old = (0, (n, old .1))
+givesLine (refused k) old = (number k, (old .0, lineIn (line k) (old .1)))
+
+-- a rule file read: its count and the place of the line, and the lent buffer; one written: its bytes, and the lent buffer
+abbrev pub givesRead : Answer ℕ × List ℕ → ℕ × ℕ → (ℕ × (ℕ × ℕ)) × List ℕ
+givesRead w old = (givesLine (w .0) old, w .1)
+
+abbrev pub givesWritten : Answer ℕ × List ℕ → ℕ → (ℕ × ℕ) × List ℕ
+givesWritten w old = (gives (w .0) (λ n. n) old, w .1)
 
 -- what is written of a Gregorian date, a BS date, a BS month and a reading
 abbrev pub numbers : Date → ℕ × ℕ × ℕ

@@ -1,5 +1,5 @@
-// The engine for C: numbers, lent slices and lent places alone. Each function answers 0 or the number of a refusal of document 01; a refusal changes
-// no lent place. Each promises what the engine's function of that name promises, by the same definition.
+// The engine for C: numbers, lent slices and lent places alone. Each function answers 0 or the number of a refusal (docs/RULES.md); a refusal changes
+// no lent place, but that 12 tells its line. Each promises what the engine's function of that name promises, by the same definition.
 ghost use mathlib.Core.Path.{_≡_};
 ghost use Rattle.panel.specs.Boundary.{code, accepting, table};
 use conversion::Table;
@@ -11,6 +11,7 @@ mod dates;
 mod day_lists;
 mod heavens;
 mod months;
+mod rule_files;
 mod trigonometry;
 
 // The year table of its four numbers: its first year, and the Gregorian date of its first day.
