@@ -14,7 +14,7 @@ use Rattle.faults.specs.Faults.{numberIn, least, most}
 
 -- the name of a field
 unfoldable pub nameText : Field → List ℕ
-nameText field.Nothing = bytes "name"
+nameText field.Nothing = bytes "no field"
 nameText field.Kind = bytes "kind"
 nameText field.Year = bytes "year"
 nameText field.Month = bytes "month"

@@ -14,7 +14,7 @@ fn put_field_name(out: &mut [u8], at: usize, f: Field) -> usize
     ensures { λ r. ⌜ Wrote (now (out .entry)) at (nameText f) (now (out .exit)) r ⌝ }
 {
     match f {
-        Field::Nothing => text::put(out, at, b"name"),
+        Field::Nothing => text::put(out, at, b"no field"),
         Field::Kind => text::put(out, at, b"kind"),
         Field::Year => text::put(out, at, b"year"),
         Field::Month => text::put(out, at, b"month"),
