@@ -17,7 +17,7 @@ pub fn own_table() -> Table {
 }
 
 /// A decimal number of at most 65,535 without leading zeros.
-fn number(word: &[u8]) -> Option<u16> {
+pub(crate) fn number(word: &[u8]) -> Option<u16> {
     let text = std::str::from_utf8(word).ok()?;
     let number: u16 = text.parse().ok()?;
     (number.to_string() == text).then_some(number)

@@ -1,9 +1,9 @@
 //! Oracle P's answers in the line language.
-use crate::lines::{Lent, Query, float_word};
+use crate::lines::{Lent, Query, float_word, hex_word};
 use parameterised::conversion::{self, BsDate};
 use parameterised::gregorian::Date;
 use parameterised::panchanga::{self, KALAS, Tt, Ut};
-use parameterised::{Answer, festivals, grid, trig};
+use parameterised::{Answer, Unread, festivals, grid, rulefile, trig};
 
 /// What every element of a buffer is before the call.
 pub const FILL: u16 = 7;
@@ -61,6 +61,23 @@ fn list_line(length: u16, list: impl FnOnce(&mut [u16]) -> Answer<usize>) -> Str
     with_buffer(answer, buffer.into_iter().map(|word| word.to_string()))
 }
 
+fn read_rules_line(text: &[u8], length: u16) -> String {
+    let mut buffer = vec![FILL; length as usize];
+    let answer = match rulefile::read_rules(text, &mut buffer) {
+        Ok(count) => format!("0 {count}"),
+        Err(Unread::OutOfForm(line)) => format!("12 {line}"),
+        Err(Unread::Refused(refusal)) => refusal.to_string(),
+    };
+    with_buffer(answer, buffer.into_iter().map(|word| word.to_string()))
+}
+
+fn write_rules_line(rules: &[u16], length: u16) -> String {
+    let mut buffer = vec![FILL as u8; length as usize];
+    let answer = told(rulefile::write_rules(rules, &mut buffer).map(|count| count.to_string()));
+    let word = (!buffer.is_empty()).then(|| hex_word(&buffer));
+    with_buffer(answer, word.into_iter())
+}
+
 fn grid_line(lent: &Lent, today: Date, (year, month): (u16, u16), lengths: [u16; 2]) -> String {
     let [mut cells, mut names] = lengths.map(|length| vec![FILL; length as usize]);
     let answer =
@@ -116,6 +133,8 @@ pub fn answer(lent: &Lent, query: Query) -> String {
         Query::Asin(x) => Ok(float_word(trig::asin(x))),
         Query::Acos(x) => Ok(float_word(trig::acos(x))),
         Query::Tan(x) => Ok(float_word(trig::tan(x))),
+        Query::ReadRules(length) => return read_rules_line(&lent.text, length),
+        Query::WriteRules(length) => return write_rules_line(rules, length),
         Query::Starts(tithi, from, to, length) => return starts_line(tithi, from, to, length),
         Query::ListBs(bs, length) => {
             return list_line(length, |out| festivals::day_list_bs(table, rules, bs, out));

@@ -9,14 +9,22 @@ pub enum Line {
     Cells(Vec<u16>),
     Rules,
     Rule(Vec<u16>),
+    Text,
+    Octets(Vec<u8>),
     Query(Query),
 }
 
-/// A line that is answered. The last numbers of starts, the lists and grid are buffer lengths.
+/// The most bytes that one line adds to the lent text.
+pub const OCTETS: usize = 64;
+
+/// A line that is answered. The last numbers of starts, the lists, grid and the rule files are buffer
+/// lengths.
 #[derive(Debug, Clone, Copy, PartialEq)]
 pub enum Query {
     Check,
     CheckRules,
+    ReadRules(u16),
+    WriteRules(u16),
     Bs(BsDate),
     Ad(Date),
     Len(u16, u16),
@@ -84,11 +92,20 @@ impl<'a> Words<'a> {
 
     fn float(&mut self) -> Option<f64> {
         let digits = self.word()?.strip_prefix("0x")?;
-        let is_digit = |c: u8| c.is_ascii_digit() || (b'a'..=b'f').contains(&c);
-        if digits.len() != 16 || !digits.bytes().all(is_digit) {
+        if digits.len() != 16 || !is_hex(digits) {
             return None;
         }
         Some(f64::from_bits(u64::from_str_radix(digits, 16).ok()?))
+    }
+
+    /// One to `most` bytes, two hex digits each.
+    fn octets(&mut self, most: usize) -> Option<Vec<u8>> {
+        let digits = self.word()?;
+        if digits.len() % 2 != 0 || !(1..=most).contains(&(digits.len() / 2)) || !is_hex(digits) {
+            return None;
+        }
+        let pairs = (0..digits.len()).step_by(2).map(|at| &digits[at..at + 2]);
+        pairs.map(|pair| u8::from_str_radix(pair, 16).ok()).collect()
     }
 
     fn date(&mut self) -> Option<Date> {
@@ -109,6 +126,11 @@ impl<'a> Words<'a> {
     }
 }
 
+/// Whether all of a word are lowercase hex digits.
+fn is_hex(word: &str) -> bool {
+    word.bytes().all(|c| c.is_ascii_digit() || (b'a'..=b'f').contains(&c))
+}
+
 fn natural(digits: &str) -> Option<i64> {
     let plain = !digits.is_empty()
         && digits.len() <= 10
@@ -126,6 +148,8 @@ pub fn parse(line: &[u8]) -> Option<Line> {
         "cells" => Line::Cells(w.numbers(13)?),
         "rules" => Line::Rules,
         "rule" => Line::Rule(w.numbers(8)?),
+        "text" => Line::Text,
+        "octets" => Line::Octets(w.octets(OCTETS)?),
         tag => Line::Query(query(tag, w)?),
     };
     words.rest.next().is_none().then_some(line)
@@ -135,6 +159,8 @@ fn query(tag: &str, w: &mut Words) -> Option<Query> {
     Some(match tag {
         "check" => Query::Check,
         "checkrules" => Query::CheckRules,
+        "readrules" => Query::ReadRules(w.number()?),
+        "writerules" => Query::WriteRules(w.number()?),
         "bs" => Query::Bs(w.bs()?),
         "ad" => Query::Ad(w.date()?),
         "len" => Query::Len(w.number()?, w.number()?),
@@ -183,12 +209,13 @@ fn query(tag: &str, w: &mut Words) -> Option<Query> {
 pub struct Lent {
     pub table: Table,
     pub rules: Vec<u16>,
+    pub text: Vec<u8>,
 }
 
 impl Default for Lent {
     fn default() -> Self {
         let table = Table { first_year: 0, first_day: date(0, 0, 0), rows: Vec::new() };
-        Lent { table, rules: Vec::new() }
+        Lent { table, rules: Vec::new(), text: Vec::new() }
     }
 }
 
@@ -202,6 +229,8 @@ impl Lent {
             Line::Cells(numbers) => self.table.rows.extend(numbers),
             Line::Rules => self.rules.clear(),
             Line::Rule(numbers) => self.rules.extend(numbers),
+            Line::Text => self.text.clear(),
+            Line::Octets(bytes) => self.text.extend(bytes),
             Line::Query(query) => return Some(query),
         }
         None
@@ -216,6 +245,11 @@ pub fn float_word(x: f64) -> String {
 /// A float as a word of a query: a NaN keeps its bits.
 pub fn bits_word(x: f64) -> String {
     format!("0x{:016x}", x.to_bits())
+}
+
+/// Bytes as a word of a query or of an answer.
+pub fn hex_word(bytes: &[u8]) -> String {
+    bytes.iter().map(|byte| format!("{byte:02x}")).collect()
 }
 
 /// Answers each line of standard input by `answer`, which takes the line without its line feed.

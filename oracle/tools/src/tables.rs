@@ -2,6 +2,7 @@
 use crate::random::Random;
 use parameterised::conversion::Table;
 use parameterised::gregorian::{Date, date};
+use parameterised::rulefile;
 use untouched_nepal::{BS_REFERENCE, BS_START_YEAR, BsDate, bs_to_ad};
 
 /// The table of the Rust untouched.
@@ -14,16 +15,22 @@ pub fn owner_table() -> Table {
     }
 }
 
-/// The numbers of a table or rule file; `#` starts a comment.
+/// The numbers of a file that has no keys, or one before each number; `#` starts a comment.
 fn numbers(text: &str) -> Vec<u16> {
     let bodies = text.lines().filter_map(|line| line.split('#').next());
-    let words = bodies.flat_map(str::split_whitespace);
+    let values = bodies.filter_map(|body| body.split('=').next_back());
+    let words = values.flat_map(str::split_whitespace);
     words.map(|word| word.parse().expect("a number")).collect()
+}
+
+/// The numbers of a rule file in form.
+fn rules(text: &[u8]) -> Vec<u16> {
+    rulefile::numbers(text).expect("a rule file in form")
 }
 
 /// oracle/rules/nepal.rules.
 pub fn nepal_rules() -> Vec<u16> {
-    numbers(include_str!("../../rules/nepal.rules"))
+    rules(include_bytes!("../../rules/nepal.rules"))
 }
 
 /// The table of `ask`'s sample.
@@ -39,7 +46,7 @@ pub fn ask_rules() -> Vec<u16> {
 
 /// oracle/rules/stress.rules: as many rules of each kind as are accepted, few names.
 pub fn stress_rules() -> Vec<u16> {
-    numbers(include_str!("../../rules/stress.rules"))
+    rules(include_bytes!("../../rules/stress.rules"))
 }
 
 /// How the months of a random table are drawn.

@@ -1,5 +1,5 @@
-//! Asks oracle P document 01's checked examples and Meeus's 7.a, 25.a and 47.a; the answers stand
-//! here as the paper and the book print them.
+//! Asks oracle P document 01's checked examples and Meeus's 7.a, 25.a and 47.a, whose answers stand
+//! here as the paper and the book print them, and rule files read by hand.
 //!
 //!   book [recipe|host]
 use parameterised::convert;
@@ -8,7 +8,7 @@ use parameterised::panchanga::{self, Tt};
 use parameterised::trig::{self, Mode};
 use std::process::ExitCode;
 use tools::answers;
-use tools::lines::{self, Lent, bits_word};
+use tools::lines::{self, Lent, bits_word, hex_word};
 
 /// Lines over document 01's own table, and what the paper says; the control lines answer nothing.
 const PAPER: [(&str, &str); 30] = [
@@ -51,6 +51,38 @@ fn on_floats() -> Vec<(String, String)> {
         (format!("clock {}", bits_word(2451544.5)), "0 345".into()),
         (format!("minutes {}", bits_word(0.9998)), "0 0".into()),
     ]
+}
+
+/// One rule as a rule file.
+const RULE_FILE: &str = "kind=1\nyear=0\nmonth=2\nday=3\nhalf=0\nkala=0\nname=65535\nholiday=1\n";
+
+/// What is put in the place of a piece of it, the buffer's length, and what is read.
+const ALTERED: [(&str, &str, usize, &str); 11] = [
+    ("", "", 8, "0 1 | 1 0 2 3 0 0 65535 1"),
+    ("", "", 7, "9 | 7 7 7 7 7 7 7"),
+    (RULE_FILE, "", 1, "0 0 | 7"),
+    ("kind=1", "kind=5", 0, "2 |"),
+    ("kind=1\nyear=0\n", "year=0\nkind=5\n", 0, "12 1 |"),
+    ("month=2", "month=02", 0, "12 3 |"),
+    ("65535", "65536", 0, "12 7 |"),
+    ("day=3\n", "day=3\r\n", 0, "12 4 |"),
+    ("holiday=1\n", "holiday=1", 0, "12 8 |"),
+    ("holiday=1\n", "", 0, "12 8 |"),
+    ("holiday=1\n", "holiday=1\n\n", 0, "12 9 |"),
+];
+
+/// The lines that lend each altered rule file and read it.
+fn on_rule_files() -> Vec<(String, String)> {
+    let mut pairs = Vec::new();
+    for (piece, put, length, answer) in ALTERED {
+        let file = RULE_FILE.replacen(piece, put, 1);
+        pairs.push(("text".into(), String::new()));
+        if !file.is_empty() {
+            pairs.push((format!("octets {}", hex_word(file.as_bytes())), String::new()));
+        }
+        pairs.push((format!("readrules {length}"), answer.into()));
+    }
+    pairs
 }
 
 /// Counts the answers that are not the expected ones.
@@ -114,7 +146,8 @@ fn main() -> ExitCode {
         meeus_differs("25.a, the sun's true longitude", sun, 199.90987, 2e-5),
         meeus_differs("47.a, the moon's geometric longitude", moon, 133.162655, 2e-6),
     ];
-    let differ = differing(paper.chain(on_floats())) + checks.iter().filter(|bad| **bad).count();
+    let pairs = paper.chain(on_floats()).chain(on_rule_files());
+    let differ = differing(pairs) + checks.iter().filter(|bad| **bad).count();
     println!("{differ} of the paper's and the book's examples differ");
     if differ == 0 { ExitCode::SUCCESS } else { ExitCode::FAILURE }
 }

@@ -81,13 +81,13 @@ fn list_ad(maker: &mut Maker, ad: Date, length: usize) {
 }
 
 /// A length that is now and then too short, mostly exact or a little more.
-fn some_length(maker: &mut Maker, count: usize) -> usize {
+pub fn some_length(maker: &mut Maker, exact: usize) -> usize {
     match maker.random.below(8) {
-        0 => (2 * count).saturating_sub(1),
+        0 => exact.saturating_sub(1),
         1 => 0,
-        2 => 2 * count + 5,
-        3 => 2 * count + 1,
-        _ => 2 * count,
+        2 => exact + 5,
+        3 => exact + 1,
+        _ => exact,
     }
 }
 
@@ -96,7 +96,7 @@ fn around(maker: &mut Maker, almanac: &mut Almanac, bs: BsDate, places: i64) {
     for days in -places..=places {
         if let Some(day) = almanac.later(bs, days) {
             let count = almanac.count(day);
-            let length = some_length(maker, count);
+            let length = some_length(maker, 2 * count);
             list(maker, almanac, day, length);
         }
     }
@@ -119,7 +119,7 @@ pub fn random_days(maker: &mut Maker, almanac: &mut Almanac, count: usize) {
             }
         }
         let entries = almanac.count(day);
-        let length = some_length(maker, entries);
+        let length = some_length(maker, 2 * entries);
         list(maker, almanac, day, length);
     }
 }
@@ -321,17 +321,18 @@ fn crowded(maker: &mut Maker) {
     }
 }
 
-/// Lists that break one line of the paper each, and good ones that stand beside them.
-pub fn edge_rules() -> Vec<Vec<u16>> {
-    let good = [
-        rule(1, 0, 12, 32, 0, 0, 1),
-        rule(2, 0, 2, 31, 0, 0, 65534),
-        rule(3, 0, 1, 15, 1, 5, 0),
-        rule(4, 65535, 1, 32, 0, 0, 65535),
-    ];
-    let mut lists = vec![Vec::new(), good.concat()];
-    // Each field of each kind, at its bounds and past them.
-    for (at, rule) in good.iter().enumerate() {
+/// A good rule of each kind.
+pub const GOOD_RULES: [[u16; 8]; 4] = [
+    [1, 0, 12, 32, 0, 0, 1, 1],
+    [2, 0, 2, 31, 0, 0, 65534, 0],
+    [3, 0, 1, 15, 1, 5, 0, 0],
+    [4, 65535, 1, 32, 0, 0, 65535, 1],
+];
+
+/// Each field of each good rule at its bounds and past them: the rule's place, and the rule so changed.
+pub fn changed_rules() -> Vec<(usize, [u16; 8])> {
+    let mut all = Vec::new();
+    for (at, rule) in GOOD_RULES.iter().enumerate() {
         for (field, values) in [
             (0, vec![0, 5, 65535]),
             (1, vec![0, 1, 2080]),
@@ -344,11 +345,21 @@ pub fn edge_rules() -> Vec<Vec<u16>> {
             for value in values {
                 let mut changed = *rule;
                 changed[field] = value;
-                let mut list = good;
-                list[at] = changed;
-                lists.push(list.concat());
+                all.push((at, changed));
             }
         }
+    }
+    all
+}
+
+/// Lists that break one line of the paper each, and good ones that stand beside them.
+pub fn edge_rules() -> Vec<Vec<u16>> {
+    let good = GOOD_RULES;
+    let mut lists = vec![Vec::new(), good.concat()];
+    for (at, changed) in changed_rules() {
+        let mut list = good;
+        list[at] = changed;
+        lists.push(list.concat());
     }
     // The number of each kind, and a length that is no multiple of eight.
     for (rule, most) in good.iter().zip([64, 64, 64, 128]) {

@@ -172,11 +172,11 @@ pub fn lists(maker: &mut Maker) {
     }
 }
 
-const TAGS: [&str; 40] = [
+const TAGS: [&str; 44] = [
     "check", "checkrules", "bs", "ad", "len", "valid", "step", "day", "date", "jd", "npt", "deltat", "tt",
     "sun", "moon", "elong", "tithi", "tithiof", "end", "starts", "events", "rise", "set", "kala", "nishita",
     "clock", "minutes", "read", "listbs", "listad", "grid", "sin", "cos", "asin", "acos", "tan", "table",
-    "cells", "rules", "rule",
+    "cells", "rules", "rule", "text", "octets", "readrules", "writerules",
 ];
 
 /// Words that no line takes, or few do.

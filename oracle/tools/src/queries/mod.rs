@@ -1,6 +1,6 @@
 //! Makers of query lines, each from a fixed seed: samples for the programs, and the sets at
 //! full scale.
-use crate::lines::bits_word;
+use crate::lines::{OCTETS, bits_word, hex_word};
 use crate::random::Random;
 use parameterised::conversion::{BsDate, Table};
 use parameterised::gregorian::{Date, date};
@@ -15,6 +15,7 @@ mod full;
 mod gregorian;
 mod grid;
 mod panchanga;
+mod texts;
 mod trig;
 
 /// Writes the lines of one set.
@@ -26,7 +27,7 @@ pub struct Maker<'a> {
 type Set = (&'static str, fn(&mut Maker));
 
 /// The samples: of `convert`, and the parts of the sample of `ask`, its own questions first.
-pub const SAMPLES: [Set; 8] = [
+pub const SAMPLES: [Set; 9] = [
     ("ask", ask::sample),
     ("gregorian", gregorian::sample),
     ("conversion", conversion::sample),
@@ -35,10 +36,11 @@ pub const SAMPLES: [Set; 8] = [
     ("panchanga", panchanga::sample),
     ("festivals", festivals::sample),
     ("grid", grid::sample),
+    ("texts", texts::sample),
 ];
 
 /// The sets at full scale.
-pub const FULL: [Set; 10] = [
+pub const FULL: [Set; 11] = [
     ("dates", full::dates),
     ("instants", full::instants),
     ("angles", full::angles),
@@ -48,6 +50,7 @@ pub const FULL: [Set; 10] = [
     ("grids", full::grids),
     ("days", full::days),
     ("lists", full::lists),
+    ("texts", texts::full),
     ("words", full::words),
 ];
 
@@ -124,6 +127,19 @@ impl<'a> Maker<'a> {
         self.line("rules");
         for rule in rules.chunks(8) {
             self.numbers("rule", rule);
+        }
+    }
+
+    /// Lends a text.
+    pub fn text(&mut self, text: &[u8]) {
+        self.line("text");
+        self.octets(text);
+    }
+
+    /// Adds bytes to the lent text.
+    pub fn octets(&mut self, bytes: &[u8]) {
+        for part in bytes.chunks(OCTETS) {
+            self.line(format_args!("octets {}", hex_word(part)));
         }
     }
 
