@@ -9,6 +9,7 @@ use parameterised::festivals;
 use parameterised::gregorian::Date;
 use parameterised::grid;
 use parameterised::panchanga::{self, Ut};
+use parameterised::rulefile;
 use parameterised::trig;
 use parameterised::Answer;
 use std::cell::RefCell;
@@ -70,7 +71,7 @@ fn owner_table() -> Table {
 
 /// The list of rules that the Rust untouched was built with.
 fn nepal_rules() -> Vec<u16> {
-    numbers_in(include_str!("../../../oracle/rules/nepal.rules"))
+    rulefile::numbers(include_bytes!("../../../oracle/rules/nepal.rules")).expect("a rule file in form")
 }
 
 fn of_date(date: Date) -> u64 {
