@@ -31,7 +31,7 @@ pub record RuleFiles : Type 0 where
   -- a text is in form exactly if it is the file of some rules, and these are the rules that it reads to
   pub form-file : (s : List ℕ) → InForm s → FileOf (rulesIn s) s
   pub file-form : (rs : List Rule) (s : List ℕ) → FileOf rs s → InForm s × (fileLines s .numbers ≡ flat rs)
-  -- two texts in form that read to the same rules are equal byte for byte
+  -- rules come from one text alone: where two in form have the same, no byte differs
   pub same-bytes : (s t : List ℕ) → InForm s → InForm t → rulesIn s ≡ rulesIn t → s ≡ t
   -- 12 tells line k exactly if the text is out of form there: the lines before are in form, and line k is another than the one due or is missing
   pub told-out : (s : List ℕ) (room k : ℕ) → rulesRead s room ≡ refused (OutOfForm k) → OutAt ruleForm 0 s k
