@@ -1,6 +1,6 @@
 /*
- * Answers the line language of oracle/README.md by the calls of panel.h: a table, rules and a text are lent by lines, each question is a line and so is each answer.
- * So the calls from C can be held against the two Rust oracles. examples/lines builds it and asks the stored questions.
+ * Answers the line language of oracle/README.md by the calls of panel.h: a table, rules and a text are lent by lines, each question is a line and so is each
+ * answer. So the calls from C can be held against the two Rust oracles. examples/lines builds it and asks the stored questions.
  */
 #define _POSIX_C_SOURCE 200809L
 #include "panel.h"
