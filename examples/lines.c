@@ -1,6 +1,6 @@
 /*
- * Answers the line language of oracle/README.md by the calls of panel.h: a table and rules are lent by lines, each question is a line and so is each answer.
- * So the calls from C can be held against the two Rust oracles. examples/lines builds it and asks the stored questions.
+ * Answers the line language of oracle/README.md by the calls of panel.h: a table, rules and a text are lent by lines, each question is a line and so is each
+ * answer. So the calls from C can be held against the two Rust oracles. examples/lines builds it and asks the stored questions.
  */
 #define _POSIX_C_SOURCE 200809L
 #include "panel.h"
@@ -12,13 +12,15 @@
 
 /* ---- what lines have lent */
 
-enum { MOST = 65535, FILL = 7 };
+enum { MOST = 65535, LONGEST = 1 << 22, FILL = 7 };
 
 static uint16_t head[4], rows[MOST], rules[MOST];
-static size_t rows_len, rules_len;
+static uint8_t text[LONGEST];
+static size_t rows_len, rules_len, text_len;
 
 #define TABLE head[0], head[1], head[2], head[3], rows, rows_len
 #define RULES rules, rules_len
+#define TEXT text, text_len
 
 /* ---- the words of a question */
 
@@ -72,18 +74,25 @@ static int read_step(struct question *q)
     return value >= 0;
 }
 
+/* So many hex digits of lower case, sixteen at most, as a number. */
+static int read_hex(const char *from, size_t count, uint64_t *to)
+{
+    static const char digits[] = "0123456789abcdef";
+    *to = 0;
+    for (size_t i = 0; i < count; i++) {
+        const char *digit = memchr(digits, from[i], 16);
+        if (!digit) return 0;
+        *to = 16 * *to + (uint64_t)(digit - digits);
+    }
+    return 1;
+}
+
 /* A float by its bits: 0x and sixteen digits. */
 static int read_real(struct question *q, double *to)
 {
-    static const char digits[] = "0123456789abcdef";
-    const char *from, *digit;
-    uint64_t bits = 0;
-    if (next_word(q, &from) != 18 || memcmp(from, "0x", 2) != 0) return 0;
-    for (int i = 2; i < 18; i++) {
-        digit = memchr(digits, from[i], 16);
-        if (!digit) return 0;
-        bits = 16 * bits + (uint64_t)(digit - digits);
-    }
+    const char *from;
+    uint64_t bits;
+    if (next_word(q, &from) != 18 || memcmp(from, "0x", 2) != 0 || !read_hex(from + 2, 16, &bits)) return 0;
     memcpy(to, &bits, sizeof bits);
     return 1;
 }
@@ -114,6 +123,20 @@ static int read_list(struct question *q, size_t most, uint16_t *list, size_t *le
     if (*len + count > MOST) exit(2);
     for (size_t i = 0; i < count; i++) list[(*len)++] = (uint16_t)q->number[i];
     return count > 0;
+}
+
+/* A word of 1 to 64 bytes, two hex digits each, to the line's end, added to the text. */
+static int read_octets(struct question *q)
+{
+    const char *from;
+    uint64_t octets[64];
+    size_t length = next_word(q, &from), count = length / 2;
+    if (count < 1 || count > 64 || length % 2 > 0 || q->rest <= q->end) return 0;
+    for (size_t i = 0; i < count; i++)
+        if (!read_hex(from + 2 * i, 2, &octets[i])) return 0;
+    if (text_len + count > LONGEST) exit(2);
+    for (size_t i = 0; i < count; i++) text[text_len++] = (uint8_t)octets[i];
+    return 1;
 }
 
 /* ---- the words of an answer */
@@ -211,6 +234,29 @@ static void ask_grid(const struct question *q)
     put_buffer(festivals, N(6));
 }
 
+/* Refusal 12 has its line behind it. */
+static void ask_readrules(const struct question *q)
+{
+    static uint16_t read[MOST];
+    size_t count, line;
+    uint16_t refusal;
+    fill(read, N(0));
+    refusal = panel_read_rules(TEXT, read, N(0), &count, &line);
+    if (told(refusal)) put_number(count);
+    else if (refusal == 12) put_number(line);
+    put_buffer(read, N(0));
+}
+
+static void ask_writerules(const struct question *q)
+{
+    static uint8_t written[MOST];
+    size_t bytes;
+    memset(written, FILL, N(0));
+    if (told(panel_write_rules(RULES, written, N(0), &bytes))) put_number(bytes);
+    printf(N(0) > 0 ? " | " : " |");
+    for (size_t i = 0; i < N(0); i++) printf("%02x", (unsigned)written[i]);
+}
+
 static uint16_t number, numbers[4], list[MOST];
 static uint8_t byte;
 static double real, reals[2];
@@ -266,7 +312,8 @@ QUESTIONS(DEFINED)
 static const struct {
     const char *tag, *letters;
     void (*ask)(const struct question *q);
-} questions[] = { QUESTIONS(LISTED) { "day", "nnn", ask_day }, { "starts", "nffn", ask_starts }, { "grid", "nnnnnnn", ask_grid } };
+} questions[] = { QUESTIONS(LISTED) { "day", "nnn", ask_day }, { "starts", "nffn", ask_starts }, { "grid", "nnnnnnn", ask_grid },
+                  { "readrules", "n", ask_readrules }, { "writerules", "n", ask_writerules } };
 
 /* A line that lends, or a question; whether it is in form. */
 static int take(struct question *q)
@@ -276,9 +323,10 @@ static int take(struct question *q)
 #define IS(text) (length == strlen(text) && memcmp(from, text, length) == 0)
     if (IS("cells")) return read_list(q, 13, rows, &rows_len);
     if (IS("rule")) return read_list(q, 8, rules, &rules_len);
-    if (IS("rules")) {
+    if (IS("octets")) return read_octets(q);
+    if (IS("rules") || IS("text")) {
         if (q->rest <= q->end) return 0;
-        rules_len = 0;
+        *(IS("text") ? &text_len : &rules_len) = 0;
         return 1;
     }
     if (IS("table")) {

@@ -165,11 +165,111 @@ static struct slice draw_list(int odd)
     return broken_lists[broken == 0 && below(2000) > 0 ? 1 : broken];
 }
 
+/* ---- rule files */
+
+enum { LONGEST_LINE = 14, MOST_LINES = 65536 };
+
+static struct slice good_texts[COUNT(good_lists)], broken_texts[1024];
+
+/* The file of a list of numbers; how many bytes it is. */
+static size_t write_text(char *text, const uint16_t *numbers, size_t len)
+{
+    static const char *const keys[] = { "kind", "year", "month", "day", "half", "kala", "name", "holiday" };
+    size_t bytes = 0;
+    for (size_t k = 0; k < len; k++) bytes += (size_t)sprintf(text + bytes, "%s=%u\n", keys[k % 8], (unsigned)numbers[k]);
+    return bytes;
+}
+
+/* A byte as it stands in a file, or any. */
+static char odd_byte(void)
+{
+    static const char near[] = "0123456789=\n\r\t -+kindyearmonthdayhalfkalanameholidayK\xef";
+    return below(4) ? near[below(sizeof near)] : (char)bits();
+}
+
+/* Puts so many bytes into a text, or takes them out; the length then. */
+static size_t put_in(char *text, size_t len, size_t at, const char *bytes, size_t count)
+{
+    memmove(text + at + count, text + at, len - at);
+    memcpy(text + at, bytes, count);
+    return len + count;
+}
+
+static size_t take_out(char *text, size_t len, size_t at, size_t count)
+{
+    memmove(text + at, text + at + count, len - at - count);
+    return len - count;
+}
+
+/* Where the line begins that has a byte, and how long it is. */
+static size_t line_of(const char *text, size_t len, size_t *at)
+{
+    const char *end;
+    while (*at > 0 && text[*at - 1] != '\n') --*at;
+    end = memchr(text + *at, '\n', len - *at);
+    return end ? (size_t)(end - text) - *at + 1 : len - *at;
+}
+
+/* Damages the file of some rules in one of eight ways; the length that is then lent. */
+static size_t break_text(char *text, size_t len, unsigned way)
+{
+    char line[LONGEST_LINE], byte = odd_byte();
+    size_t at = below(len), from = at, length = line_of(text, len, &from);
+    memcpy(line, text + from, length);
+    switch (way) {
+    case 0: text[at] = byte; return len;
+    case 1: return put_in(text, len, at, &byte, 1);
+    case 2: return take_out(text, len, at, 1);
+    case 3: return at;
+    case 4: return take_out(text, len, from, length);
+    case 5: return put_in(text, len, from, line, length);
+    case 6:
+        len = take_out(text, len, from, length);
+        from = below(len);
+        line_of(text, len, &from);
+        return put_in(text, len, from, line, length);
+    default:
+        for (size_t k = 0; k < len; k++) text[k] = below(2) ? odd_byte() : (char)bits();
+        return len;
+    }
+}
+
+/* Damaged files, and files in form whose rules are not accepted. */
+static void prepare_texts(void)
+{
+    static uint16_t rules[MOST_LINES];
+    static char text[MOST_LINES * LONGEST_LINE];
+    for (size_t i = 0; i < COUNT(good_texts); i++) {
+        size_t bytes = write_text(text, good_lists[i].at, good_lists[i].len);
+        good_texts[i] = (struct slice){ read_only(text, bytes), bytes };
+    }
+    for (size_t i = 0; i < COUNT(broken_texts); i++) {
+        size_t len = random_rules(rules, 1 + below(8), below(9), below(9), below(9)), bytes;
+        if (i % 9 == 8) len = break_rules(rules, len, below(8));
+        bytes = write_text(text, rules, len);
+        if (i % 9 < 8) bytes = break_text(text, bytes, i % 9);
+        broken_texts[i] = (struct slice){ read_only(text, bytes), bytes };
+    }
+    for (size_t k = 0; k < MOST_LINES; k++) rules[k] = (uint16_t)bits();
+    broken_texts[0].len = write_text(text, rules, MOST_LINES);
+    broken_texts[0].at = read_only(text, broken_texts[0].len);
+    broken_texts[1] = (struct slice){ zeros((size_t)1 << 31), (size_t)1 << 31 };
+}
+
+/* A rule file. The longest in form is read to its end, so it comes seldom. */
+static struct slice draw_text(int odd)
+{
+    size_t broken = below(COUNT(broken_texts));
+    if (!odd) return good_texts[below(COUNT(good_texts))];
+    return broken_texts[broken == 0 && below(8) > 0 ? 1 : broken];
+}
+
 void prepare(uint64_t seed)
 {
     state = seed * 0x9e3779b97f4a7c15u | 1;
     prepare_tables();
     prepare_lists();
+    prepare_texts();
 }
 
 /* ---- hostile numbers */
@@ -290,6 +390,7 @@ void draw(struct arguments *arguments, const char *letters, int tame, const size
         case 'D': draw_number(&to, odd, 1, 29, 65535); break;
         case 'g': draw_in_table(&to, table, tame); break;
         case 'R': *to.slice++ = draw_list(odd); break;
+        case 'x': *to.slice++ = draw_text(odd); break;
         case 'b': draw_number(&to, odd, 1, 12, 255); break;
         case 's': arguments->step = (int32_t)(odd ? odd_number(4294967295u) : below(24 * table->years)) - (int32_t)(odd ? 0 : 12 * table->years); break;
         case 'i': draw_real(&to, odd, 2400000.0, 110000.0); break;
@@ -314,7 +415,7 @@ void show(const struct arguments *shown, const char *letters)
     for (const char *letter = letters; *letter; letter++) {
         int numbers = *letter == 'T' ? 4 : *letter == 'g' ? 3 : strchr("ymdnkqYMDb", *letter) != NULL;
         while (numbers-- > 0) fprintf(stderr, " %lu", (unsigned long)*number++);
-        if (strchr("TR", *letter)) fprintf(stderr, " (%zu lent)", (slice++)->len);
+        if (strchr("TRx", *letter)) fprintf(stderr, " (%zu lent)", (slice++)->len);
         if (strchr("ieutr", *letter)) fprintf(stderr, " %a", *real++);
         if (*letter == 's') fprintf(stderr, " %ld", (long)shown->step);
         if (*letter == 'B') fprintf(stderr, " (room for %zu)", *room++);

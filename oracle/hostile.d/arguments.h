@@ -5,8 +5,9 @@
 #include <stddef.h>
 #include <stdint.h>
 
+/* Elements that are lent to be read, of 16 bits, or of 8 for a text. */
 struct slice {
-    const uint16_t *at;
+    const void *at;
     size_t len;
 };
 
@@ -19,7 +20,7 @@ struct arguments {
     size_t room[2]; /* the elements of each lent buffer */
 };
 
-/* Begins the random numbers, and makes the tables and rule lists that are lent. */
+/* Begins the random numbers, and makes the tables, rule lists and texts that are lent. */
 void prepare(uint64_t seed);
 
 /* A random number below another. */
@@ -30,7 +31,7 @@ uint64_t nan_bits(void);
 
 /* Arguments for parameters by their letters:
      ymd a Gregorian date   n a day number   k a tithi   q a kala
-     T a year table         YMD a BS date in it   g a Gregorian date in it   R rules   b a month in a byte   s a step of months
+     T a year table         YMD a BS date in it   g a Gregorian date in it   R rules   x a rule file   b a month in a byte   s a step of months
      i an instant           e an instant whose next days are instants too   u an instant soon after the one before
      t a day of terrestrial time   r any number   B a lent buffer, with `most` elements where it is tame */
 void draw(struct arguments *to, const char *letters, int tame, const size_t *most);

@@ -27,6 +27,7 @@ static struct lent places[16], buffers[2];
 #define W(i) ((uint32_t *)places[i].at)
 #define Z(i) ((size_t *)places[i].at)
 #define F(i) ((double *)places[i].at)
+#define CB(i) (uint8_t *)buffers[i].at, a.room[i]
 #define HB(i) (uint16_t *)buffers[i].at, a.room[i]
 #define FB(i) (double *)buffers[i].at, a.room[i]
 
@@ -36,10 +37,12 @@ struct buffer {
 };
 
 static const struct buffer no_buffer[2], starts[2] = { { sizeof(double), 40, 0, 1 } }, lists[2] = { { sizeof(uint16_t), 768, 0, 2 } },
+                           rules[2] = { { sizeof(uint16_t), 2560, 0, 8 } }, texts[2] = { { sizeof(uint8_t), 29120, 0, 1 } },
                            grids[2] = { { sizeof(uint16_t), 504, 7, 12 }, { sizeof(uint16_t), 768, 8, 2 } };
 
 /* The name; the letters of its arguments (arguments.h); the letters of its places: c a u8, h a u16, w a u32, z a size_t, f a double, o a u16 that is 1 where the
-   places behind it are written and 0 where they stay; its buffers; the refusals that document 01 allows; one in how many calls is tame; the call. */
+   places behind it are written and 0 where they stay, l a size_t that refusal 12 alone writes; its buffers; the refusals that docs/RULES.md allows; one in how many
+   calls is tame; the call. */
 #define FUNCTIONS(f) \
     f(panel_date_new, "ymd", "hhh", no_buffer, "3", 2, (N(0), N(1), N(2), H(0), H(1), H(2))) \
     f(panel_date_day_number, "ymd", "w", no_buffer, "3", 2, (N(0), N(1), N(2), W(0))) \
@@ -76,6 +79,8 @@ static const struct buffer no_buffer[2], starts[2] = { { sizeof(double), 40, 0, 
     f(panel_minutes_of, "r", "h", no_buffer, "", 2, (X(0), H(0))) \
     f(panel_reading, "ymd", "hhhh", no_buffer, "3", 10, (N(0), N(1), N(2), H(0), H(1), H(2), H(3))) \
     f(panel_check_rules, "R", "", no_buffer, "2", 4, (S(0))) \
+    f(panel_read_rules, "xB", "zl", rules, "12 2 9", 4, (S(0), HB(0), Z(0), Z(1))) \
+    f(panel_write_rules, "RB", "z", texts, "2 9", 4, (S(0), CB(0), Z(0))) \
     f(panel_festivals_on, "TRYMDB", "z", lists, "1 2 4 5 6 9", 200, (TABLE, S(1), N(4), N(5), N(6), HB(0), Z(0))) \
     f(panel_festivals_on_ad, "TRgB", "z", lists, "1 2 3 7 9", 200, (TABLE, S(1), N(4), N(5), N(6), HB(0), Z(0))) \
     f(panel_step_month, "TYbs", "hc", no_buffer, "1 10", 4, (TABLE, N(4), (uint8_t)a.number[5], a.step, H(0), C(1))) \
@@ -101,6 +106,8 @@ struct function {
     f(broken_rest, "kB", "z", starts, "8 9", 2, (FB(0), Z(0))) \
     f(broken_quiet, "kB", "z", starts, "8 9", 2, (FB(0))) \
     f(broken_payload, "kB", "z", starts, "8 9", 2, (FB(0))) \
+    f(broken_line, "x", "l", no_buffer, "12 2 9", 2, (Z(0))) \
+    f(broken_told, "x", "l", no_buffer, "12 2 9", 2, (Z(0))) \
     f(broken_sign, "i", "f", no_buffer, "8", 2, (F(0))) \
     f(broken_read, "TYM", "h", no_buffer, "1 4 5", 2, (S(0), H(0))) \
     f(broken_write, "TYM", "h", no_buffer, "1 4 5", 2, (S(0), H(0)))
@@ -173,6 +180,20 @@ static uint16_t broken_payload(double *out, size_t len)
     return 9;
 }
 
+/* refuses with another number than 12, and writes a line */
+static uint16_t broken_line(size_t *line)
+{
+    *line = 1;
+    return 2;
+}
+
+/* refuses with 12, and writes no line */
+static uint16_t broken_told(size_t *line)
+{
+    (void)line;
+    return 12;
+}
+
 /* refuses, and turns the sign of a NaN */
 static uint16_t broken_sign(double *out)
 {
@@ -222,7 +243,7 @@ static void fault(int number)
 
 static size_t width_of(char place)
 {
-    return place == 'c' ? sizeof(uint8_t) : place == 'w' ? sizeof(uint32_t) : place == 'z' ? sizeof(size_t) : place == 'f' ? sizeof(double) : sizeof(uint16_t);
+    return place == 'c' ? sizeof(uint8_t) : place == 'w' ? sizeof(uint32_t) : strchr("zl", place) ? sizeof(size_t) : place == 'f' ? sizeof(double) : sizeof(uint16_t);
 }
 
 static unsigned long made; /* calls in all */
@@ -256,6 +277,12 @@ static int is_found(uint16_t code)
     return code == 0 && !(function->places[0] == 'o' && *H(0) == 0);
 }
 
+/* Whether a place is written: a line's with 12 alone, the one that says whether there is something with each answer, any other where there is. */
+static int is_written(size_t i, uint16_t code)
+{
+    return function->places[i] == 'l' ? code == 12 : function->places[i] == 'o' ? code == 0 : is_found(code);
+}
+
 /* The bytes that an answer has written to a buffer. */
 static size_t written(size_t i)
 {
@@ -266,10 +293,8 @@ static size_t written(size_t i)
 static void check(uint16_t code)
 {
     if (code != 0 && !allowed(code)) failed("refuses with a number that is not allowed");
-    for (size_t i = 0; function->places[i]; i++) {
-        int stays = i == 0 && function->places[0] == 'o' ? code != 0 : !is_found(code);
-        if (!untouched(&places[i], stays ? 0 : places[i].bytes)) failed("changes a place that it must leave");
-    }
+    for (size_t i = 0; function->places[i]; i++)
+        if (!untouched(&places[i], is_written(i, code) ? places[i].bytes : 0)) failed("changes a place that it must leave");
     if (code == 0 && function->places[0] == 'o' && *H(0) > 1) failed("finds neither 0 nor 1");
     for (size_t i = 0; i < 2 && function->buffers[i].width > 0; i++) {
         if (code == 0 && written(i) > buffers[i].bytes) failed("answers more than there is room for");
@@ -277,11 +302,15 @@ static void check(uint16_t code)
     }
 }
 
-/* What an answer has written, all places and buffers one after the other. */
+/* What an answer or a refusal has written, all places and buffers one after the other. */
 static size_t kept(uint16_t code, unsigned char *to)
 {
     unsigned char *at = to;
-    for (size_t i = 0; is_found(code) && function->places[i]; at += places[i].bytes, i++) memcpy(at, places[i].at, places[i].bytes);
+    for (size_t i = 0; function->places[i]; i++)
+        if (is_written(i, code)) {
+            memcpy(at, places[i].at, places[i].bytes);
+            at += places[i].bytes;
+        }
     for (size_t i = 0; code == 0 && i < 2 && function->buffers[i].width > 0; at += written(i), i++) memcpy(at, buffers[i].at, written(i));
     return (size_t)(at - to);
 }

@@ -10,14 +10,17 @@ use lib.ListN.{length}
 use Rattle.paper.specs.declared.Refusal.{Refusal}
 use Rattle.paper.specs.declared.Refusal.the-variants as R
 use Rattle.paper.specs.Answers.{Answer, answered, refused}
-use Rattle.paper.specs.Refusals.{number}
+use Rattle.paper.specs.Refusals.{number, line}
 use Rattle.sky.specs.Answers.{startsAnswer, startsBuffer}
 use Rattle.rules.specs.Festivals.{Pair, Listed, listed}
 use Rattle.grid.specs.Month.{Grid, Shown, shown}
+use Rattle.rulefile.specs.Files.{readInto, writeInto}
+use Rattle.rulefile.proofs.Theorems.{rule-files}
+use Rattle.steady.specs.Once.{OneOutcome}
 use Rattle.steady.proofs.Refusals.{list-left, month-left, starts-left}
-use Rattle.panel.specs.Boundary.{code, gives, givesSome, givesList, givesMonth, MonthPlaces, monthNumbers}
+use Rattle.panel.specs.Boundary.{code, gives, givesSome, givesList, givesMonth, lineIn, givesLine, givesRead, givesWritten, MonthPlaces, monthNumbers}
 use Rattle.panel.specs.Lent.{MonthState}
-use Rattle.panel.specs.Claims.{Crosses}
+use Rattle.panel.specs.Claims.{Crosses, CrossesWithLine}
 use Rattle.panel.proofs.Handing.{both}
 
 -- no refusal has the number 0
@@ -33,6 +36,7 @@ number-not-zero R.OutOfRange h = omega arith
 number-not-zero R.NoRoom h = omega arith
 number-not-zero R.OffTable h = omega arith
 number-not-zero R.NotEnded h = omega arith
+number-not-zero (R.OutOfForm j) h = omega arith
 
 -- what has the number 0 is answered
 pub zero-answered : {A : Type 0} (a : Answer A) → code a ≡ 0 → (x : A) × (a ≡ answered x)
@@ -64,26 +68,37 @@ some-left (refused k) parts old h = refl
 abbrev pub Told : Type 0 → Type 0
 Told B = ℕ × B
 
--- a day's list, a month
+-- a day's list, a month, a rule file written and one read
 abbrev pub toldList : Listed → ℕ → Told (ℕ × List ℕ)
 toldList l old = let g = givesList l old in (g .0 .0, (g .0 .1, g .1))
 
 abbrev pub toldMonth : Shown → MonthPlaces → Told MonthState
 toldMonth m old = let g = givesMonth m old in (g .0 .0, (g .0 .1, g .1))
 
+abbrev pub toldWritten : Answer ℕ × List ℕ → ℕ → Told (ℕ × List ℕ)
+toldWritten w old = let g = givesWritten w old in (g .0 .0, (g .0 .1, g .1))
+
+abbrev pub toldRead : Answer ℕ × List ℕ → ℕ × ℕ → Told ((ℕ × ℕ) × List ℕ)
+toldRead w old = let g = givesRead w old in (g .0 .0, (g .0 .1, g .1))
+
 -- an equation on the number and the places, beside the buffers, is one on the number and all of these
 pub beside : {P X : Type 0} {x : ℕ} {u : P} {b : X} {d : (ℕ × P) × X} → _≡_ {A = (ℕ × P) × X} ((x, u), b) d → _≡_ {A = ℕ × (P × X)} (x, (u, b)) (d .0 .0, (d .0 .1, d .1))
 beside {P} {X} e = ap (λ (z : (ℕ × P) × X). (z .0 .0, (z .0 .1, z .1))) e
 
+module _ {K : Type 0} {A S : K → Type 0} {B : Type 0} {C : (k : K) → A k → ℕ → S k → Type 0} {after : (k : K) → S k → B} where
+  -- a contract that is an equation of the number and all that was lent with what a definition tells leaves one outcome
+  one-outcome : (told : (k : K) → A k → Told B) → ((k : K) (a : A k) (x : ℕ) (s : S k) → C k a x s → _≡_ {A = Told B} (x, after k s) (told k a)) → OneOutcome C after
+  one-outcome told e k a x y s t p q =
+      let d : _≡_ {A = Told B} (x, after k s) (y, after k t) = e k a x s p ∙ sym (e k a y t q) in
+      (ap (λ (z : Told B). z .0) d, ap (λ (z : Told B). z .1) d)
+
 module _ {K : Type 0} {A S : K → Type 0} {B : Type 0} {C : (k : K) → A k → ℕ → S k → Type 0} {before : (k : K) → A k → B} {after : (k : K) → S k → B} where
-  -- THE LAW: a contract that is an equation of the number and all that was lent with what a definition tells
+  -- THE LAW: such a contract, whose definition leaves what was lent where its number is not 0
   crosses : (told : (k : K) → A k → Told B) → ((k : K) (a : A k) (x : ℕ) (s : S k) → C k a x s → _≡_ {A = Told B} (x, after k s) (told k a))
       → ((k : K) (a : A k) → (told k a .0 ≡ 0 → ⊥) → told k a .1 ≡ before k a) → Crosses C before after
   crosses told e h =
       record {
-        once = λ k a x y s t p q.
-            let d : _≡_ {A = Told B} (x, after k s) (y, after k t) = e k a x s p ∙ sym (e k a y t q) in
-            (ap (λ (z : Told B). z .0) d, ap (λ (z : Told B). z .1) d);
+        once = one-outcome told e;
         left = λ k a x s p n.
             let d = e k a x s p in
             ap (λ (z : Told B). z .1) d ∙ h k a (λ z. n (ap (λ (z : Told B). z .0) d ∙ z));
@@ -131,6 +146,44 @@ starts-leaves n from to old h =
     let r = other-refused a (λ z. h (gives-code a (λ x. x) (old .0) ∙ z)) in
     both (gives-left a (λ x. x) (old .0) h) (starts-left n from to (old .1) (r .0) (r .1))
 
+-- the count and the buffer of a rule file that is written
+written-leaves : (rules : List ℕ) (old : ℕ × List ℕ) → (toldWritten (writeInto rules (old .1)) (old .0) .0 ≡ 0 → ⊥) → toldWritten (writeInto rules (old .1)) (old .0) .1 ≡ old
+written-leaves rules old h =
+    let w = writeInto rules (old .1) in
+    let r = other-refused (w .0) (λ z. h (gives-code (w .0) (λ n. n) (old .0) ∙ z)) in
+    both (gives-left (w .0) (λ n. n) (old .0) h) (rule-files .write-left rules (old .1) (r .0) (r .1))
+
+-- ---- with the place of a line
+
+-- a refusal with another number than 12 tells no line
+no-line : (k : Refusal) (old : ℕ) → (number k ≡ 12 → ⊥) → lineIn (line k) old ≡ old
+no-line R.BadTable old h = refl
+no-line R.BadRules old h = refl
+no-line R.NoSuchDate old h = refl
+no-line R.NoYear old h = refl
+no-line R.NoMonth old h = refl
+no-line R.NoDay old h = refl
+no-line R.Outside old h = refl
+no-line R.OutOfRange old h = refl
+no-line R.NoRoom old h = refl
+no-line R.OffTable old h = refl
+no-line R.NotEnded old h = refl
+no-line (R.OutOfForm j) old h = absurd (h refl)
+
+-- the number that is given beside a line is the answer's
+line-code : (a : Answer ℕ) (old : ℕ × ℕ) → givesLine a old .0 ≡ code a
+line-code (answered n) old = refl
+line-code (refused k) old = refl
+
+-- a number other than 0 leaves the count, a number other than 12 the line
+count-kept : (a : Answer ℕ) (old : ℕ × ℕ) → (givesLine a old .0 ≡ 0 → ⊥) → givesLine a old .1 .0 ≡ old .0
+count-kept (answered n) old h = absurd (h refl)
+count-kept (refused k) old h = refl
+
+line-kept : (a : Answer ℕ) (old : ℕ × ℕ) → (givesLine a old .0 ≡ 12 → ⊥) → givesLine a old .1 .1 ≡ old .1
+line-kept (answered n) old h = refl
+line-kept (refused k) old h = no-line k (old .1) h
+
 module _ {K : Type 0} {A S : K → Type 0} {C : (k : K) → A k → ℕ → S k → Type 0} where
   -- a day's list
   pub by-list : {before : (k : K) → A k → ℕ × List ℕ} {after : (k : K) → S k → ℕ × List ℕ} (answer : (k : K) → A k → Answer (List Pair))
@@ -157,3 +210,34 @@ module _ {K : Type 0} {A S : K → Type 0} {C : (k : K) → A k → ℕ → S k 
       (λ k a. let g = gives (startsAnswer (n k a) (from k a) (to k a) (length (before k a .1))) (λ x. x) (before k a .0) in (g .0, (g .1, startsBuffer (n k a) (from k a) (to k a) (before k a .1))))
       (λ k a x s p. let q = e k a x s p in beside (both (q .1) (q .0)))
       (λ k a. starts-leaves (n k a) (from k a) (to k a) (before k a))
+
+  -- a rule file that is written
+  pub by-written : {before : (k : K) → A k → ℕ × List ℕ} {after : (k : K) → S k → ℕ × List ℕ} (rules : (k : K) → A k → List ℕ)
+      → ((k : K) (a : A k) (x : ℕ) (s : S k) → C k a x s
+      → _≡_ {A = Told ℕ × List ℕ} ((x, after k s .0), after k s .1) (givesWritten (writeInto (rules k a) (before k a .1)) (before k a .0)))
+      → Crosses C before after
+  by-written {before} rules e =
+      crosses (λ k a. toldWritten (writeInto (rules k a) (before k a .1)) (before k a .0)) (λ k a x s p. beside (e k a x s p)) (λ k a. written-leaves (rules k a) (before k a))
+
+  -- a rule file that is read
+  pub by-read : {before : (k : K) → A k → (ℕ × ℕ) × List ℕ} {after : (k : K) → S k → (ℕ × ℕ) × List ℕ} (text : (k : K) → A k → List ℕ)
+      → ((k : K) (a : A k) (x : ℕ) (s : S k) → C k a x s
+      → _≡_ {A = Told (ℕ × ℕ) × List ℕ} ((x, after k s .0), after k s .1) (givesRead (readInto (text k a) (before k a .1)) (before k a .0)))
+      → CrossesWithLine C before after
+  by-read {before} text e =
+      record {
+        once = one-outcome (λ k a. toldRead (readInto (text k a) (before k a .1)) (before k a .0)) (λ k a x s p. beside (e k a x s p));
+        left = λ k a x s p n.
+            let d = e k a x s p in
+            let old = before k a in
+            let w = readInto (text k a) (old .1) in
+            let other : givesLine (w .0) (old .0) .0 ≡ 0 → ⊥ = λ z. n (ap (λ (g : Told (ℕ × ℕ) × List ℕ). g .0 .0) d ∙ z) in
+            let r = other-refused (w .0) (λ z. other (line-code (w .0) (old .0) ∙ z)) in (
+              ap (λ (g : Told (ℕ × ℕ) × List ℕ). g .0 .1 .0) d ∙ count-kept (w .0) (old .0) other,
+              ap (λ (g : Told (ℕ × ℕ) × List ℕ). g .1) d ∙ rule-files .read-left (text k a) (old .1) (r .0) (r .1),
+            );
+        line-left = λ k a x s p n.
+            let d = e k a x s p in
+            let old = before k a in
+            ap (λ (g : Told (ℕ × ℕ) × List ℕ). g .0 .1 .1) d ∙ line-kept (readInto (text k a) (old .1) .0) (old .0) (λ z. n (ap (λ (g : Told (ℕ × ℕ) × List ℕ). g .0 .0) d ∙ z));
+      }

@@ -1,5 +1,6 @@
 -- NO SECOND ANSWER, AND A REFUSAL LEAVES WHAT WAS LENT, for each C function: two numbers that meet its contract are equal, and so is all that they leave
--- in the lent places and buffers; a number other than 0 leaves these as they were. Three functions are lent nothing to write to. Assumes nothing.
+-- in the lent places and buffers; a number other than 0 leaves these as they were, but that 12 writes the line to its place. Three functions are lent nothing
+-- to write to. Assumes nothing.
 use Prim.Native.Nat.{ℕ}
 use mathlib.Core.Path.{sym, _∙_}
 use mathlib.Core.List.{List}
@@ -20,8 +21,8 @@ use Rattle.grid.specs.Kathmandu.{monthUnder}
 use Rattle.steady.specs.Once.{OneAnswer}
 use Rattle.panel.specs.Boundary.{numbers, bsNumbers, readings, monthOf, lent, kalaBy}
 use Rattle.panel.specs.Lent.{one, two, three, four, span, walked, listed, month}
-use Rattle.panel.specs.Claims.{Crosses}
-use Rattle.panel.proofs.Crossing.{by-gives, by-value, by-some, by-starts, by-list, by-month}
+use Rattle.panel.specs.Claims.{Crosses, CrossesWithLine}
+use Rattle.panel.proofs.Crossing.{by-gives, by-value, by-some, by-starts, by-list, by-month, by-written, by-read}
 use Rattle.panel.proofs.dates.panel_date_new.Reads as DateNew
 use Rattle.panel.proofs.dates.panel_date_day_number.Reads as DayNumber
 use Rattle.panel.proofs.dates.panel_date_weekday.Reads as Weekday
@@ -59,6 +60,8 @@ use Rattle.panel.proofs.almanac.panel_reading.Reads as Reading
 use Rattle.panel.proofs.day_lists.panel_check_rules.Reads as CheckRules
 use Rattle.panel.proofs.day_lists.panel_festivals_on.Reads as FestivalsOn
 use Rattle.panel.proofs.day_lists.panel_festivals_on_ad.Reads as FestivalsOnAd
+use Rattle.panel.proofs.rule_files.panel_read_rules.Reads as ReadRules
+use Rattle.panel.proofs.rule_files.panel_write_rules.Reads as WriteRules
 use Rattle.panel.proofs.months.panel_step_month.Reads as StepMonth
 use Rattle.panel.proofs.months.panel_month_grid.Reads as MonthGrid
 
@@ -191,6 +194,14 @@ festivals-on = by-list (λ k a. let rules = now (a .1 .1 .1 .1 .1 .0) in let x =
 
 pub festivals-on-ad : Crosses FestivalsOnAd.Learnt (λ k a. listed (a .1 .1 .1 .1 .1 .1 .1 .1 .1)) (λ k s. listed (s .1 .1 .1 .1 .1 .1 .1 .1 .1))
 festivals-on-ad = by-list (λ k a. let rules = now (a .1 .1 .1 .1 .1 .0) in let x = a .1 .1 .1 .1 .1 .1 in listOnAd kathmandu (tableIn a) (rulesOf rules) (acceptedRules rules) (x .0) (x .1 .0) (x .1 .1 .0)) (λ k a x s p. p)
+
+-- ---- rule files
+
+pub read-rules : CrossesWithLine ReadRules.Learnt (λ k a. walked (a .1)) (λ k s. walked (s .1))
+read-rules = by-read (λ k a. now (a .0)) (λ k a x s p. p)
+
+pub write-rules : Crosses WriteRules.Learnt (λ k a. listed (a .1)) (λ k s. listed (s .1))
+write-rules = by-written (λ k a. now (a .0)) (λ k a x s p. p)
 
 -- ---- months
 
