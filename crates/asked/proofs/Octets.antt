@@ -7,8 +7,10 @@ use mathlib.Core.Option.{Option, some, none}
 use native.Mathlib.Nat.{add-zero, zero-add}
 use native.Mathlib.Numerals.{add-one}
 use native.Mathlib.Omega.{arith}
-use lib.ListN.{length, getD, drop, set, replicate}
-use lib.Seq.{sets}
+use borrow.Author.Tests.{lt-ltb}
+use lib.ListN.{length, getD, take, drop, set, replicate}
+use lib.Seq.{sets, take-suc, length-sets}
+use Rattle.paper.proofs.Stores.{front-of}
 use Rattle.text.specs.Digits.{Got, got, no, found, past, fixed, digit, worth, isEnd}
 use Rattle.text.specs.Quoted.{bytes}
 use Rattle.text.specs.declared.reading.Cursor.{Cursor}
@@ -18,7 +20,7 @@ use Rattle.text.proofs.Runs.{never, run-fixed}
 use Rattle.text.specs.Written.{Wrote}
 use Rattle.text.proofs.Texts.{cut, over}
 use Rattle.text.proofs.Writes.{then}
-use Rattle.asked.specs.Octets.{led, octets, known, octetsIn, held, octetOf, firstOf, readValue}
+use Rattle.asked.specs.Octets.{led, octets, known, octetsIn, held, octetOf, firstOf, bytesOf, readValue}
 use Rattle.asked.specs.declared.bytes.Octets.{Octets}
 
 -- ---- a byte
@@ -143,3 +145,45 @@ octets-some s t e = rw e
 
 pub first-turn : {l m k : List ℕ} {f a b : ℕ} (x : Octets) (i y : ℕ) → Wrote l f (firstOf x i) m a → y ≡ octetOf x i → Wrote m a (y ∷ []) k b → Wrote l f (firstOf x (i + 1)) k b
 first-turn x i y p e q = rw add-one (then p (rw e at q))
+
+-- ---- what is held is what the line has
+
+first-take : (x : Octets) (n : ℕ) → n ≤ 64 → length (x .bytes) ≡ 64 → firstOf x n ≡ take n (x .bytes)
+first-take x zero h l = refl
+first-take x (suc n) h l =
+    let k : n < 64 = omega arith in
+    let i : n < length (x .bytes) = omega arith in
+    let m : n ≤ 64 = omega arith in
+    rw (take-suc (x .bytes) n 0 i, first-take x n m l, lt-ltb n 64 k)
+
+either-most : (t : Bool) (n : ℕ) (a b : Option (List ℕ)) → length (known a) ≤ n → length (known b) ≤ n → length (known (cond t a b)) ≤ n
+either-most true n a b p q = p
+either-most false n a b p q = q
+
+led-most : (b n : ℕ) (x : Option (List ℕ)) → length (known x) ≤ n → length (known (led b x)) ≤ suc n
+led-most b n (some bs) h = omega arith
+led-most b n none h = omega arith
+
+octets-most : (most : ℕ) (s : List ℕ) → length (known (octets most s)) ≤ most
+unfolding octets
+octets-most zero s = either-most (isEnd s) 0 (some []) none (omega arith) (omega arith)
+octets-most (suc most) s =
+    either-most (isEnd s) (suc most) (some []) (found (fixed 16 2 0 s) (λ b t. led b (octets most t)) none) (omega arith) (at (fixed 16 2 0 s) (octets-most most))
+  where
+    at : (g : Got ℕ) → ((t : List ℕ) → length (known (octets most t)) ≤ most) → length (known (found g (λ b t. led b (octets most t)) none)) ≤ suc most
+    at (got b t) h = led-most b most (octets most t) (h t)
+    at no h = omega arith
+
+line-most : (s : List ℕ) → length (octetsIn s) ≤ 64
+unfolding octetsIn
+line-most s = at (past (bytes "octets ") s)
+  where
+    at : (g : Got (Unit {0})) → length (found g (λ u t. known (octets 64 t)) []) ≤ 64
+    at (got u t) = octets-most 64 t
+    at no = omega arith
+
+pub held-bytes : (s : List ℕ) → bytesOf (held (octetsIn s)) ≡ octetsIn s
+held-bytes s =
+    let bs = octetsIn s in
+    let h = line-most s in
+    first-take (held bs) (length bs) h (length-sets (replicate 64 0) 0 bs) ∙ front-of bs (replicate 64 0) (sets (replicate 64 0) 0 bs) (length bs) refl refl h

@@ -111,7 +111,12 @@ after x w o (L.Numbers n) = record {
   text = x .text;
 }
 after x w o L.Octets = record {
-  lent = record { table = x .lent .table; cells = x .lent .cells; numbers = x .lent .numbers; octets = longer (x .text) (x .lent .octets) (length (bytesOf o)) };
+  lent = record {
+    table = x .lent .table;
+    cells = x .lent .cells;
+    numbers = x .lent .numbers;
+    octets = longer (x .text) (x .lent .octets) (length (bytesOf o));
+  };
   rows = x .rows;
   rules = x .rules;
   text = sets (x .text) (x .lent .octets) (bytesOf o);

@@ -4,7 +4,6 @@ use mathlib.Core.Path.{_≡_, refl, _∙_}
 use native.Mathlib.Omega.{arith}
 use lib.ListN.{length, length-set}
 use Rattle.text.proofs.Said.{number-said, number-unsaid}
-use Rattle.asked.specs.Octets.{held, known, octets}
 use Rattle.asked.proofs.Octets.{Left, left-first, left-over, left-full, left-bad, left-turn, value-small}
 use borrow.Author.Needs.{needs}
 use Rattle.asked.proofs.bytes.read_octets.Statement.{statement}
