@@ -4,19 +4,21 @@ use files::RulesRead;
 use files::TableRead;
 use lending::Lent;
 
-// Reads the rules and answers over them and the table.
+// Reads the rules and answers over them, the table and a text that is empty at first.
 fn over_rules(table: Table, cells: usize, rows: &mut [u16]) {
     let mut rules = [0u16; 2600];
     let mut names = [0u8; 20800];
     let RulesRead::Are(numbers) = files::rules_at(2, &mut rules, &mut names) else {
         return;
     };
+    let mut text = [0u8; 524288];
     let lent = Lent {
         table,
         cells,
         numbers,
+        octets: 0,
     };
-    questions::answer_from(lent, rows, &mut rules);
+    questions::answer_from(lent, rows, &mut rules, &mut text);
 }
 
 // Reads the table, then the rules, and answers; or says what is wrong with the first file that is out of form.

@@ -37,12 +37,12 @@ module _ (s : List ℕ) (i v : ℕ) where
   pub letters-stop : i < length s → letter (getD s i 0) ≡ false → got v (drop i s) ≡ letters v (drop i s)
   letters-stop h d = rw (cut s i h, d)
 
-  pub letters-large : i < length s → letter (getD s i 0) ≡ true → 18446744073709551615 < v * 100 + (getD s i 0 - 96) → no ≡ letters v (drop i s)
-  letters-large h d l = rw (cut s i h, d, lt-leb (v * 100 + (getD s i 0 - 96)) 18446744073709551615 l)
+  pub letters-large : i < length s → letter (getD s i 0) ≡ true → 18446744073709551615 < v * 64 + (getD s i 0 - 96) → no ≡ letters v (drop i s)
+  letters-large h d l = rw (cut s i h, d, lt-leb (v * 64 + (getD s i 0 - 96)) 18446744073709551615 l)
 
-  pub letters-turn : i < length s → letter (getD s i 0) ≡ true → v * 100 + (getD s i 0 - 96) ≤ 18446744073709551615
-      → letters (v * 100 + (getD s i 0 - 96)) (drop (i + 1) s) ≡ letters v (drop i s)
-  letters-turn h d l = rw (cut s i h, d, le-leb (v * 100 + (getD s i 0 - 96)) 18446744073709551615 l)
+  pub letters-turn : i < length s → letter (getD s i 0) ≡ true → v * 64 + (getD s i 0 - 96) ≤ 18446744073709551615
+      → letters (v * 64 + (getD s i 0 - 96)) (drop (i + 1) s) ≡ letters v (drop i s)
+  letters-turn h d l = rw (cut s i h, d, le-leb (v * 64 + (getD s i 0 - 96)) 18446744073709551615 l)
 
 -- ---- a word
 

@@ -1,5 +1,6 @@
 -- What the contracts of `asked` are written in.
 pub mod Line
+pub mod Octets
 pub mod Turns
 pub mod Runs
 pub mod Tags

@@ -22,11 +22,11 @@ use Rattle.asked.specs.declared.words.Words.{Words}
 unfoldable pub letter : ℕ → Bool
 letter b = leb 97 b && leb b 122
 
--- all letters that follow, two decimal digits for each (01 for a), with the code v before them, as long as a u64 holds it
+-- all letters that follow, two octal digits for each (01 for a), with the code v before them, as long as a u64 holds it
 abbrev pub letters : ℕ → List ℕ → Got ℕ
 letters v [] = got v []
 letters v (b ∷ s) =
-    cond (letter b) (cond (leb (v * 100 + (b - 96)) 18446744073709551615) (letters (v * 100 + (b - 96)) s) no) (got v (b ∷ s))
+    cond (letter b) (cond (leb (v * 64 + (b - 96)) 18446744073709551615) (letters (v * 64 + (b - 96)) s) no) (got v (b ∷ s))
 
 -- ---- a word
 

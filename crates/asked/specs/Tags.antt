@@ -1,4 +1,4 @@
--- The tags of the line language: two decimal digits for each letter, 01 for a to 26 for z. Assumes nothing.
+-- The tags of the line language: two octal digits for each letter, 01 for a to 32 for z. Assumes nothing.
 use Prim.Native.Nat.{ℕ, _+_, _-_, _*_}
 use Prim.Native.String.{String}
 use mathlib.Core.List.{List, [], _∷_}
@@ -7,7 +7,7 @@ use Rattle.text.specs.Quoted.{bytes}
 -- the letters that follow a code
 abbrev pub coded : ℕ → List ℕ → ℕ
 coded v [] = v
-coded v (b ∷ s) = coded (v * 100 + (b - 96)) s
+coded v (b ∷ s) = coded (v * 64 + (b - 96)) s
 
 abbrev pub tag : String → ℕ
 tag letters = coded 0 (bytes letters)
@@ -24,11 +24,20 @@ RULES = tag "rules"
 abbrev pub RULE : ℕ
 RULE = tag "rule"
 
+abbrev pub TEXT : ℕ
+TEXT = tag "text"
+
 abbrev pub CHECK : ℕ
 CHECK = tag "check"
 
 abbrev pub CHECKRULES : ℕ
 CHECKRULES = tag "checkrules"
+
+abbrev pub READRULES : ℕ
+READRULES = tag "readrules"
+
+abbrev pub WRITERULES : ℕ
+WRITERULES = tag "writerules"
 
 abbrev pub BS : ℕ
 BS = tag "bs"

@@ -1,80 +1,86 @@
-// The tags of the line language: two decimal digits for each letter, 01 for a to 26 for z.
-pub const TABLE: u64 = 20_01_02_12_05;
+// The tags of the line language: two octal digits for each letter, 01 for a to 32 for z.
+pub const TABLE: u64 = 0o24_01_02_14_05;
 
-pub const CELLS: u64 = 3_05_12_12_19;
+pub const CELLS: u64 = 0o03_05_14_14_23;
 
-pub const RULES: u64 = 18_21_12_05_19;
+pub const RULES: u64 = 0o22_25_14_05_23;
 
-pub const RULE: u64 = 18_21_12_05;
+pub const RULE: u64 = 0o22_25_14_05;
 
-pub const CHECK: u64 = 3_08_05_03_11;
+pub const TEXT: u64 = 0o24_05_30_24;
 
-pub const CHECKRULES: u64 = 3_08_05_03_11_18_21_12_05_19;
+pub const CHECK: u64 = 0o03_10_05_03_13;
 
-pub const BS: u64 = 2_19;
+pub const CHECKRULES: u64 = 0o03_10_05_03_13_22_25_14_05_23;
 
-pub const AD: u64 = 1_04;
+pub const READRULES: u64 = 0o22_05_01_04_22_25_14_05_23;
 
-pub const LEN: u64 = 12_05_14;
+pub const WRITERULES: u64 = 0o27_22_11_24_05_22_25_14_05_23;
 
-pub const VALID: u64 = 22_01_12_09_04;
+pub const BS: u64 = 0o02_23;
 
-pub const STEP: u64 = 19_20_05_16;
+pub const AD: u64 = 0o01_04;
 
-pub const DAY: u64 = 4_01_25;
+pub const LEN: u64 = 0o14_05_16;
 
-pub const DATE: u64 = 4_01_20_05;
+pub const VALID: u64 = 0o26_01_14_11_04;
 
-pub const JD: u64 = 10_04;
+pub const STEP: u64 = 0o23_24_05_20;
 
-pub const DELTAT: u64 = 4_05_12_20_01_20;
+pub const DAY: u64 = 0o04_01_31;
 
-pub const TT: u64 = 20_20;
+pub const DATE: u64 = 0o04_01_24_05;
 
-pub const SUN: u64 = 19_21_14;
+pub const JD: u64 = 0o12_04;
 
-pub const MOON: u64 = 13_15_15_14;
+pub const DELTAT: u64 = 0o04_05_14_24_01_24;
 
-pub const ELONG: u64 = 5_12_15_14_07;
+pub const TT: u64 = 0o24_24;
 
-pub const TITHI: u64 = 20_09_20_08_09;
+pub const SUN: u64 = 0o23_25_16;
 
-pub const TITHIOF: u64 = 20_09_20_08_09_15_06;
+pub const MOON: u64 = 0o15_17_17_16;
 
-pub const STARTS: u64 = 19_20_01_18_20_19;
+pub const ELONG: u64 = 0o05_14_17_16_07;
 
-pub const END: u64 = 5_14_04;
+pub const TITHI: u64 = 0o24_11_24_10_11;
 
-pub const EVENTS: u64 = 5_22_05_14_20_19;
+pub const TITHIOF: u64 = 0o24_11_24_10_11_17_06;
 
-pub const RISE: u64 = 18_09_19_05;
+pub const STARTS: u64 = 0o23_24_01_22_24_23;
 
-pub const SET: u64 = 19_05_20;
+pub const END: u64 = 0o05_16_04;
 
-pub const KALA: u64 = 11_01_12_01;
+pub const EVENTS: u64 = 0o05_26_05_16_24_23;
 
-pub const NISHITA: u64 = 14_09_19_08_09_20_01;
+pub const RISE: u64 = 0o22_11_23_05;
 
-pub const NPT: u64 = 14_16_20;
+pub const SET: u64 = 0o23_05_24;
 
-pub const CLOCK: u64 = 3_12_15_03_11;
+pub const KALA: u64 = 0o13_01_14_01;
 
-pub const MINUTES: u64 = 13_09_14_21_20_05_19;
+pub const NISHITA: u64 = 0o16_11_23_10_11_24_01;
 
-pub const READ: u64 = 18_05_01_04;
+pub const NPT: u64 = 0o16_20_24;
 
-pub const LISTBS: u64 = 12_09_19_20_02_19;
+pub const CLOCK: u64 = 0o03_14_17_03_13;
 
-pub const LISTAD: u64 = 12_09_19_20_01_04;
+pub const MINUTES: u64 = 0o15_11_16_25_24_05_23;
 
-pub const GRID: u64 = 7_18_09_04;
+pub const READ: u64 = 0o22_05_01_04;
 
-pub const SIN: u64 = 19_09_14;
+pub const LISTBS: u64 = 0o14_11_23_24_02_23;
 
-pub const COS: u64 = 3_15_19;
+pub const LISTAD: u64 = 0o14_11_23_24_01_04;
 
-pub const ASIN: u64 = 1_19_09_14;
+pub const GRID: u64 = 0o07_22_11_04;
 
-pub const ACOS: u64 = 1_03_15_19;
+pub const SIN: u64 = 0o23_11_16;
 
-pub const TAN: u64 = 20_01_14;
+pub const COS: u64 = 0o03_17_23;
+
+pub const ASIN: u64 = 0o01_23_11_16;
+
+pub const ACOS: u64 = 0o01_03_17_23;
+
+pub const TAN: u64 = 0o24_01_16;

@@ -49,10 +49,10 @@ fn read_tag(s: &[u8]) -> Read
             return Read::Number(v, Cursor { at: i });
         }
         let d = (b - 96) as u64;
-        if (18446744073709551615 - d) / 100 < v {
+        if (18446744073709551615 - d) / 64 < v {
             return Read::NotOne;
         }
-        v = v * 100 + d;
+        v = v * 64 + d;
         i += 1;
     }
     Read::Number(v, Cursor { at: i })

@@ -5,11 +5,11 @@ use mathlib.Core.Bool.{Bool, true, false, cond}
 use mathlib.Core.List.{List, [], _∷_}
 use native.Mathlib.Numerals.{add-one}
 use native.Mathlib.Omega.{arith}
-use lib.Dec.{eqb}
+use lib.Dec.{eqb, ltb}
 use lib.ListN.{length, length-append}
 use Rattle.text.specs.Written.{Wrote}
 use Rattle.text.proofs.Writes.{then}
-use Rattle.asked.specs.Tags.{TABLE, CELLS, RULES, RULE}
+use Rattle.asked.specs.Tags.{TABLE, CELLS, RULES, RULE, TEXT}
 use Rattle.asked.specs.declared.words.Words.{Words}
 use Rattle.asked.specs.Line.{small}
 use Rattle.lending.specs.declared.Lending.{Lending}
@@ -38,6 +38,8 @@ howMany L.Table = 0
 howMany L.Rules = 0
 howMany (L.Cells n) = n
 howMany (L.Numbers n) = n
+howMany L.Text = 0
+howMany L.Octets = 0
 howMany L.Not = 0
 
 -- at most so many
@@ -45,13 +47,15 @@ pub record Few (l : Lending) : Type 0 where
   pub most : howMany l ≤ 13
 
 -- no line lends more than thirteen
-pub few : (tag form : ℕ) → Few (lendingOf tag form)
+pub few : (tag form bytes : ℕ) → Few (lendingOf tag form bytes)
 unfolding lendingOf
-few tag form =
-    either (eqb tag TABLE) (either (eqb form (ones 4)) (record { most = omega arith }) (record { most = omega arith }))
+few tag form bytes =
+    either (ltb 0 bytes) (record { most = omega arith })
+    (either (eqb tag TABLE) (either (eqb form (ones 4)) (record { most = omega arith }) (record { most = omega arith }))
     (either (eqb tag CELLS) (record { most = numbers-most form 13 })
     (either (eqb tag RULES) (either (eqb form 0) (record { most = omega arith }) (record { most = omega arith }))
-    (either (eqb tag RULE) (record { most = omega (arith, numbers-most form 8) }) (record { most = omega arith }))))
+    (either (eqb tag RULE) (record { most = omega (arith, numbers-most form 8) })
+    (either (eqb tag TEXT) (either (eqb form 0) (record { most = omega arith }) (record { most = omega arith })) (record { most = omega arith }))))))
   where
     either : (t : Bool) {a b : Lending} → Few a → Few b → Few (cond t a b)
     either true p q = p

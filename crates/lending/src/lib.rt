@@ -1,26 +1,31 @@
-// What lines lend: `table` begins a table and `cells` adds numbers to it, `rules` begins a rule list and `rule` adds numbers to it.
+// What lines lend: `table` begins a table and `cells` adds numbers to it, `rules` begins a rule list and `rule` adds numbers to it, `text` begins a text and
+// `octets` adds bytes to it.
 ghost use mathlib.Core.Path.{_≡_};
 ghost use Prim.Native.Nat.{_≤_};
 ghost use mathlib.Core.List.{[], _∷_};
 ghost use Rattle.text.specs.Written.{Wrote};
-ghost use Rattle.lending.specs.Lending.{numbersIn, lendingOf, lends, numbersOf, tableIn, noLoan, loanAfter};
+ghost use Rattle.lending.specs.Lending.{numbersIn, lendingOf, lends, numbersOf, tableIn, noLoan, loanOf, loanAfter};
+use asked::Octets;
 use asked::Words;
 use asked::tags;
 use conversion::Table;
 
-// A table, how many numbers its rows have, and how many the rule list has.
+// A table, how many numbers its rows have, how many the rule list has, and how many bytes the text has.
 pub struct Lent {
     pub table: Table,
     pub cells: usize,
     pub numbers: usize,
+    pub octets: usize,
 }
 
-// What a line lends: a new table, a new rule list, so many cells more, so many numbers of rules more, or nothing.
+// What a line lends: a new table, a new rule list, a new text, so many cells more, so many numbers of rules more, bytes of the text more, or nothing.
 pub enum Lending {
     Table,
     Rules,
+    Text,
     Cells(usize),
     Numbers(usize),
+    Octets,
     Not,
 }
 
@@ -37,6 +42,7 @@ pub fn nothing() -> Lent
         },
         cells: 0,
         numbers: 0,
+        octets: 0,
     }
 }
 
@@ -57,10 +63,13 @@ fn count_of(form: u64, most: usize) -> usize
     0
 }
 
-// What a line of this tag and form lends.
-fn lending_of(tag: u64, form: u64) -> Lending
-    ensures { λ r. ⌜ r ≡ lendingOf tag form ⌝ }
+// What a line of this tag and form, and of so many bytes, lends.
+fn lending_of(tag: u64, form: u64, bytes: usize) -> Lending
+    ensures { λ r. ⌜ r ≡ lendingOf tag form «bytes» ⌝ }
 {
+    if 0 < bytes {
+        return Lending::Octets;
+    }
     if tag == tags::TABLE {
         if form == 1111 {
             return Lending::Table;
@@ -79,18 +88,25 @@ fn lending_of(tag: u64, form: u64) -> Lending
     if tag == tags::RULE {
         return Lending::Numbers(count_of(form, 8));
     }
+    if tag == tags::TEXT {
+        if form == 0 {
+            return Lending::Text;
+        }
+    }
     Lending::Not
 }
 
 // Whether a line lends, and so answers nothing.
-pub fn is_lending(w: Words) -> bool
-    ensures { λ r. ⌜ r ≡ lends (lendingOf (w .tag) (w .form)) ⌝ }
+pub fn is_lending(w: Words, x: Octets) -> bool
+    ensures { λ r. ⌜ r ≡ lends (lendingOf (w .tag) (w .form) (x .count)) ⌝ }
 {
-    match lending_of(w.tag, w.form) {
+    match lending_of(w.tag, w.form, x.count) {
         Lending::Table => true,
         Lending::Rules => true,
+        Lending::Text => true,
         Lending::Cells(n) => 0 < n,
         Lending::Numbers(n) => 0 < n,
+        Lending::Octets => true,
         Lending::Not => false,
     }
 }
@@ -132,35 +148,58 @@ fn table_in(w: Words) -> Table
     }
 }
 
-// What is lent after a line.
-pub fn lend(lent: Lent, rows: &mut [u16], rules: &mut [u16], w: Words) -> Lent
-    ensures lent { λ r. ⌜ r ≡ loanAfter lent (now (rows .entry)) (now (rules .entry)) w .lent ⌝ }
-    ensures rows { λ _. ⌜ now (rows .exit) ≡ loanAfter lent (now (rows .entry)) (now (rules .entry)) w .rows ⌝ }
-    ensures rules { λ _. ⌜ now (rules .exit) ≡ loanAfter lent (now (rows .entry)) (now (rules .entry)) w .rules ⌝ }
+// What is lent after a line of these words or bytes.
+pub fn lend(
+    lent: Lent,
+    rows: &mut [u16],
+    rules: &mut [u16],
+    text: &mut [u8],
+    w: Words,
+    x: Octets,
+) -> Lent
+    ensures { λ r. ⌜ loanOf r (now (rows .exit)) (now (rules .exit)) (now (text .exit)) ≡ loanAfter (loanOf lent (now (rows .entry)) (now (rules .entry))
+        (now (text .entry))) w x ⌝ }
 {
     let table = lent.table;
     let cells = lent.cells;
     let numbers = lent.numbers;
-    match lending_of(w.tag, w.form) {
+    let octets = lent.octets;
+    match lending_of(w.tag, w.form, x.count) {
         Lending::Table => Lent {
             table: table_in(w),
             cells: 0,
             numbers,
+            octets,
         },
         Lending::Rules => Lent {
             table,
             cells,
             numbers: 0,
+            octets,
+        },
+        Lending::Text => Lent {
+            table,
+            cells,
+            numbers,
+            octets: 0,
         },
         Lending::Cells(n) => Lent {
             table,
             cells: append(rows, cells, w, n),
             numbers,
+            octets,
         },
         Lending::Numbers(n) => Lent {
             table,
             cells,
             numbers: append(rules, numbers, w, n),
+            octets,
+        },
+        Lending::Octets => Lent {
+            table,
+            cells,
+            numbers,
+            octets: x.put(text, octets),
         },
         Lending::Not => lent,
     }

@@ -10,7 +10,7 @@ use lib.Seq.{drop-cons}
 use Rattle.text.specs.Quoted.{bytes}
 use Rattle.text.specs.Written.{Wrote}
 use Rattle.text.proofs.Writes as texts
-use Rattle.output.specs.Gathered.{Gathered, gathered, room, stored, spaceOf, put, puts, ended, Gathers}
+use Rattle.output.specs.Gathered.{Gathered, gathered, room, stored, spaceOf, joins, put, puts, ended, Joined, Gathers}
 use Rattle.output.specs.declared.Out.{Out}
 
 -- words, and then others
@@ -40,9 +40,17 @@ pub room-front : (more : ℕ) (l : List ℕ) (at : ℕ) → length l < at + more
 unfolding room
 room-front more l at h = rw (lt-leb (at + more) (length l) h)
 
--- a space where one is due, and then a text, is one word more
-pub one-word : {l : List ℕ} {o : Out} {k : ℕ} {j : List ℕ} {text m : List ℕ} {r : Out} → Wrote l (room 32 l (o .at)) (spaceOf (o .begun)) j k → Wrote j k text m (r .at) → r .begun ≡ true → Gathers l o (text ∷ []) m r
-one-word {l} {o} {k} {j} {text} {m} {r} s w e = record { same = rw e (stored-there 32 l o (spaceOf (o .begun) ++ text) m (r .at) true (texts.then s w)) }
+-- a space where one is due, and then a text of at most thirty bytes, is one word more
+pub one-word : {l : List ℕ} {o : Out} {k : ℕ} {j : List ℕ} {text m : List ℕ} {r : Out} → length text ≤ 30 → Wrote l (room 32 l (o .at)) (spaceOf (o .begun)) j k → Wrote j k text m (r .at) → r .begun ≡ true → Gathers l o (text ∷ []) m r
+unfolding put
+one-word {l} {o} {k} {j} {text} {m} {r} h s w e = record { same = rw (e, le-leb (length text) 30 h) (stored-there 32 l o (spaceOf (o .begun) ++ text) m (r .at) true (texts.then s w)) }
+
+-- and so are a longer text's bytes, joined to the space
+pub long-word : {l : List ℕ} {o p : Out} {j : List ℕ} {text m : List ℕ} {r : Out} → 30 < length text → Wrote l (room 32 l (o .at)) (spaceOf (o .begun)) j (p .at) → p .begun ≡ true → Joined j p text m r → Gathers l o (text ∷ []) m r
+unfolding put
+long-word {l} {o} {p} {j} {text} {m} {r} h s e w =
+    let g : gathered j p ≡ stored 32 (gathered l o) (spaceOf (o .begun)) true = rw e (stored-there 32 l o (spaceOf (o .begun)) j (p .at) true s) in
+    record { same = rw (lt-leb (length text) 30 h) (w .same ∙ ap (λ (x : Gathered). joins x text) g) }
 
 -- the end of a line that has a word, and of one that has none
 pub ends : {l : List ℕ} {at : ℕ} {m : List ℕ} (o : Out) → o .begun ≡ true → Wrote l (room 32 l (o .at)) (bytes "\n") m at → record { buffer = m; at = at; begun = false } ≡ ended (gathered l o)

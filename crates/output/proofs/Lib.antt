@@ -1,3 +1,4 @@
 pub mod Gathering
+pub mod Joins
 pub mod Numbers
 pub mod Pieces

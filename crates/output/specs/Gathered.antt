@@ -32,9 +32,16 @@ stored more g text begun =
 abbrev pub spaceOf : Bool → List ℕ
 spaceOf begun = cond begun (bytes " ") []
 
--- a word more, and the space before it: no word takes more than 32 bytes with it
-abbrev pub put : Gathered → List ℕ → Gathered
-put g word = stored 32 g (spaceOf (g .begun) ++ word) true
+-- bytes more of a word, each stored by itself
+abbrev pub joins : Gathered → List ℕ → Gathered
+joins g [] = g
+joins g (b ∷ bs) = joins (stored 32 g (b ∷ []) true) bs
+
+-- a word more, and the space before it: in one piece where it takes at most 31 bytes with the space, else byte by byte behind the space
+unfoldable pub put : Gathered → List ℕ → Gathered
+put g word =
+    cond (leb (length word) 30) (stored 32 g (spaceOf (g .begun) ++ word) true)
+    (joins (stored 32 g (spaceOf (g .begun)) true) word)
 
 -- words, the first first
 abbrev pub puts : Gathered → List (List ℕ) → Gathered
@@ -48,6 +55,10 @@ ended g = cond (g .begun) (stored 32 g (bytes "\n") false) g
 -- all that is gathered is written out
 abbrev pub writtenOut : Gathered → Gathered
 writtenOut g = record { buffer = g .buffer; at = 0; begun = g .begun }
+
+-- these bytes were joined to the word before them
+pub record Joined (before : List ℕ) (o : Out) (text after : List ℕ) (r : Out) : Type 0 where
+  pub same : gathered after r ≡ joins (gathered before o) text
 
 -- these words were put behind what was gathered
 pub record Gathers (before : List ℕ) (o : Out) (words : List (List ℕ)) (after : List ℕ) (r : Out) : Type 0 where

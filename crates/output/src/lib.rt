@@ -1,7 +1,7 @@
 // What a program writes: lines of words, and pages of texts, numbers and dates. It is gathered in a lent buffer, which is written to standard output
 // when it is nearly full.
 ghost use mathlib.Core.Path.{_≡_};
-ghost use mathlib.Core.Bool.{false};
+ghost use mathlib.Core.Bool.{true, false};
 ghost use mathlib.Core.List.{[], _∷_};
 ghost use Prim.Native.Nat.{_+_, _≤_};
 ghost use lib.ListN.{length};
@@ -9,9 +9,11 @@ ghost use Rattle.text.specs.Digits.{digits};
 ghost use Rattle.text.specs.Written.{Wrote};
 ghost use Rattle.output.specs.Floats.{floatText};
 ghost use Rattle.output.specs.Gathered as Gathered;
-ghost use Rattle.output.specs.Gathered.{Gathers, gathered, ended, spaceOf};
+ghost use Rattle.output.specs.Gathered.{Gathers, Joined, gathered, ended, spaceOf};
+ghost use Rattle.output.specs.Octets.{octetsText};
 
 mod floats;
+mod octets;
 mod page;
 
 use libc::STDERR_FILENO;
@@ -112,6 +114,7 @@ impl Out {
     fn space(self, buffer: &mut [u8]) -> Out
         ensures { λ r. ⌜ Wrote (now (buffer .entry)) (Gathered.room 32 (now (buffer .entry)) (self .at)) (spaceOf (self .begun))
             (now (buffer .exit)) (r .at) ⌝ }
+        ensures { λ r. ⌜ r .begun ≡ true ⌝ }
     {
         let o = self.room(buffer, 32);
         Out {
@@ -121,13 +124,72 @@ impl Out {
         }
     }
 
-    // A word of at most thirty bytes.
+    // A byte more of a word.
+    fn join(self, buffer: &mut [u8], b: u8) -> Out
+        ensures { λ r. ⌜ Joined (now (buffer .entry)) self (b ∷ []) (now (buffer .exit)) r ⌝ }
+    {
+        let o = self.room(buffer, 32);
+        let one = [b];
+        Out {
+            at: text::put(buffer, o.at, &one),
+            begun: true,
+            failed: o.failed,
+        }
+    }
+
+    // Bytes more of a word.
+    fn join_all(self, buffer: &mut [u8], text: &[u8]) -> Out
+        ensures { λ r. ⌜ Joined (now (buffer .entry)) self (now (text .entry)) (now (buffer .exit)) r ⌝ }
+    {
+        let mut o = self;
+        let mut i: usize = 0;
+        while i < text.len() {
+            o = o.join(buffer, text[i]);
+            i += 1;
+        }
+        o
+    }
+
+    // The hexadecimal digits of bytes, more of a word.
+    fn join_octets(self, buffer: &mut [u8], list: &[u8]) -> Out
+        ensures { λ r. ⌜ Joined (now (buffer .entry)) self (octetsText (now (list .entry))) (now (buffer .exit)) r ⌝ }
+    {
+        let mut o = self;
+        let mut i: usize = 0;
+        while i < list.len() {
+            let mut pair = [0u8; 2];
+            octets::put_octet(&mut pair, 0, list[i]);
+            o = o.join_all(buffer, &pair);
+            i += 1;
+        }
+        o
+    }
+
+    // A word.
     pub fn word(self, buffer: &mut [u8], word: &[u8]) -> Out
         ensures { λ r. ⌜ Gathers (now (buffer .entry)) self (now (word .entry) ∷ []) (now (buffer .exit)) r ⌝ }
     {
         let o = self.space(buffer);
+        if 30 < word.len() {
+            return o.join_all(buffer, word);
+        }
         Out {
             at: text::put(buffer, o.at, word),
+            begun: true,
+            failed: o.failed,
+        }
+    }
+
+    // Bytes as one word, two hexadecimal digits each.
+    pub fn octets(self, buffer: &mut [u8], list: &[u8]) -> Out
+        ensures { λ r. ⌜ Gathers (now (buffer .entry)) self (octetsText (now (list .entry)) ∷ []) (now (buffer .exit)) r ⌝ }
+    {
+        let o = self.space(buffer);
+        if 15 < list.len() {
+            return o.join_octets(buffer, list);
+        }
+        Out {
+            at: octets::put_octets(buffer, o.at, list),
             begun: true,
             failed: o.failed,
         }

@@ -1,5 +1,6 @@
 -- What the contracts of `questions` are written in.
 pub mod Lists
 pub mod Months
+pub mod Texts
 pub mod Questions
 pub mod Runs

@@ -7,8 +7,9 @@ use lib.ListN.{take}
 use Rattle.conversion.specs.declared.Table.{Table}
 use Rattle.conversion.specs.Calendar.{Calendar}
 use Rattle.conversion.specs.Flat.{flat}
-use Rattle.asked.specs.Tags.{CHECK, CHECKRULES, BS, AD, LEN, VALID, STEP, STARTS, LISTBS, LISTAD, GRID, DAY, DATE}
+use Rattle.asked.specs.Tags.{CHECK, CHECKRULES, READRULES, WRITERULES, BS, AD, LEN, VALID, STEP, STARTS, LISTBS, LISTAD, GRID, DAY, DATE}
 use Rattle.asked.specs.Tags.{JD, NPT, EVENTS, RISE, SET, KALA, NISHITA, READ, SIN, COS, ASIN, ACOS, TAN}
+use Rattle.asked.specs.declared.bytes.Octets.{Octets}
 use Rattle.asked.specs.declared.words.Words.{Words}
 use Rattle.replies.specs.declared.Reply.{Reply}
 use Rattle.replies.specs.Replies.{replyWords}
@@ -18,10 +19,10 @@ use Rattle.answers.specs.Conversions.{conversionsReply}
 use Rattle.answers.specs.Trigonometry.{trigonometryReply}
 use Rattle.answers.specs.Almanac.{almanacReply}
 use Rattle.answers.specs.Heavens.{heavensReply}
-use Rattle.lending.specs.declared.Lent.{Lent}
-use Rattle.lending.specs.Lending.{lendingOf, lends}
+use Rattle.lending.specs.Lending.{Loan, lendingOf, lends}
 use Rattle.questions.specs.Lists.{rulesReply, listWords}
 use Rattle.questions.specs.Months.{stepReply, gridWords}
+use Rattle.questions.specs.Texts.{readRulesWords, writeRulesWords}
 
 -- whether a tag is one of these
 unfoldable pub oneOf : List ℕ → ℕ → Bool
@@ -43,15 +44,17 @@ abbrev pub replyTo : Calendar → List ℕ → Words → Reply
 replyTo c rules w = replyBy (w .tag) c rules w
 
 -- the words of an answer, by the question's tag
-unfoldable pub wordsBy : ℕ → Table → List ℕ → List ℕ → Words → List (List ℕ)
-wordsBy tag t rows rules w =
+unfoldable pub wordsBy : ℕ → Table → List ℕ → List ℕ → List ℕ → Words → List (List ℕ)
+wordsBy tag t rows rules text w =
     cond (oneOf (STARTS ∷ []) tag) (searchWords w)
     (cond (oneOf (LISTAD ∷ LISTBS ∷ []) tag) (listWords t rows rules w)
     (cond (oneOf (GRID ∷ []) tag) (gridWords t rows rules w)
-    (replyWords (replyTo (flat t rows) rules w))))
+    (cond (oneOf (READRULES ∷ []) tag) (readRulesWords text w)
+    (cond (oneOf (WRITERULES ∷ []) tag) (writeRulesWords rules w)
+    (replyWords (replyTo (flat t rows) rules w))))))
 
 -- nothing to a line that lends; else the answer over what is lent
-unfoldable pub answerWords : Lent → List ℕ → List ℕ → Words → List (List ℕ)
-answerWords lent rows rules w =
-    cond (lends (lendingOf (w .tag) (w .form))) []
-    (wordsBy (w .tag) (lent .table) (take (lent .cells) rows) (take (lent .numbers) rules) w)
+unfoldable pub answerWords : Loan → Words → Octets → List (List ℕ)
+answerWords x w o =
+    cond (lends (lendingOf (w .tag) (w .form) (o .count))) []
+    (wordsBy (w .tag) (x .lent .table) (take (x .lent .cells) (x .rows)) (take (x .lent .numbers) (x .rules)) (take (x .lent .octets) (x .text)) w)

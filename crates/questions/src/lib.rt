@@ -1,16 +1,19 @@
 // The answers to the line language: what lines lend, and what each question is answered over it.
 ghost use mathlib.Core.Path.{_≡_};
-ghost use Prim.Native.Nat.{_≤_};
-ghost use lib.ListN.{length, take};
+ghost use Prim.Native.Nat.{min};
+ghost use lib.ListN.{length};
 ghost use Rattle.conversion.specs.Flat.{flat};
 ghost use Rattle.output.specs.Gathered.{Gathers};
 ghost use Rattle.questions.specs.Questions.{replyTo, wordsBy, answerWords};
-ghost use Rattle.questions.specs.Runs.{answering, loanOf, Lends, Answers};
+ghost use Rattle.lending.specs.Lending.{loanOf};
+ghost use Rattle.questions.specs.Runs.{answering, Lends, Answers};
 ghost use Rattle.asked.specs.Runs.{TurnDone};
 
 mod lists;
 mod months;
+mod texts;
 
+use asked::Octets;
 use asked::Turn;
 use asked::Words;
 use asked::tags;
@@ -47,40 +50,70 @@ fn reply_to(w: Words, table: Table, rows: &[u16], rules: &[u16]) -> Reply
     }
 }
 
-// The answer to a question, by its tag: three show lent buffers too.
-fn answer_over(o: Out, out: &mut [u8], w: Words, table: Table, rows: &[u16], rules: &[u16]) -> Out
-    ensures { λ r. ⌜ Gathers (now (out .entry)) o (wordsBy (w .tag) table (now (rows .entry)) (now (rules .entry)) w) (now (out .exit)) r ⌝ }
+// The answer to a question, by its tag: those of the first arms show lent buffers too.
+fn answer_over(
+    o: Out,
+    out: &mut [u8],
+    w: Words,
+    table: Table,
+    rows: &[u16],
+    rules: &[u16],
+    text: &[u8],
+) -> Out
+    ensures { λ r. ⌜ Gathers (now (out .entry)) o (wordsBy (w .tag) table (now (rows .entry)) (now (rules .entry)) (now (text .entry)) w)
+        (now (out .exit)) r ⌝ }
 {
     let tag = w.tag;
     match tag {
         tags::STARTS => answers::searches::answer(o, out, w),
         tags::LISTBS | tags::LISTAD => lists::list(o, out, w, table, rows, rules),
         tags::GRID => months::month(o, out, w, table, rows, rules),
+        tags::READRULES => texts::read(o, out, w, text),
+        tags::WRITERULES => texts::write(o, out, w, rules),
         _ => reply_to(w, table, rows, rules).put(o, out),
     }
 }
 
-// How many of a list's first n numbers there are.
-fn front(list: &[u16], n: usize) -> usize
-    ensures { λ r. ⌜ (r ≤ length (now (list .entry))) × (take r (now (list .entry)) ≡ take n (now (list .entry))) ⌝ }
+// How many of the first n elements a list of so many has.
+fn front(all: usize, n: usize) -> usize
+    ensures { λ r. ⌜ r ≡ min n all ⌝ }
 {
-    if n <= list.len() {
+    if n <= all {
         return n;
     }
-    list.len()
+    all
 }
 
 // The answer to a line that asks, over what is lent; nothing to one that lends.
-fn answer(o: Out, out: &mut [u8], w: Words, lent: Lent, rows: &[u16], rules: &[u16]) -> Out
-    ensures { λ r. ⌜ Gathers (now (out .entry)) o (answerWords lent (now (rows .entry)) (now (rules .entry)) w) (now (out .exit)) r ⌝ }
+fn answer(
+    o: Out,
+    out: &mut [u8],
+    w: Words,
+    x: Octets,
+    lent: Lent,
+    rows: &[u16],
+    rules: &[u16],
+    text: &[u8],
+) -> Out
+    ensures { λ r. ⌜ Gathers (now (out .entry)) o (answerWords (loanOf lent (now (rows .entry)) (now (rules .entry)) (now (text .entry))) w x)
+        (now (out .exit)) r ⌝ }
 {
-    if lending::is_lending(w) {
+    if lending::is_lending(w, x) {
         return o;
     }
     let table = lent.table;
-    let cells = front(rows, lent.cells);
-    let numbers = front(rules, lent.numbers);
-    answer_over(o, out, w, table, &rows[..cells], &rules[..numbers])
+    let cells = front(rows.len(), lent.cells);
+    let numbers = front(rules.len(), lent.numbers);
+    let octets = front(text.len(), lent.octets);
+    answer_over(
+        o,
+        out,
+        w,
+        table,
+        &rows[..cells],
+        &rules[..numbers],
+        &text[..octets],
+    )
 }
 
 // A turn: the line lends or is answered, and the next line is read.
@@ -89,17 +122,20 @@ fn step(
     lent: Lent,
     rows: &mut [u16],
     rules: &mut [u16],
+    text: &mut [u8],
     piece: &mut [u8],
     line: &mut [u8],
     out: &mut [u8],
 ) -> Stepped
-    ensures { λ r. ⌜ TurnDone answering t (loanOf lent (now (rows .entry)) (now (rules .entry))) (now (piece .entry)) (now (line .entry))
-        (now (out .entry)) (loanOf (r .lent) (now (rows .exit)) (now (rules .exit))) (now (piece .exit)) (now (line .exit)) (now (out .exit)) (r .turn) ⌝ }
+    ensures { λ r. ⌜ TurnDone answering t (loanOf lent (now (rows .entry)) (now (rules .entry)) (now (text .entry))) (now (piece .entry))
+        (now (line .entry)) (now (out .entry)) (loanOf (r .lent) (now (rows .exit)) (now (rules .exit)) (now (text .exit))) (now (piece .exit))
+        (now (line .exit)) (now (out .exit)) (r .turn) ⌝ }
 {
     let w = asked::split(line, t.len);
+    let x = asked::octets_in(line, t.len);
     let o = t.out;
-    let after = lending::lend(lent, rows, rules, w);
-    let answered = answer(o, out, w, after, rows, rules);
+    let after = lending::lend(lent, rows, rules, text, w, x);
+    let answered = answer(o, out, w, x, after, rows, rules, text);
     Stepped {
         turn: asked::next_turn(t, answered, piece, line, out),
         lent: after,
@@ -111,28 +147,30 @@ fn run(
     first: Lent,
     rows: &mut [u16],
     rules: &mut [u16],
+    text: &mut [u8],
     piece: &mut [u8],
     line: &mut [u8],
     out: &mut [u8],
 )
-    ensures { λ _. ⌜ Answers (length (now (line .entry))) (loanOf «first» (now (rows .entry)) (now (rules .entry))) (now (out .entry)) (now (rows .exit))
-        (now (rules .exit)) (now (out .exit)) ⌝ }
+    ensures { λ _. ⌜ Answers (length (now (line .entry))) (loanOf «first» (now (rows .entry)) (now (rules .entry)) (now (text .entry)))
+        (now (out .entry)) (now (rows .exit)) (now (rules .exit)) (now (text .exit)) (now (out .exit)) ⌝ }
 {
     let mut t = asked::first_turn(piece, line, out);
     let mut lent = first;
     while 0 < t.left {
-        let s = step(t, lent, rows, rules, piece, line, out);
+        let s = step(t, lent, rows, rules, text, piece, line, out);
         t = s.turn;
         lent = s.lent;
     }
 }
 
 // Answers every line of standard input on standard output, over what is lent at first and what lines lend in its place.
-pub fn answer_from(first: Lent, rows: &mut [u16], rules: &mut [u16])
-    ensures { λ _. ⌜ Lends 4096 (loanOf «first» (now (rows .entry)) (now (rules .entry))) (now (rows .exit)) (now (rules .exit)) ⌝ }
+pub fn answer_from(first: Lent, rows: &mut [u16], rules: &mut [u16], text: &mut [u8])
+    ensures { λ _. ⌜ Lends 4096 (loanOf «first» (now (rows .entry)) (now (rules .entry)) (now (text .entry))) (now (rows .exit)) (now (rules .exit))
+        (now (text .exit)) ⌝ }
 {
     let mut piece = [0u8; 4096];
     let mut line = [0u8; 4096];
     let mut out = [0u8; 8192];
-    run(first, rows, rules, &mut piece, &mut line, &mut out);
+    run(first, rows, rules, text, &mut piece, &mut line, &mut out);
 }

@@ -7,10 +7,13 @@ use lib.Dec.{eqb}
 use lib.Ieee.{Float}
 use Rattle.paper.specs.Answers.{Answer, answered, refused}
 use Rattle.paper.specs.Refusals.{number}
+use Rattle.paper.specs.declared.Refusal.{Refusal}
+use Rattle.paper.specs.declared.Refusal.the-variants as K
 use Rattle.text.specs.Digits.{digits}
 use Rattle.text.specs.Quoted.{bytes}
 use Rattle.gregorian.specs.declared.Date.{Date}
 use Rattle.output.specs.Floats.{floatText}
+use Rattle.output.specs.Octets.{octetsText}
 use Rattle.asked.specs.Line.{small}
 use Rattle.asked.specs.declared.words.Words.{Words}
 use Rattle.replies.specs.declared.Reply.{Reply}
@@ -52,10 +55,25 @@ dateIn w = record { year = small w 1; month = small w 2; day = small w 3 }
 abbrev pub dateWords : ℕ → ℕ → ℕ → List (List ℕ)
 dateWords y m d = digits y ∷ digits m ∷ digits d ∷ []
 
--- a question mark, a refusal's number alone, or 0 and the values; "none" where there is none
+-- what is told behind a refusal's number: of 12 the line
+abbrev pub toldWords : Refusal → List (List ℕ)
+toldWords K.BadTable = []
+toldWords K.BadRules = []
+toldWords K.NoSuchDate = []
+toldWords K.NoYear = []
+toldWords K.NoMonth = []
+toldWords K.NoDay = []
+toldWords K.Outside = []
+toldWords K.OutOfRange = []
+toldWords K.NoRoom = []
+toldWords K.OffTable = []
+toldWords K.NotEnded = []
+toldWords (K.OutOfForm line) = digits line ∷ []
+
+-- a question mark, a refusal's number and what is told with it, or 0 and the values; "none" where there is none
 unfoldable pub replyWords : Reply → List (List ℕ)
 replyWords R.Unformed = bytes "?" ∷ []
-replyWords (R.Refused k) = digits (number k) ∷ []
+replyWords (R.Refused k) = digits (number k) ∷ toldWords k
 replyWords R.Good = digits 0 ∷ []
 replyWords R.Nothing = digits 0 ∷ bytes "none" ∷ []
 replyWords (R.Number n) = digits 0 ∷ digits n ∷ []
@@ -70,3 +88,8 @@ replyWords (R.Reading r) = digits 0 ∷ digits (r .tithi) ∷ digits (r .end) �
 -- a bar, and every element of a lent buffer
 abbrev pub barred : {A : Type 0} → (A → List ℕ) → List A → List (List ℕ)
 barred text buffer = bytes "|" ∷ map text buffer
+
+-- a bar, and the bytes of a lent buffer as one word; no word where it has none
+abbrev pub bytesWords : List ℕ → List (List ℕ)
+bytesWords [] = bytes "|" ∷ []
+bytesWords (b ∷ bs) = bytes "|" ∷ octetsText (b ∷ bs) ∷ []

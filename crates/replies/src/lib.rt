@@ -2,7 +2,7 @@
 ghost use mathlib.Core.Path.{_≡_};
 ghost use Rattle.text.specs.Digits.{digits};
 ghost use Rattle.output.specs.Gathered.{Gathers};
-ghost use Rattle.replies.specs.Replies.{dateIn, dateWords, replyWords, barred};
+ghost use Rattle.replies.specs.Replies.{dateIn, dateWords, replyWords, barred, bytesWords};
 ghost use Rattle.replies.specs.declared.Reply.the-variants as R;
 use asked::Words;
 use gregorian::Date;
@@ -10,7 +10,7 @@ use output::Out;
 use panchanga::lunar::Reading;
 use paper::Refusal;
 
-// A question mark for a line out of form, the number of a refusal alone, or 0 and values.
+// A question mark for a line out of form, the number of a refusal and what is told with it, or 0 and values.
 pub enum Reply {
     Unformed,
     Refused(Refusal),
@@ -50,6 +50,17 @@ fn put_reading(o: Out, out: &mut [u8], x: Reading) -> Out
     put_date_words(named, out, x.end, x.sunrise, x.sunset)
 }
 
+// A refusal's number, and behind it what is told with it.
+fn put_refusal(o: Out, out: &mut [u8], k: Refusal) -> Out
+    ensures { λ r. ⌜ Gathers (now (out .entry)) o (replyWords (R.Refused k)) (now (out .exit)) r ⌝ }
+{
+    let p = o.number(out, k.number() as u64);
+    match k {
+        Refusal::OutOfForm(line) => p.number(out, line as u64),
+        _ => p,
+    }
+}
+
 impl Reply {
     // Puts the reply's words behind what is gathered.
     pub fn put(self, o: Out, out: &mut [u8]) -> Out
@@ -57,7 +68,7 @@ impl Reply {
     {
         match self {
             Reply::Unformed => o.word(out, b"?"),
-            Reply::Refused(k) => o.number(out, k.number() as u64),
+            Reply::Refused(k) => put_refusal(o, out, k),
             Reply::Good => o.number(out, 0),
             Reply::Nothing => o.number(out, 0).word(out, b"none"),
             Reply::Number(n) => o.number(out, 0).number(out, n),
@@ -107,4 +118,15 @@ pub fn put_list(o: Out, out: &mut [u8], list: &[u16]) -> Out
         i += 1;
     }
     p
+}
+
+// The bytes of a lent buffer as one word, behind a bar.
+pub fn put_bytes(o: Out, out: &mut [u8], list: &[u8]) -> Out
+    ensures { λ r. ⌜ Gathers (now (out .entry)) o (bytesWords (now (list .entry))) (now (out .exit)) r ⌝ }
+{
+    let p = o.word(out, b"|");
+    if list.len() == 0 {
+        return p;
+    }
+    p.octets(out, list)
 }

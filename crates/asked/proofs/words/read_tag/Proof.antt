@@ -62,7 +62,7 @@ loop-again c = let a = c .before .before .before .before .before .before .before
     let x = getD (a .s .now) (l .i) 0 in
     let d : letter x ≡ true = sym (c .before .before .is-letter .ensures) ∙ not-false (c .before .before .is-letter .result) (c .before .if1 .left) in
     let g = letter-is x d in
-    let m : l .v * 100 + (x - 96) ≤ 18446744073709551615 = omega arith in
+    let m : l .v * 64 + (x - 96) ≤ 18446744073709551615 = omega arith in
     (omega arith, letters-turn (a .s .now) (l .i) (l .v) (c .before .before .before .before .loop-test .taken) d m ∙ l .inv .1)
 
 returns-3 : tie.Need-returns-3 Inv-loop μ-loop
