@@ -4,17 +4,35 @@ use files::RulesRead;
 use files::TableRead;
 use lending::Lent;
 
+// How many numbers of the rules are lent, of rules that are refused one, which is no list of rules: what needs them is refused with 2.
+fn lent_numbers(read: RulesRead) -> usize {
+    match read {
+        RulesRead::Are(n) => n,
+        RulesRead::Refused => 1,
+        RulesRead::Not => 0,
+    }
+}
+
+// Whether a file of rules could be read and is in form.
+fn is_in_form(read: RulesRead) -> bool {
+    match read {
+        RulesRead::Are(_) => true,
+        RulesRead::Refused => true,
+        RulesRead::Not => false,
+    }
+}
+
 // Reads the rules and answers over them and the table.
 fn over_rules(table: Table, cells: usize, rows: &mut [u16]) {
     let mut rules = [0u16; 2600];
-    let mut names = [0u8; 20800];
-    let RulesRead::Are(numbers) = files::rules_at(2, &mut rules, &mut names) else {
+    let read = files::rules_at(2, &mut rules);
+    if !is_in_form(read) {
         return;
-    };
+    }
     let lent = Lent {
         table,
         cells,
-        numbers,
+        numbers: lent_numbers(read),
     };
     questions::answer_from(lent, rows, &mut rules);
 }

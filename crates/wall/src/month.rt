@@ -56,18 +56,17 @@ fn put_legend(out: &mut [u8], at: usize) -> usize
 }
 
 // Writes the page of a month from a place on, as far as the buffer goes, and answers the place after it. The cells and festivals are those of a month
-// grid, the names are 64 bytes for each rule.
+// grid, the names are a file of names.
 pub fn put_month_page(
     out: &mut [u8],
     at: usize,
     page: Page,
-    rules: &[u16],
     names: &[u8],
     cells: &[u16],
     festivals: &[u16],
 ) -> usize
     ensures { λ r. ⌜ Wrote (now (out .entry)) at
-        (monthPage page (now (rules .entry)) (now (names .entry)) (now (cells .entry)) (now (festivals .entry))) (now (out .exit)) r ⌝ }
+        (monthPage page (now (names .entry)) (now (cells .entry)) (now (festivals .entry))) (now (out .exit)) r ⌝ }
 {
     let a = put_title(out, at, page);
     let b = put_heads(out, a);
@@ -76,7 +75,6 @@ pub fn put_month_page(
     put_festivals(
         out,
         d,
-        rules,
         names,
         cells,
         festivals,

@@ -1,7 +1,43 @@
--- `patro::refusals::put_reason` meets its contract: each variant's text is put. Assumes nothing.
+-- `patro::refusals::put_reason` meets its contract: each refusal has its text. Assumes nothing.
 use borrow.Author.Needs.{needs}
 use Rattle.patro.proofs.refusals.put_reason.Statement.{statement}
 use Rattle.patro.proofs.refusals.put_reason.Tie as tie
+
+returns : tie.Need-returns
+returns c = rw (c .before .before .before .before .before .enum-told .given .1) (c .before .before .put .ensures)
+
+returns-2 : tie.Need-returns-2
+returns-2 c = rw (c .before .before .before .before .before .enum-told2 .given .1) (c .before .before .put2 .ensures)
+
+returns-3 : tie.Need-returns-3
+returns-3 c = rw (c .before .before .before .before .before .enum-told3 .given .1) (c .before .before .put3 .ensures)
+
+returns-4 : tie.Need-returns-4
+returns-4 c = rw (c .before .before .before .before .before .enum-told4 .given .1) (c .before .before .put4 .ensures)
+
+returns-5 : tie.Need-returns-5
+returns-5 c = rw (c .before .before .before .before .before .enum-told5 .given .1) (c .before .before .put5 .ensures)
+
+returns-6 : tie.Need-returns-6
+returns-6 c = rw (c .before .before .before .before .before .enum-told6 .given .1) (c .before .before .put6 .ensures)
+
+returns-7 : tie.Need-returns-7
+returns-7 c = rw (c .before .before .before .before .before .enum-told7 .given .1) (c .before .before .put7 .ensures)
+
+returns-8 : tie.Need-returns-8
+returns-8 c = rw (c .before .before .before .before .before .enum-told8 .given .1) (c .before .before .put8 .ensures)
+
+returns-9 : tie.Need-returns-9
+returns-9 c = rw (c .before .before .before .before .before .enum-told9 .given .1) (c .before .before .put9 .ensures)
+
+returns-10 : tie.Need-returns-10
+returns-10 c = rw (c .before .before .before .before .before .enum-told10 .given .1) (c .before .before .put10 .ensures)
+
+returns-11 : tie.Need-returns-11
+returns-11 c = rw (c .before .before .before .before .before .enum-told11 .given .1) (c .before .before .put11 .ensures)
+
+returns-12 : tie.Need-returns-12
+returns-12 c = rw (c .before .before .before .before .before .why .given .1) (c .before .before .put-out-of-form .ensures)
 
 pub put-reason-spec : {M : Type 1} → statement M
 put-reason-spec =
@@ -12,26 +48,7 @@ put-reason-spec =
     (λ c. search needs) (λ c. search needs) (λ c κs. search needs) (λ c. search needs) (λ c. search needs) (λ c κs. search needs)
     (λ c. search needs) (λ c. search needs) (λ c κs. search needs) (λ c. search needs) (λ c. search needs) (λ c κs. search needs)
     (λ c. search needs) (λ c. search needs) (λ c κs. search needs) (λ c. search needs) (λ c. search needs) (λ c κs. search needs)
-    (λ c. search needs) (λ c. search needs) (λ c κs. search needs)
-    (λ c. search needs)
-    (λ c. rw (c .before .before .before .before .before .enum-told .given .1) (c .before .before .put .ensures))
-    (λ c. search needs)
-    (λ c. rw (c .before .before .before .before .before .enum-told2 .given .1) (c .before .before .put2 .ensures))
-    (λ c. search needs)
-    (λ c. rw (c .before .before .before .before .before .enum-told3 .given .1) (c .before .before .put3 .ensures))
-    (λ c. search needs)
-    (λ c. rw (c .before .before .before .before .before .enum-told4 .given .1) (c .before .before .put4 .ensures))
-    (λ c. search needs)
-    (λ c. rw (c .before .before .before .before .before .enum-told5 .given .1) (c .before .before .put5 .ensures))
-    (λ c. search needs)
-    (λ c. rw (c .before .before .before .before .before .enum-told6 .given .1) (c .before .before .put6 .ensures))
-    (λ c. search needs)
-    (λ c. rw (c .before .before .before .before .before .enum-told7 .given .1) (c .before .before .put7 .ensures))
-    (λ c. search needs)
-    (λ c. rw (c .before .before .before .before .before .enum-told8 .given .1) (c .before .before .put8 .ensures))
-    (λ c. search needs)
-    (λ c. rw (c .before .before .before .before .before .enum-told9 .given .1) (c .before .before .put9 .ensures))
-    (λ c. search needs)
-    (λ c. rw (c .before .before .before .before .before .enum-told10 .given .1) (c .before .before .put10 .ensures))
-    (λ c. search needs)
-    (λ c. rw (c .before .before .before .before .before .enum-told11 .given .1) (c .before .before .put11 .ensures)))
+    (λ c. search needs) (λ c. search needs) (λ c κs. search needs) (λ c. search needs) (λ c κs. search needs) (λ c. search needs) returns
+    (λ c. search needs) returns-2 (λ c. search needs) returns-3 (λ c. search needs) returns-4 (λ c. search needs) returns-5
+    (λ c. search needs) returns-6 (λ c. search needs) returns-7 (λ c. search needs) returns-8 (λ c. search needs) returns-9
+    (λ c. search needs) returns-10 (λ c. search needs) returns-11 (λ c. search needs) returns-12)
