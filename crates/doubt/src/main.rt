@@ -135,7 +135,15 @@ fn run(rows: &mut [u16], rules: &mut [u16], names: &mut [u8], out: &mut [u8]) {
     let NamesRead::Are(m) = files::names_asked(5, count, names) else {
         return;
     };
-    answer(table, &rows[..n], first, last, &rules[..k], &names[..m], out);
+    answer(
+        table,
+        &rows[..n],
+        first,
+        last,
+        &rules[..k],
+        &names[..m],
+        out,
+    );
 }
 
 fn main() {

@@ -127,7 +127,11 @@ fn put_reason(out: &mut [u8], at: usize, r: Reason) -> usize
         Reason::Plain => text::put(out, at, b"\n"),
         Reason::FileEnds => text::put(out, at, b": the file ends inside a rule\n"),
         Reason::Mark => text::put(out, at, b": the file begins with a byte order mark\n"),
-        Reason::CarriageReturn => text::put(out, at, b": the line ends in CR LF, not in LF alone\n"),
+        Reason::CarriageReturn => text::put(
+            out,
+            at,
+            b": the line ends in CR LF, not in LF alone\n",
+        ),
         Reason::Tab => text::put(out, at, b": the line ends in a tab\n"),
         Reason::Space => text::put(out, at, b": the line ends in a space\n"),
         Reason::Zero => text::put(out, at, b": the number has a leading zero\n"),

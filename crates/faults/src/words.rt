@@ -1,7 +1,8 @@
 // What a list of rules breaks, in words.
 ghost use mathlib.Core.Path.{_≡_};
 ghost use Rattle.text.specs.Written.{Wrote};
-ghost use Rattle.faults.specs.Words.{nameText, rangeText, lineOf, numberText, linesText, ruleText, fieldText, manyText, faultText, fieldLine, placeText, refusalText};
+ghost use Rattle.faults.specs.Words.{nameText, rangeText, lineOf, numberText, linesText, ruleText, fieldText, manyText, faultText};
+ghost use Rattle.faults.specs.Words.{fieldLine, placeText, refusalText};
 use crate::first::Fault;
 use crate::first::Field;
 use crate::first::least;

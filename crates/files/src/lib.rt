@@ -8,8 +8,8 @@ mod reading;
 mod telling;
 mod texts;
 
-pub use arguments::names_at;
 pub use arguments::names_asked;
+pub use arguments::names_at;
 pub use arguments::rules_asked;
 pub use arguments::rules_at;
 pub use arguments::table_at;

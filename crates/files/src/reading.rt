@@ -217,13 +217,7 @@ fn with_input(r: Reading, rows: &mut [u16], input: Input, line: &[u8]) -> Readin
 }
 
 // The reading of all lines of a descriptor. The steps are enough for 10,000 lines and for 160 million bytes.
-fn read_lines(
-    fd: i32,
-    r: Reading,
-    rows: &mut [u16],
-    piece: &mut [u8],
-    line: &mut [u8],
-) -> Reading
+fn read_lines(fd: i32, r: Reading, rows: &mut [u16], piece: &mut [u8], line: &mut [u8]) -> Reading
     requires { ⌜ well (r .fault) ≡ true ⌝ }
     ensures { λ q. ⌜ Makes (length (now (line .entry))) (made r (now (rows .entry))) (made q (now (rows .exit))) ⌝ }
 {

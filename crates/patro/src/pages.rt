@@ -85,16 +85,7 @@ fn draw_part(
                 return Laid::Refused(Refusal::NoDay);
             }
             let cell = cell_of(cells, day);
-            Laid::Bytes(wall::put_day_page(
-                page,
-                0,
-                year,
-                month,
-                cell,
-                names,
-                cells,
-                festivals,
-            ))
+            Laid::Bytes(wall::put_day_page(page, 0, year, month, cell, names, cells, festivals))
         }
     }
 }
@@ -126,16 +117,7 @@ fn draw_bs(
         &mut cells,
         &mut festivals,
     ) {
-        GridAnswer::Is(m) => draw_part(
-            names,
-            year,
-            month,
-            part,
-            m,
-            &cells,
-            &festivals,
-            page,
-        ),
+        GridAnswer::Is(m) => draw_part(names, year, month, part, m, &cells, &festivals, page),
         GridAnswer::Refused(why) => Laid::Refused(why),
     }
 }

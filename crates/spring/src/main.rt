@@ -151,7 +151,10 @@ fn answer_with(
 fn run(old: &mut [u16], new: &mut [u16], rules: &mut [u16], names: &mut [u8], out: &mut [u8]) {
     let count = os::arg_count();
     if (count < 3) | (5 < count) {
-        io::write_all(STDERR_FILENO, b"expected arguments: OLD NEW [RULES [NAMES]]\n");
+        io::write_all(
+            STDERR_FILENO,
+            b"expected arguments: OLD NEW [RULES [NAMES]]\n",
+        );
         return;
     }
     let TableRead::Is(table, n) = files::table_at(1, old) else {

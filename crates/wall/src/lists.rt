@@ -27,13 +27,7 @@ fn put_festival_day(out: &mut [u8], at: usize, cells: &[u16], i: usize) -> usize
 }
 
 // Writes the name of festival f, whether it is a holiday, and a line feed.
-fn put_festival(
-    out: &mut [u8],
-    at: usize,
-    names: &[u8],
-    festivals: &[u16],
-    f: usize,
-) -> usize
+fn put_festival(out: &mut [u8], at: usize, names: &[u8], festivals: &[u16], f: usize) -> usize
     requires { ⌜ f ≤ 300000000 ⌝ }
     ensures { λ r. ⌜ Wrote (now (out .entry)) at (festivalText (now (names .entry)) (now (festivals .entry)) f) (now (out .exit)) r ⌝ }
 {
@@ -96,16 +90,7 @@ pub fn put_festivals_on(
         (festivalsOn (now (names .entry)) (now (cells .entry)) (now (festivals .entry)) i) (now (out .exit)) r ⌝ }
 {
     let f = before(cells, i);
-    put_festival_lines(
-        out,
-        at,
-        names,
-        cells,
-        festivals,
-        i,
-        f,
-        number(cells, i, 11),
-    )
+    put_festival_lines(out, at, names, cells, festivals, i, f, number(cells, i, 11))
 }
 
 // Writes the festivals of the first n cells.

@@ -72,12 +72,5 @@ pub fn put_month_page(
     let b = put_heads(out, a);
     let c = put_weeks(out, b, cells, page.weeks);
     let d = put_legend(out, c);
-    put_festivals(
-        out,
-        d,
-        names,
-        cells,
-        festivals,
-        page.weeks as u16 * 7,
-    )
+    put_festivals(out, d, names, cells, festivals, page.weeks as u16 * 7)
 }
