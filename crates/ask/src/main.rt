@@ -4,18 +4,36 @@ use files::RulesRead;
 use files::TableRead;
 use lending::Lent;
 
+// How many numbers of the rules are lent, of rules that are refused one, which is no list of rules: what needs them is refused with 2.
+fn lent_numbers(read: RulesRead) -> usize {
+    match read {
+        RulesRead::Are(n) => n,
+        RulesRead::Refused => 1,
+        RulesRead::Not => 0,
+    }
+}
+
+// Whether a file of rules could be read and is in form.
+fn is_in_form(read: RulesRead) -> bool {
+    match read {
+        RulesRead::Are(_) => true,
+        RulesRead::Refused => true,
+        RulesRead::Not => false,
+    }
+}
+
 // Reads the rules and answers over them, the table and a text that is empty at first.
 fn over_rules(table: Table, cells: usize, rows: &mut [u16]) {
     let mut rules = [0u16; 2600];
-    let mut names = [0u8; 20800];
-    let RulesRead::Are(numbers) = files::rules_at(2, &mut rules, &mut names) else {
+    let read = files::rules_at(2, &mut rules);
+    if !is_in_form(read) {
         return;
-    };
+    }
     let mut text = [0u8; 524288];
     let lent = Lent {
         table,
         cells,
-        numbers,
+        numbers: lent_numbers(read),
         octets: 0,
     };
     questions::answer_from(lent, rows, &mut rules, &mut text);

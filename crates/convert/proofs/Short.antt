@@ -63,6 +63,7 @@ refusal-small R.OutOfRange = omega arith
 refusal-small R.NoRoom = omega arith
 refusal-small R.OffTable = omega arith
 refusal-small R.NotEnded = omega arith
+refusal-small (R.OutOfForm line) = omega arith
 
 -- ---- their texts
 

@@ -1,5 +1,6 @@
 // Which new moons of BS years to check against the gazette: those near the beginning of a solar month.
 use conversion::Table;
+use files::NamesRead;
 use files::RulesRead;
 use files::TableRead;
 use output::Out;
@@ -113,8 +114,8 @@ fn year_in(i: usize) -> Whole {
 // Reads what the arguments name, and answers over the parts of the lent buffers that were read.
 fn run(rows: &mut [u16], rules: &mut [u16], names: &mut [u8], out: &mut [u8]) {
     let count = os::arg_count();
-    if (count != 4) & (count != 5) {
-        complain(b"expected arguments: TABLE FIRST LAST [RULES]\n");
+    if (count < 4) | (6 < count) {
+        complain(b"expected arguments: TABLE FIRST LAST [RULES [NAMES]]\n");
         return;
     }
     let Whole::Is(first) = year_in(2) else {
@@ -128,16 +129,27 @@ fn run(rows: &mut [u16], rules: &mut [u16], names: &mut [u8], out: &mut [u8]) {
     let TableRead::Is(table, n) = files::table_at(1, rows) else {
         return;
     };
-    let RulesRead::Are(k) = files::rules_asked(4, count, rules, names) else {
+    let RulesRead::Are(k) = files::rules_asked(4, count, rules) else {
         return;
     };
-    answer(table, &rows[..n], first, last, &rules[..k], names, out);
+    let NamesRead::Are(m) = files::names_asked(5, count, names) else {
+        return;
+    };
+    answer(
+        table,
+        &rows[..n],
+        first,
+        last,
+        &rules[..k],
+        &names[..m],
+        out,
+    );
 }
 
 fn main() {
     let mut rows = [0u16; 1677];
     let mut rules = [0u16; 2600];
-    let mut names = [0u8; 20800];
+    let mut names = [0u8; 65536];
     let mut out = [0u8; 8192];
     run(&mut rows, &mut rules, &mut names, &mut out);
 }

@@ -1,3 +1,4 @@
 -- What the contracts of `faults` are written in.
 pub mod Faults
 pub mod Words
+pub mod Lines

@@ -1,7 +1,7 @@
 -- What a list of rules breaks, in words. Assumes nothing.
 use Prim.Native.Nat.{ℕ, _+_, _%_, _^_}
 use mathlib.Core.Bool.{cond}
-use mathlib.Core.List.{List, _++_}
+use mathlib.Core.List.{List, [], _++_}
 use lib.Dec.{eqb}
 use Rattle.text.specs.Digits.{digits}
 use Rattle.text.specs.Quoted.{bytes}
@@ -31,20 +31,36 @@ rangeText low high = cond (eqb low high) (digits low) (digits low ++ (bytes " to
 abbrev pub ordinal : ℕ → List ℕ
 ordinal i = digits ((i + 1) % 2 ^ 64)
 
--- rule 5, kind 3
-unfoldable pub ruleText : ℕ → ℕ → List ℕ
-ruleText i kind = bytes "rule " ++ (ordinal i ++ (bytes ", kind " ++ (digits kind ++ bytes ": ")))
+-- a sum in 64 bits
+abbrev pub plus : ℕ → ℕ → ℕ
+plus a b = (a + b) % 2 ^ 64
 
--- rule 5, kind 3: day is 16, expected 1 to 15
+-- the line of the file that comes k lines behind the eight of each of i rules, in 64 bits
+unfoldable pub lineOf : ℕ → ℕ → ℕ
+lineOf i k = plus (plus (plus (plus i i) (plus i i)) (plus (plus i i) (plus i i))) k
+
+-- rule 5
+unfoldable pub numberText : ℕ → List ℕ
+numberText i = bytes "rule " ++ ordinal i
+
+-- rule 5 (lines 33 to 40)
+unfoldable pub linesText : ℕ → List ℕ
+linesText i = numberText i ++ (bytes " (lines " ++ (digits (lineOf i 1) ++ (bytes " to " ++ (digits (lineOf i 8) ++ bytes ")"))))
+
+-- rule 5 (lines 33 to 40), kind 3
+unfoldable pub ruleText : ℕ → ℕ → List ℕ
+ruleText i kind = linesText i ++ (bytes ", kind " ++ (digits kind ++ bytes ": "))
+
+-- rule 5 (lines 33 to 40), kind 3: day is 16, expected 1 to 15
 unfoldable pub fieldText : ℕ → Field → Rule → List ℕ
 fieldText i f r =
     ruleText i (r .kind) ++ (nameText f ++ (bytes " is " ++ (digits (numberIn r f) ++ (bytes ", expected " ++ rangeText (least f) (most r f)))))
 
--- rule 65 is one too many of kind 1
+-- rule 65 (lines 513 to 520) is one too many of kind 1
 unfoldable pub manyText : ℕ → ℕ → List ℕ
 manyText i kind =
-    bytes "rule " ++ (ordinal i ++ (bytes " is one too many of kind " ++ (digits kind
-    ++ bytes ", expected at most 64 of each of the kinds 1 to 3 and 128 of kind 4")))
+    linesText i ++ (bytes " is one too many of kind " ++ (digits kind
+    ++ bytes ", expected at most 64 of each of the kinds 1 to 3 and 128 of kind 4"))
 
 -- what a list breaks first
 unfoldable pub faultText : Fault → List ℕ
@@ -53,6 +69,24 @@ faultText fault.Uneven = bytes "its numbers are no whole rules"
 faultText (fault.At i f r) = fieldText i f r
 faultText (fault.Many i kind) = manyText i kind
 
--- the refusal behind what names the list
+-- which of a rule's eight lines a field has
+abbrev pub fieldLine : Field → ℕ
+fieldLine field.Nothing = 7
+fieldLine field.Kind = 1
+fieldLine field.Year = 2
+fieldLine field.Month = 3
+fieldLine field.Day = 4
+fieldLine field.Half = 5
+fieldLine field.Kala = 6
+fieldLine field.Holiday = 8
+
+-- the line in which a rule is broken: the field's own, or the first of a rule that is one too many
+unfoldable pub placeText : Fault → List ℕ
+placeText fault.Nothing = []
+placeText fault.Uneven = []
+placeText (fault.At i f r) = bytes ", line " ++ digits (lineOf i (fieldLine f))
+placeText (fault.Many i kind) = bytes ", line " ++ digits (lineOf i 1)
+
+-- the refusal behind the name of the file
 unfoldable pub refusalText : Fault → List ℕ
-refusalText f = bytes ": refused with 2: " ++ (faultText f ++ bytes "\n")
+refusalText f = placeText f ++ (bytes ": refused with 2: " ++ (faultText f ++ bytes "\n"))

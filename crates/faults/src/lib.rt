@@ -1,8 +1,11 @@
-// Where a list of rules first breaks a rule of acceptance (docs/RULES.md): which rule, which field and what is allowed there, in words too.
+// What is wrong with a rule file (docs/RULES.md), in words too: the line that is not the one due; or where its rules first break a rule of acceptance,
+// which rule, which field and what is allowed there.
 mod first;
+mod lines;
 mod words;
 
 pub use first::Fault;
 pub use first::Field;
 pub use first::first_fault;
+pub use lines::put_line_fault;
 pub use words::put_refusal;

@@ -1,6 +1,8 @@
 // What a list of rules breaks, in words.
+ghost use mathlib.Core.Path.{_≡_};
 ghost use Rattle.text.specs.Written.{Wrote};
-ghost use Rattle.faults.specs.Words.{nameText, rangeText, ruleText, fieldText, manyText, faultText, refusalText};
+ghost use Rattle.faults.specs.Words.{nameText, rangeText, lineOf, numberText, linesText, ruleText, fieldText, manyText, faultText};
+ghost use Rattle.faults.specs.Words.{fieldLine, placeText, refusalText};
 use crate::first::Fault;
 use crate::first::Field;
 use crate::first::least;
@@ -37,15 +39,43 @@ fn put_range(out: &mut [u8], at: usize, low: u16, high: u16) -> usize
     text::put_decimal(out, b, high as u64)
 }
 
+// The number of a line of the file: k lines behind the eight of each rule before.
+fn line_of(i: usize, k: u64) -> u64
+    ensures { λ n. ⌜ n ≡ lineOf i k ⌝ }
+{
+    let two = wrapping_add_u64(i as u64, i as u64);
+    let four = wrapping_add_u64(two, two);
+    wrapping_add_u64(wrapping_add_u64(four, four), k)
+}
+
+// Writes a rule's number.
+fn put_number(out: &mut [u8], at: usize, i: usize) -> usize
+    ensures { λ r. ⌜ Wrote (now (out .entry)) at (numberText i) (now (out .exit)) r ⌝ }
+{
+    let a = text::put(out, at, b"rule ");
+    text::put_decimal(out, a, wrapping_add_u64(i as u64, 1))
+}
+
+// Writes a rule's number and its lines.
+fn put_rule_lines(out: &mut [u8], at: usize, i: usize) -> usize
+    ensures { λ r. ⌜ Wrote (now (out .entry)) at (linesText i) (now (out .exit)) r ⌝ }
+{
+    let a = put_number(out, at, i);
+    let b = text::put(out, a, b" (lines ");
+    let c = text::put_decimal(out, b, line_of(i, 1));
+    let d = text::put(out, c, b" to ");
+    let e = text::put_decimal(out, d, line_of(i, 8));
+    text::put(out, e, b")")
+}
+
 // Writes which rule it is, by its number and its kind.
 fn put_rule_name(out: &mut [u8], at: usize, i: usize, kind: u16) -> usize
     ensures { λ r. ⌜ Wrote (now (out .entry)) at (ruleText i kind) (now (out .exit)) r ⌝ }
 {
-    let a = text::put(out, at, b"rule ");
-    let b = text::put_decimal(out, a, wrapping_add_u64(i as u64, 1));
-    let c = text::put(out, b, b", kind ");
-    let d = text::put_decimal(out, c, kind as u64);
-    text::put(out, d, b": ")
+    let a = put_rule_lines(out, at, i);
+    let b = text::put(out, a, b", kind ");
+    let c = text::put_decimal(out, b, kind as u64);
+    text::put(out, c, b": ")
 }
 
 // Writes which field of which rule has which number, and what is expected there.
@@ -64,13 +94,12 @@ fn put_field_fault(out: &mut [u8], at: usize, i: usize, f: Field, rule: Rule) ->
 fn put_many_fault(out: &mut [u8], at: usize, i: usize, kind: u16) -> usize
     ensures { λ r. ⌜ Wrote (now (out .entry)) at (manyText i kind) (now (out .exit)) r ⌝ }
 {
-    let a = text::put(out, at, b"rule ");
-    let b = text::put_decimal(out, a, wrapping_add_u64(i as u64, 1));
-    let c = text::put(out, b, b" is one too many of kind ");
-    let d = text::put_decimal(out, c, kind as u64);
+    let a = put_rule_lines(out, at, i);
+    let b = text::put(out, a, b" is one too many of kind ");
+    let c = text::put_decimal(out, b, kind as u64);
     text::put(
         out,
-        d,
+        c,
         b", expected at most 64 of each of the kinds 1 to 3 and 128 of kind 4",
     )
 }
@@ -87,11 +116,46 @@ fn put_fault(out: &mut [u8], at: usize, fault: Fault) -> usize
     }
 }
 
-// Writes the refusal of a list of rules behind what names it, with what it breaks first, and answers the place after it.
+// Which of a rule's eight lines a field has.
+fn field_line(f: Field) -> u64
+    ensures { λ n. ⌜ n ≡ fieldLine f ⌝ }
+{
+    match f {
+        Field::Nothing => 7,
+        Field::Kind => 1,
+        Field::Year => 2,
+        Field::Month => 3,
+        Field::Day => 4,
+        Field::Half => 5,
+        Field::Kala => 6,
+        Field::Holiday => 8,
+    }
+}
+
+// Writes the line in which a rule is broken: the field's own, or the first of a rule that is one too many.
+fn put_place(out: &mut [u8], at: usize, fault: Fault) -> usize
+    ensures { λ r. ⌜ Wrote (now (out .entry)) at (placeText fault) (now (out .exit)) r ⌝ }
+{
+    match fault {
+        Fault::Nothing => at,
+        Fault::Uneven => at,
+        Fault::At(i, f, _) => {
+            let a = text::put(out, at, b", line ");
+            text::put_decimal(out, a, line_of(i, field_line(f)))
+        }
+        Fault::Many(i, _) => {
+            let a = text::put(out, at, b", line ");
+            text::put_decimal(out, a, line_of(i, 1))
+        }
+    }
+}
+
+// Writes the refusal of a list of rules behind the name of its file, with the line and what it breaks first, and answers the place after it.
 pub fn put_refusal(out: &mut [u8], at: usize, fault: Fault) -> usize
     ensures { λ r. ⌜ Wrote (now (out .entry)) at (refusalText fault) (now (out .exit)) r ⌝ }
 {
-    let a = text::put(out, at, b": refused with 2: ");
-    let b = put_fault(out, a, fault);
-    text::put(out, b, b"\n")
+    let a = put_place(out, at, fault);
+    let b = text::put(out, a, b": refused with 2: ");
+    let c = put_fault(out, b, fault);
+    text::put(out, c, b"\n")
 }

@@ -1,14 +1,12 @@
--- A line of a table or a list of rules, without its line feed: numbers up to 65,535 with spaces (32) around them, and a comment from a # (35) to the
--- end. Assumes nothing.
-use Prim.Native.Nat.{ℕ, zero, suc, _+_, _*_, _/_}
+-- A line of a year table, without its line feed: numbers up to 65,535 with spaces (32) around them, and a comment from a # (35) to the end. Assumes nothing.
+use Prim.Native.Nat.{ℕ, zero, suc, _+_}
 use mathlib.Core.Bool.{Bool, cond, _||_}
 use mathlib.Core.List.{List, [], _∷_}
 use mathlib.Core.Option.{Option, some, none}
-use lib.Dec.{ltb, eqb}
-use lib.ListN.{length, replicate, take, drop}
+use lib.Dec.{eqb}
+use lib.ListN.{length, replicate}
 use lib.Seq.{sets}
 use Rattle.text.specs.Digits.{Got, got, no, found, starts, isEnd, wide, decimal}
-use Rattle.text.specs.Fronts.{upTo}
 use Rattle.fields.specs.declared.row.Form.{Form}
 use Rattle.fields.specs.declared.row.Form.the-variants.{Numbers, NoNumber, TooMany}
 use Rattle.fields.specs.declared.row.Row.{Row}
@@ -93,7 +91,7 @@ judgedAs wanted (Numbers k) = countedAs wanted k
 judgedAs wanted NoNumber = judged.NoNumber
 judgedAs wanted TooMany = judged.OtherCount
 
--- ---- the comment behind a row or a rule
+-- ---- the comment behind a row
 
 -- the text after the first #, without the spaces before it
 abbrev pub comment : List ℕ → List ℕ
@@ -103,11 +101,3 @@ comment (b ∷ s) = cond (eqb b 35) (skip s) (comment s)
 -- the year that a comment says: four digits, and nothing behind them but spaces
 unfoldable pub yearSaid : List ℕ → Option ℕ
 yearSaid s = found (wide 4 (comment s)) (λ n t. cond (isEnd (skip t)) (some n) none) none
-
--- a list of names with room for 64 bytes each, after the name of a line is stored at place i
-abbrev pub named : List ℕ → ℕ → List ℕ → List ℕ
-named names i s = sets names (64 * i) (take 64 (comment s))
-
--- the name of rule i in such a list: its bytes up to the first 0, and nothing where the list has no 64 bytes for it
-unfoldable pub nameOf : ℕ → List ℕ → List ℕ
-nameOf i names = cond (ltb i (length names / 64)) (upTo 0 64 (drop (64 * i) names)) []

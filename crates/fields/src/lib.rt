@@ -1,10 +1,8 @@
-// A line of a year table or of a list of rules, taken apart as specs/Line.antt says: its numbers, and the name behind them.
-mod names;
+// A line of a year table, taken apart as specs/Line.antt says: its numbers, and the year that its comment says.
+mod comments;
 mod row;
 
-pub use names::keep_name;
-pub use names::put_name;
-pub use names::year_said;
+pub use comments::year_said;
 pub use row::Form;
 pub use row::Judged;
 pub use row::Row;

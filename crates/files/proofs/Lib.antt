@@ -1,3 +1,4 @@
 pub mod Made
 pub mod Fits
+pub mod Whole
 pub mod Told

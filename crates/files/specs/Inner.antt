@@ -1,6 +1,6 @@
 -- What the loops over a file's lines promise their callers. Assumes nothing.
 use Prim.Native.Nat.{ℕ}
-use mathlib.Core.Bool.{Bool, cond}
+use mathlib.Core.Bool.{cond}
 use mathlib.Core.Path.{_≡_}
 use mathlib.Core.List.{List}
 use lib.Dec.{eqb}
@@ -13,19 +13,19 @@ use Rattle.files.specs.File.{End, File, Made, fails, withNext, readBytes
 use Rattle.files.specs.Told.{looked}
 
 -- a line in the lent buffer, the input's end, or that it cannot be read on
-unfoldable pub withInput : ℕ → Made → Input → List ℕ → Made
-withInput w x input line = cond (input .failed) (fails fault.NotRead x) (cond (eqb (input .left) 0) x (withNext w x (lineIn line input)))
+unfoldable pub withInput : Made → Input → List ℕ → Made
+withInput x input line = cond (input .failed) (fails fault.NotRead x) (cond (eqb (input .left) 0) x (withNext x (lineIn line input)))
 
 -- some bytes and how they end make y of x
-pub record Makes (room w : ℕ) (x y : Made) : Type 0 where
+pub record Makes (room : ℕ) (x y : Made) : Type 0 where
   pub bytes : List ℕ
   pub ends : End
-  pub same : y ≡ readBytes room w x bytes ends
+  pub same : y ≡ readBytes room x bytes ends
 
 -- some file makes y
-pub record Reads (awaits : Bool) (rows names : List ℕ) (y : Made) : Type 0 where
+pub record Reads (rows : List ℕ) (y : Made) : Type 0 where
   pub file : File
-  pub same : y ≡ readAll awaits rows names file
+  pub same : y ≡ readAll rows file
 
 -- some lines lead from p to q
 pub record Looks (w : Sought) (p q : Place) : Type 0 where

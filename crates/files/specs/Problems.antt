@@ -2,7 +2,6 @@
 use Prim.Native.Nat.{ℕ}
 use mathlib.Core.Bool.{Bool, cond}
 use mathlib.Core.List.{List, _++_}
-use lib.Dec.{eqb}
 use Rattle.text.specs.Digits.{digits}
 use Rattle.text.specs.Quoted.{bytes}
 use Rattle.files.specs.declared.Wrong.{Wrong}
@@ -22,7 +21,6 @@ expectedText expected.ShortLine = bytes "at most 4096 bytes"
 expectedText expected.Numbers = bytes "numbers up to 65535 with spaces between them"
 expectedText expected.Four = bytes "4 numbers: the first BS year and its first Gregorian day"
 expectedText expected.Thirteen = bytes "13 numbers: the lengths of twelve months and their sum"
-expectedText expected.Eight = bytes "8 numbers: kind year month day half kala name holiday"
 expectedText expected.End = bytes "the end of the file: there are too many lines"
 
 -- what was expected in line n
@@ -32,6 +30,7 @@ atLine n e = bytes ": line " ++ (digits n ++ (bytes ": expected " ++ expectedTex
 unfoldable pub whatText : Problem → List ℕ
 whatText problem.NotOpened = bytes ": cannot be opened"
 whatText problem.NotRead = bytes ": cannot be read to its end"
+whatText problem.TooLarge = bytes ": larger than 65536 bytes"
 whatText problem.NoLine = bytes ": expected a line of numbers, found none"
 whatText (problem.At n e) = atLine n e
 
@@ -41,19 +40,19 @@ problemText path p = path ++ (whatText p ++ bytes "\n")
 
 -- ---- how a reading ended
 
--- a line has another count of numbers: a table's first line has four, a row of a table thirteen, a rule eight
-unfoldable pub expectedCount : ℕ → Bool → Expected
-expectedCount width awaits = cond awaits expected.Four (cond (eqb width 13) expected.Thirteen expected.Eight)
+-- a line has another count of numbers: a table's first line has four, a row thirteen
+unfoldable pub expectedCount : Bool → Expected
+expectedCount awaits = cond awaits expected.Four expected.Thirteen
 
 -- the fault of a line, or that a table's first line is still awaited at the end
-abbrev pub wrongAs : ℕ → Bool → ℕ → Fault → Wrong
-wrongAs width awaits line fault.LongLine = wrong.Is (problem.At line expected.ShortLine)
-wrongAs width awaits line fault.NoNumber = wrong.Is (problem.At line expected.Numbers)
-wrongAs width awaits line fault.OtherCount = wrong.Is (problem.At line (expectedCount width awaits))
-wrongAs width awaits line fault.TooMany = wrong.Is (problem.At line expected.End)
-wrongAs width awaits line fault.NotRead = wrong.Is problem.NotRead
-wrongAs width awaits line fault.NotOpened = wrong.Is problem.NotOpened
-wrongAs width awaits line fault.Nothing = cond awaits (wrong.Is problem.NoLine) wrong.Nothing
+abbrev pub wrongAs : Bool → ℕ → Fault → Wrong
+wrongAs awaits line fault.LongLine = wrong.Is (problem.At line expected.ShortLine)
+wrongAs awaits line fault.NoNumber = wrong.Is (problem.At line expected.Numbers)
+wrongAs awaits line fault.OtherCount = wrong.Is (problem.At line (expectedCount awaits))
+wrongAs awaits line fault.TooMany = wrong.Is (problem.At line expected.End)
+wrongAs awaits line fault.NotRead = wrong.Is problem.NotRead
+wrongAs awaits line fault.NotOpened = wrong.Is problem.NotOpened
+wrongAs awaits line fault.Nothing = cond awaits (wrong.Is problem.NoLine) wrong.Nothing
 
-abbrev pub wrongWith : ℕ → Reading → Wrong
-wrongWith width r = wrongAs width (r .awaits) (r .line) (r .fault)
+abbrev pub wrongWith : Reading → Wrong
+wrongWith r = wrongAs (r .awaits) (r .line) (r .fault)

@@ -1,5 +1,4 @@
--- What is told of a file once it was read: in which line its table or its rules break a rule, and which row's comment says another year.
--- Assumes nothing.
+-- What is told of a table once it was read: in which line it breaks a rule, and which row's comment says another year. Assumes nothing.
 use Prim.Native.Nat.{ℕ, _+_, _-_, _%_, _^_}
 use mathlib.Core.Bool.{Bool, true, false, cond, not, _&&_}
 use mathlib.Core.List.{List, [], _∷_, _++_}
@@ -10,13 +9,11 @@ use Rattle.text.specs.Quoted.{bytes}
 use Rattle.fields.specs.Line.{blank, yearSaid}
 use Rattle.tables.specs.declared.broken.Broken.{Broken}
 use Rattle.tables.specs.declared.broken.Broken.the-variants as broken
-use Rattle.faults.specs.declared.first.Fault.{Fault}
-use Rattle.faults.specs.declared.first.Fault.the-variants as fault
 use Rattle.files.specs.declared.telling.Sought.{Sought}
 use Rattle.files.specs.declared.telling.Sought.the-variants as sought
 use Rattle.files.specs.declared.telling.Place.{Place}
 
--- ---- lines that have a word: a table's first line and its rows, or rules
+-- ---- lines that have a word: a table's first line and its rows
 
 -- a sum in 64 bits, which no file's lines leave
 abbrev pub plus : ℕ → ℕ → ℕ
@@ -32,13 +29,6 @@ tableLine broken.NoDate rows = 0
 tableLine broken.FirstDay rows = 0
 tableLine (broken.Cell i m n) rows = plus i 1
 tableLine broken.LastDay rows = rows
-
--- the same of a list of rules, a rule to a line
-abbrev pub ruleLine : Fault → ℕ
-ruleLine fault.Nothing = 0
-ruleLine fault.Uneven = 0
-ruleLine (fault.At i f r) = i
-ruleLine (fault.Many i kind) = i
 
 -- the BS year of the row that so many of them come before, of which the first is no row
 unfoldable pub yearOf : ℕ → ℕ → ℕ

@@ -1,14 +1,21 @@
-// The two data files of the engine, read into lent buffers: a year table and a list of rules. What a line is, `fields` says, and
-// specs/File.antt what a whole file is. What a file holds is outside every contract: for some file each answer and each lent element is that.
+// The data files of the engine: a year table and a list of rules, read into lent buffers, and a file of names. What a line of a table is, `fields` says,
+// and specs/File.antt what a whole table is; what rules are, `rulefile`; what names are, `naming`. What a file holds is outside every contract: for
+// some file each answer and each lent element is that.
 mod arguments;
+mod listing;
 mod problems;
 mod reading;
 mod telling;
+mod texts;
 
+pub use arguments::names_asked;
+pub use arguments::names_at;
 pub use arguments::rules_asked;
 pub use arguments::rules_at;
 pub use arguments::table_at;
 use conversion::Table;
+pub use listing::NamesRead;
+pub use listing::RulesRead;
 pub use problems::Expected;
 pub use problems::Problem;
 pub use problems::put_problem;
@@ -16,17 +23,11 @@ use reading::Fault;
 use reading::Reading;
 ghost use mathlib.Core.Path.{_≡_};
 ghost use Rattle.files.specs.Problems.{wrongWith};
-ghost use Rattle.files.specs.File.{tableOf, rulesOf, ReadsTable, ReadsRules};
+ghost use Rattle.files.specs.File.{tableOf, ReadsTable};
 
 // A table's first line and how many numbers its rows have, from the front of the lent buffer; or what is wrong.
 pub enum TableRead {
     Is(Table, usize),
-    Not(Problem),
-}
-
-// How many numbers the rules have, from the front of the lent buffer; or what is wrong.
-pub enum RulesRead {
-    Are(usize),
     Not(Problem),
 }
 
@@ -36,9 +37,9 @@ enum Wrong {
     Nothing,
 }
 
-// What is wrong after a reading of rows of so many numbers.
-fn wrong_with(r: Reading, width: usize) -> Wrong
-    ensures { λ w. ⌜ w ≡ wrongWith width r ⌝ }
+// What is wrong after a reading.
+fn wrong_with(r: Reading) -> Wrong
+    ensures { λ w. ⌜ w ≡ wrongWith r ⌝ }
 {
     let fault = r.fault;
     let line = r.line;
@@ -49,10 +50,7 @@ fn wrong_with(r: Reading, width: usize) -> Wrong
             if r.awaits {
                 return Wrong::Is(Problem::At(line, Expected::Four));
             }
-            if width == 13 {
-                return Wrong::Is(Problem::At(line, Expected::Thirteen));
-            }
-            Wrong::Is(Problem::At(line, Expected::Eight))
+            Wrong::Is(Problem::At(line, Expected::Thirteen))
         }
         Fault::TooMany => Wrong::Is(Problem::At(line, Expected::End)),
         Fault::NotRead => Wrong::Is(Problem::NotRead),
@@ -70,7 +68,7 @@ fn wrong_with(r: Reading, width: usize) -> Wrong
 fn table_of(r: Reading) -> TableRead
     ensures { λ t. ⌜ t ≡ tableOf r ⌝ }
 {
-    match wrong_with(r, 13) {
+    match wrong_with(r) {
         Wrong::Is(p) => TableRead::Not(p),
         Wrong::Nothing => {
             let table = r.table;
@@ -79,28 +77,9 @@ fn table_of(r: Reading) -> TableRead
     }
 }
 
-// The rules that a reading gives.
-fn rules_of(r: Reading) -> RulesRead
-    ensures { λ t. ⌜ t ≡ rulesOf r ⌝ }
-{
-    match wrong_with(r, 8) {
-        Wrong::Is(p) => RulesRead::Not(p),
-        Wrong::Nothing => RulesRead::Are(r.count),
-    }
-}
-
 // Reads the year table in an open file: at most as many rows as the lent buffer has room for.
 pub fn read_table(fd: i32, rows: &mut [u16]) -> TableRead
     ensures { λ r. ⌜ ReadsTable (now (rows .entry)) r (now (rows .exit)) ⌝ }
 {
-    let mut names = [0u8; 0];
-    table_of(reading::read_all(fd, true, rows, &mut names))
-}
-
-// Reads the rules in an open file, at most as many as the lent buffer has room for, and the name behind each: 64 bytes of `names` for a rule, and a shorter
-// name ends with a 0 where the buffer held zeros.
-pub fn read_rules(fd: i32, rules: &mut [u16], names: &mut [u8]) -> RulesRead
-    ensures { λ r. ⌜ ReadsRules (now (rules .entry)) (now (names .entry)) r (now (rules .exit)) (now (names .exit)) ⌝ }
-{
-    rules_of(reading::read_all(fd, false, rules, names))
+    table_of(reading::read_all(fd, rows))
 }

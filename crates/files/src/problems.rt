@@ -8,7 +8,6 @@ pub enum Expected {
     Numbers,
     Four,
     Thirteen,
-    Eight,
     End,
 }
 
@@ -16,6 +15,7 @@ pub enum Expected {
 pub enum Problem {
     NotOpened,
     NotRead,
+    TooLarge,
     NoLine,
     At(u32, Expected),
 }
@@ -36,11 +36,6 @@ fn put_expected(out: &mut [u8], at: usize, e: Expected) -> usize
             out,
             at,
             b"13 numbers: the lengths of twelve months and their sum",
-        ),
-        Expected::Eight => text::put(
-            out,
-            at,
-            b"8 numbers: kind year month day half kala name holiday",
         ),
         Expected::End => text::put(out, at, b"the end of the file: there are too many lines"),
     }
@@ -63,6 +58,7 @@ fn put_what(out: &mut [u8], at: usize, p: Problem) -> usize
     match p {
         Problem::NotOpened => text::put(out, at, b": cannot be opened"),
         Problem::NotRead => text::put(out, at, b": cannot be read to its end"),
+        Problem::TooLarge => text::put(out, at, b": larger than 65536 bytes"),
         Problem::NoLine => text::put(out, at, b": expected a line of numbers, found none"),
         Problem::At(line, e) => put_at(out, at, line, e),
     }

@@ -1,4 +1,4 @@
-// A file line by line: its numbers are stored in a lent buffer, row behind row, and the names behind rules in another.
+// A year table line by line: its numbers are stored in a lent buffer, row behind row.
 ghost use mathlib.Core.Path.{_≡_};
 ghost use mathlib.Core.Bool.{true};
 ghost use Prim.Native.Nat.{_+_, _≤_};
@@ -33,12 +33,12 @@ pub struct Reading {
 }
 
 // Before the first line.
-fn first(awaits: bool) -> Reading
-    ensures { λ r. ⌜ r ≡ begin awaits ⌝ }
+fn first() -> Reading
+    ensures { λ r. ⌜ r ≡ begin ⌝ }
 {
     Reading {
         line: 0,
-        awaits,
+        awaits: true,
         table: Table {
             first_year: 0,
             year: 0,
@@ -66,13 +66,13 @@ fn is_well(r: Reading) -> bool
     }
 }
 
-// Stores the first n of a line's numbers from a place on.
-fn store(rows: &mut [u16], at: usize, values: [u16; 13], n: usize)
-    requires { ⌜ (n ≤ 13) × (length values ≡ 13) × (at + n ≤ length (now rows)) ⌝ }
-    ensures { λ _. ⌜ now (rows .exit) ≡ sets (now (rows .entry)) at (take n values) ⌝ }
+// Stores a line's thirteen numbers from a place on.
+fn store(rows: &mut [u16], at: usize, values: [u16; 13])
+    requires { ⌜ (length values ≡ 13) × (at + 13 ≤ length (now rows)) ⌝ }
+    ensures { λ _. ⌜ now (rows .exit) ≡ sets (now (rows .entry)) at (take 13 values) ⌝ }
 {
     let mut i = 0;
-    while i < n {
+    while i < 13 {
         rows[at + i] = values[i];
         i += 1;
     }
@@ -128,10 +128,10 @@ fn begun(r: Reading, values: [u16; 13]) -> Reading
     }
 }
 
-// The reading with so many numbers more.
-fn counted(r: Reading, n: usize) -> Reading
-    requires { ⌜ r .count + n ≤ 18446744073709551615 ⌝ }
-    ensures { λ q. ⌜ q ≡ File.counted n r ⌝ }
+// The reading with a row's numbers more.
+fn counted(r: Reading) -> Reading
+    requires { ⌜ r .count + 13 ≤ 18446744073709551615 ⌝ }
+    ensures { λ q. ⌜ q ≡ File.counted 13 r ⌝ }
 {
     let table = r.table;
     let fault = r.fault;
@@ -139,58 +139,48 @@ fn counted(r: Reading, n: usize) -> Reading
         line: r.line,
         awaits: r.awaits,
         table,
-        count: r.count + n,
+        count: r.count + 13,
         fault,
     }
 }
 
-// The reading with one row more, and the name in its line.
-fn stored(
-    r: Reading,
-    values: [u16; 13],
-    width: usize,
-    rows: &mut [u16],
-    names: &mut [u8],
-    s: &[u8],
-) -> Reading
-    requires { ⌜ (length values ≡ 13) × (width ≤ 13) ⌝ }
-    ensures { λ q. ⌜ made q (now (rows .exit)) (now (names .exit)) ≡
-        File.stored (made r (now (rows .entry)) (now (names .entry))) (now (s .entry)) (take width values) ⌝ }
+// The reading with one row more.
+fn stored(r: Reading, values: [u16; 13], rows: &mut [u16]) -> Reading
+    requires { ⌜ length values ≡ 13 ⌝ }
+    ensures { λ q. ⌜ made q (now (rows .exit)) ≡ File.stored (made r (now (rows .entry))) (take 13 values) ⌝ }
 {
     let count = r.count;
-    if rows.len() < width {
+    if rows.len() < 13 {
         return faulted(r, Fault::TooMany);
     }
-    if rows.len() - width < count {
+    if rows.len() - 13 < count {
         return faulted(r, Fault::TooMany);
     }
-    fields::keep_name(names, count / 8, s);
-    store(rows, count, values, width);
-    counted(r, width)
+    store(rows, count, values);
+    counted(r)
 }
 
 // How many numbers are wanted in a line.
-fn wanted(awaits: bool, width: usize) -> usize
-    ensures { λ n. ⌜ n ≡ File.wanted width awaits ⌝ }
+fn wanted(awaits: bool) -> usize
+    ensures { λ n. ⌜ n ≡ File.wanted awaits ⌝ }
 {
-    if awaits { 4 } else { width }
+    if awaits { 4 } else { 13 }
 }
 
 // The reading with a line's bytes.
-fn with_line(r: Reading, width: usize, rows: &mut [u16], names: &mut [u8], s: &[u8]) -> Reading
-    requires { ⌜ width ≤ 13 ⌝ }
-    ensures { λ q. ⌜ made q (now (rows .exit)) (now (names .exit)) ≡ withLine width (made r (now (rows .entry)) (now (names .entry))) (now (s .entry)) ⌝ }
+fn with_line(r: Reading, rows: &mut [u16], s: &[u8]) -> Reading
+    ensures { λ q. ⌜ made q (now (rows .exit)) ≡ withLine (made r (now (rows .entry))) (now (s .entry)) ⌝ }
 {
     let row = fields::read_row(s);
     let form = row.form;
     let values = row.values;
-    match fields::judge(form, wanted(r.awaits, width)) {
+    match fields::judge(form, wanted(r.awaits)) {
         Judged::Blank => r,
         Judged::Good => {
             if r.awaits {
                 return begun(r, values);
             }
-            stored(r, values, width, rows, names, s)
+            stored(r, values, rows)
         }
         Judged::NoNumber => faulted(r, Fault::NoNumber),
         Judged::OtherCount => faulted(r, Fault::OtherCount),
@@ -198,17 +188,8 @@ fn with_line(r: Reading, width: usize, rows: &mut [u16], names: &mut [u8], s: &[
 }
 
 // The reading with a line that came: its bytes, unless it was too long.
-fn with_next(
-    r: Reading,
-    width: usize,
-    rows: &mut [u16],
-    names: &mut [u8],
-    long: bool,
-    s: &[u8],
-) -> Reading
-    requires { ⌜ width ≤ 13 ⌝ }
-    ensures { λ q. ⌜ made q (now (rows .exit)) (now (names .exit)) ≡
-        withNext width (made r (now (rows .entry)) (now (names .entry))) (cameAs long (now (s .entry))) ⌝ }
+fn with_next(r: Reading, rows: &mut [u16], long: bool, s: &[u8]) -> Reading
+    ensures { λ q. ⌜ made q (now (rows .exit)) ≡ withNext (made r (now (rows .entry))) (cameAs long (now (s .entry))) ⌝ }
 {
     if 10000 <= r.line {
         return faulted(r, Fault::TooMany);
@@ -217,21 +198,13 @@ fn with_next(
     if long {
         return faulted(q, Fault::LongLine);
     }
-    with_line(q, width, rows, names, s)
+    with_line(q, rows, s)
 }
 
 // The reading with what the input brought: a line in the lent buffer, or its end.
-fn with_input(
-    r: Reading,
-    width: usize,
-    rows: &mut [u16],
-    names: &mut [u8],
-    input: Input,
-    line: &[u8],
-) -> Reading
-    requires { ⌜ (width ≤ 13) × (input .len ≤ length (now line)) ⌝ }
-    ensures { λ q. ⌜ made q (now (rows .exit)) (now (names .exit)) ≡
-        withInput width (made r (now (rows .entry)) (now (names .entry))) input (now (line .entry)) ⌝ }
+fn with_input(r: Reading, rows: &mut [u16], input: Input, line: &[u8]) -> Reading
+    requires { ⌜ input .len ≤ length (now line) ⌝ }
+    ensures { λ q. ⌜ made q (now (rows .exit)) ≡ withInput (made r (now (rows .entry))) input (now (line .entry)) ⌝ }
 {
     let n = input.len;
     if input.failed {
@@ -240,28 +213,19 @@ fn with_input(
     if input.left == 0 {
         return r;
     }
-    with_next(r, width, rows, names, input.long, &line[..n])
+    with_next(r, rows, input.long, &line[..n])
 }
 
 // The reading of all lines of a descriptor. The steps are enough for 10,000 lines and for 160 million bytes.
-fn read_lines(
-    fd: i32,
-    r: Reading,
-    width: usize,
-    rows: &mut [u16],
-    names: &mut [u8],
-    piece: &mut [u8],
-    line: &mut [u8],
-) -> Reading
-    requires { ⌜ (width ≤ 13) × (well (r .fault) ≡ true) ⌝ }
-    ensures { λ q. ⌜ Makes (length (now (line .entry))) width (made r (now (rows .entry)) (now (names .entry)))
-        (made q (now (rows .exit)) (now (names .exit))) ⌝ }
+fn read_lines(fd: i32, r: Reading, rows: &mut [u16], piece: &mut [u8], line: &mut [u8]) -> Reading
+    requires { ⌜ well (r .fault) ≡ true ⌝ }
+    ensures { λ q. ⌜ Makes (length (now (line .entry))) (made r (now (rows .entry))) (made q (now (rows .exit))) ⌝ }
 {
     let mut q = r;
     let mut input = lines::start(50000);
     while 0 < input.left {
         input = lines::next_line(fd, input, piece, line);
-        q = with_input(q, width, rows, names, input, line);
+        q = with_input(q, rows, input, line);
         if !is_well(q) {
             return q;
         }
@@ -269,37 +233,21 @@ fn read_lines(
     q
 }
 
-// How many numbers a row has.
-fn width(awaits: bool) -> usize
-    ensures { λ n. ⌜ (n ≡ File.width awaits) × (n ≤ 13) ⌝ }
-{
-    if awaits { 13 } else { 8 }
-}
-
-// The reading of a descriptor from its first line: of a table, where its first line is awaited, or of rules.
-fn read_open(fd: i32, awaits: bool, rows: &mut [u16], names: &mut [u8]) -> Reading
-    ensures { λ q. ⌜ Makes 4096 (File.width awaits) (made (begin awaits) (now (rows .entry)) (now (names .entry)))
-        (made q (now (rows .exit)) (now (names .exit))) ⌝ }
+// The reading of a descriptor from its first line.
+fn read_open(fd: i32, rows: &mut [u16]) -> Reading
+    ensures { λ q. ⌜ Makes 4096 (made begin (now (rows .entry))) (made q (now (rows .exit))) ⌝ }
 {
     let mut piece = [0u8; 4096];
     let mut line = [0u8; 4096];
-    read_lines(
-        fd,
-        first(awaits),
-        width(awaits),
-        rows,
-        names,
-        &mut piece,
-        &mut line,
-    )
+    read_lines(fd, first(), rows, &mut piece, &mut line)
 }
 
 // The reading of an open file; a number below 0 is none.
-pub fn read_all(fd: i32, awaits: bool, rows: &mut [u16], names: &mut [u8]) -> Reading
-    ensures { λ q. ⌜ Reads awaits (now (rows .entry)) (now (names .entry)) (made q (now (rows .exit)) (now (names .exit))) ⌝ }
+pub fn read_all(fd: i32, rows: &mut [u16]) -> Reading
+    ensures { λ q. ⌜ Reads (now (rows .entry)) (made q (now (rows .exit))) ⌝ }
 {
     if fd < 0 {
-        return faulted(first(awaits), Fault::NotOpened);
+        return faulted(first(), Fault::NotOpened);
     }
-    read_open(fd, awaits, rows, names)
+    read_open(fd, rows)
 }

@@ -1,18 +1,22 @@
-// What is told on standard error of a file that was read: the line in which its table or its rules break a rule of acceptance, and the first row whose
-// comment says another year. To find a line the file is read once more, where it can be.
+// What is told on standard error of a file that was read: the line in which a table or rules break a rule of acceptance, a line that is out of form,
+// and the first row of a table whose comment says another year. To find a line of a table the file is read once more, where it can be.
+ghost use Prim.Native.Nat.{_≤_};
 ghost use mathlib.Core.Path.{_≡_};
+ghost use lib.ListN.{length};
 ghost use Rattle.text.specs.Reading.{wholeSays};
 ghost use Rattle.text.specs.Written.{Wrote};
-ghost use Rattle.files.specs.Told.{tableLine, ruleLine, yearOf, otherYear, yearIn, meets, nowhere, lookedAt, placeText, yearsText, warningText};
+ghost use Rattle.files.specs.Told.{tableLine, yearOf, otherYear, yearIn, meets, nowhere, lookedAt, placeText, yearsText, warningText};
+ghost use Rattle.files.specs.Texts.{lineText, nameFaultText};
 ghost use Rattle.files.specs.Inner.{Looks};
-use crate::RulesRead;
 use crate::TableRead;
 use crate::problems::Problem;
 use conversion::Table;
 use faults::Fault;
+use keyed::Line;
 use libc::STDERR_FILENO;
 use std::num::wrapping_add_u64;
 use tables::Broken;
+use text::Cursor;
 use text::Whole;
 
 // What is sought among the lines that have a word: the one that so many come before; or, in a table that begins with this year, the first row
@@ -44,18 +48,6 @@ fn table_line(b: Broken, rows: usize) -> u64
         Broken::FirstDay => 0,
         Broken::Cell(i, _, _) => wrapping_add_u64(i as u64, 1),
         Broken::LastDay => rows as u64,
-    }
-}
-
-// The same of a list of rules, a rule to a line.
-fn rule_line(f: Fault) -> u64
-    ensures { λ n. ⌜ n ≡ ruleLine f ⌝ }
-{
-    match f {
-        Fault::Nothing => 0,
-        Fault::Uneven => 0,
-        Fault::At(i, _, _) => i as u64,
-        Fault::Many(i, _) => i as u64,
     }
 }
 
@@ -203,7 +195,7 @@ fn put_warning(out: &mut [u8], at: usize, path: &[u8], p: Place, year: u64) -> u
 }
 
 // Says what is wrong with a file.
-fn report(path: &[u8], p: Problem) {
+pub fn report(path: &[u8], p: Problem) {
     let mut out = [0u8; 4608];
     let n = crate::put_problem(&mut out, 0, path, p);
     io::write_all(STDERR_FILENO, &out[..n]);
@@ -217,11 +209,127 @@ fn report_table(path: &[u8], p: Place, table: Table, b: Broken) {
     io::write_all(STDERR_FILENO, &out[..n]);
 }
 
-// Says where a list of rules breaks a rule.
-fn report_rules(path: &[u8], p: Place, f: Fault) {
+// How many lines of a text are the ones due in a rule file, and the place behind them.
+struct Walked {
+    count: usize,
+    at: usize,
+}
+
+// The line due after i lines.
+fn read_due(s: &[u8], c: Cursor, i: usize) -> Line {
+    match i % 8 {
+        0 => keyed::read_line(s, c, b"kind"),
+        1 => keyed::read_line(s, c, b"year"),
+        2 => keyed::read_line(s, c, b"month"),
+        3 => keyed::read_line(s, c, b"day"),
+        4 => keyed::read_line(s, c, b"half"),
+        5 => keyed::read_line(s, c, b"kala"),
+        6 => keyed::read_line(s, c, b"name"),
+        _ => keyed::read_line(s, c, b"holiday"),
+    }
+}
+
+// Walks over the lines that are the ones due, and stores their numbers as long as there is room.
+fn walk(s: &[u8], numbers: &mut [u16]) -> Walked
+    ensures { λ r. ⌜ r .count ≤ length (now (numbers .exit)) ⌝ }
+{
+    let mut at = 0;
+    let mut i = 0;
+    while i < numbers.len() {
+        let Line::Number(n, next) = read_due(s, Cursor { at }, i) else {
+            return Walked { count: i, at };
+        };
+        numbers[i] = n;
+        at = next.at;
+        i += 1;
+    }
+    Walked { count: i, at }
+}
+
+// Writes the name of a file and a line of it.
+fn put_line(out: &mut [u8], at: usize, path: &[u8], n: u64) -> usize
+    ensures { λ r. ⌜ Wrote (now (out .entry)) at (lineText (now (path .entry)) «n») (now (out .exit)) r ⌝ }
+{
+    let a = text::put(out, at, path);
+    let b = text::put(out, a, b", line ");
+    let c = text::put_decimal(out, b, n);
+    text::put(out, c, b": ")
+}
+
+// Says what was expected in the line that i come before, with which this text begins.
+fn report_line(path: &[u8], i: usize, rest: &[u8]) {
     let mut out = [0u8; 4608];
-    let a = put_place(&mut out, 0, path, p);
+    let a = put_line(&mut out, 0, path, wrapping_add_u64(i as u64, 1));
+    let n = faults::put_line_fault(&mut out, a, i, rest);
+    io::write_all(STDERR_FILENO, &out[..n]);
+}
+
+// Says which line of a rule file is out of form, and why. A text of 65,536 bytes has less than 8,888 lines that are the ones due.
+pub fn tell_out_of_form(path: &[u8], s: &[u8]) {
+    let mut numbers = [0u16; 8888];
+    let w = walk(s, &mut numbers);
+    let at = w.at;
+    if at <= s.len() {
+        report_line(path, w.count, &s[at..]);
+    }
+}
+
+// Says where a list of rules breaks a rule.
+fn report_rules(path: &[u8], f: Fault) {
+    let mut out = [0u8; 4608];
+    let a = text::put(&mut out, 0, path);
     let n = faults::put_refusal(&mut out, a, f);
+    io::write_all(STDERR_FILENO, &out[..n]);
+}
+
+// Says where the rules of a file in form are refused.
+pub fn tell_refused(path: &[u8], s: &[u8]) {
+    let mut numbers = [0u16; 8888];
+    let w = walk(s, &mut numbers);
+    let n = w.count;
+    report_rules(path, faults::first_fault(&numbers[..n]));
+}
+
+// Writes what is wrong with a line of names.
+fn put_name_fault(out: &mut [u8], at: usize, fault: naming::Fault) -> usize
+    ensures { λ r. ⌜ Wrote (now (out .entry)) at (nameFaultText fault) (now (out .exit)) r ⌝ }
+{
+    match fault {
+        naming::Fault::Mark => text::put(
+            out,
+            at,
+            b"expected NUMBER=TEXT: the file begins with a byte order mark\n",
+        ),
+        naming::Fault::Form => text::put(out, at, b"expected NUMBER=TEXT\n"),
+        naming::Fault::NotGreater => text::put(
+            out,
+            at,
+            b"expected a number greater than the one before\n",
+        ),
+        naming::Fault::NoText => text::put(out, at, b"expected NUMBER=TEXT: the text is empty\n"),
+        naming::Fault::NotUtf8 => text::put(out, at, b"expected a text in UTF-8\n"),
+        naming::Fault::Control(b) => {
+            let a = text::put(
+                out,
+                at,
+                b"expected a text without control characters, found byte ",
+            );
+            let c = text::put_decimal(out, a, b as u64);
+            text::put(out, c, b"\n")
+        }
+        naming::Fault::NoFeed => text::put(
+            out,
+            at,
+            b"expected NUMBER=TEXT: the file's last line has no line feed\n",
+        ),
+    }
+}
+
+// Says which line of a file of names is out of form, and why.
+pub fn tell_name(path: &[u8], line: usize, fault: naming::Fault) {
+    let mut out = [0u8; 4608];
+    let a = put_line(&mut out, 0, path, line as u64);
+    let n = put_name_fault(&mut out, a, fault);
     io::write_all(STDERR_FILENO, &out[..n]);
 }
 
@@ -254,15 +362,6 @@ fn judge_table(fd: i32, path: &[u8], table: Table, rows: &[u16]) {
     report_table(path, p, table, b);
 }
 
-// Says where a list of rules is refused.
-fn judge_rules(fd: i32, path: &[u8], rules: &[u16]) {
-    if rules::accepts_rules(rules) {
-        return;
-    }
-    let f = faults::first_fault(rules);
-    report_rules(path, look(fd, Sought::Line(rule_line(f))), f);
-}
-
 // Says what there is to say of a table that was read.
 pub fn tell_table(fd: i32, path: &[u8], r: TableRead, rows: &[u16]) {
     match r {
@@ -272,17 +371,5 @@ pub fn tell_table(fd: i32, path: &[u8], r: TableRead, rows: &[u16]) {
             }
         }
         TableRead::Not(p) => report(path, p),
-    }
-}
-
-// The same of rules.
-pub fn tell_rules(fd: i32, path: &[u8], r: RulesRead, rules: &[u16]) {
-    match r {
-        RulesRead::Are(n) => {
-            if n <= rules.len() {
-                judge_rules(fd, path, &rules[..n]);
-            }
-        }
-        RulesRead::Not(p) => report(path, p),
     }
 }

@@ -5,7 +5,7 @@ use mathlib.Core.Path.{_≡_, refl, sym, ap, _∙_}
 use mathlib.Core.List.{List, [], _∷_, _++_}
 use native.Mathlib.Omega.{arith}
 use lib.Dec.{eqb}
-use Rattle.fields.specs.Line.{nameOf}
+use Rattle.wall.specs.Names.{nameText}
 use Rattle.rules.specs.declared.Rule.{Rule}
 use Rattle.rules.specs.Rules.{ruleAt, rulesFrom}
 use Rattle.output.specs.Gathered.{Gathered, gathered}
@@ -40,18 +40,18 @@ or-true false = refl
 
 module _ (month : ℕ) {q r : Rule} (e : q ≡ r) where
   module _ (t : no-rule month q ≡ true) where
-    pub next-none : (names : List ℕ) (i : ℕ) (l : List ℕ) (o : Out) → Puts l o (itemPieces names month i r) l o
+    pub next-none : (names : List ℕ) (l : List ℕ) (o : Out) → Puts l o (itemPieces names month r) l o
     unfolding itemPieces
-    next-none names i l o = rw (← e, of-no month q, t) (puts-none l o)
+    next-none names l o = rw (← e, of-no month q, t) (puts-none l o)
 
     pub begun-none : (begun : Bool) → begun ≡ (begun || isOf month r)
     begun-none begun = rw (← e, of-no month q, t) (or-false begun)
 
   module _ (t : no-rule month q ≡ false) where
-    pub next-rule : (names : List ℕ) (i : ℕ) {l : List ℕ} {o : Out} {m : List ℕ} {p : Out}
-        → Puts l o (rulePieces (q .name) (nameOf i names)) m p → Puts l o (itemPieces names month i r) m p
+    pub next-rule : (names : List ℕ) {l : List ℕ} {o : Out} {m : List ℕ} {p : Out}
+        → Puts l o (rulePieces (q .name) (nameText (q .name) names)) m p → Puts l o (itemPieces names month r) m p
     unfolding itemPieces
-    next-rule names i w = rw (← e, of-no month q, t) w
+    next-rule names w = rw (← e, of-no month q, t) w
 
     pub begun-rule : (begun : Bool) → true ≡ (begun || isOf month r)
     begun-rule begun = rw (← e, of-no month q, t) (or-true begun)
@@ -59,34 +59,34 @@ module _ (month : ℕ) {q r : Rule} (e : q ≡ r) where
 -- ---- a list of rules
 
 module _ (names : List ℕ) (month : ℕ) (rules : List ℕ) where
-  list-over : (i n : ℕ) (begun : Bool) → n ≤ i → listPieces names month i begun (rulesFrom rules i (n - i)) ≡ endOf begun ∷ []
+  list-over : (i n : ℕ) (begun : Bool) → n ≤ i → listPieces names month begun (rulesFrom rules i (n - i)) ≡ endOf begun ∷ []
   unfolding listPieces
   list-over i n begun h = let e : n - i ≡ 0 = omega arith in rw e
 
   list-turn : (i n : ℕ) (begun : Bool) → i < n
-      → itemPieces names month i (ruleAt rules i) ++ listPieces names month (i + 1) (begun || isOf month (ruleAt rules i)) (rulesFrom rules (i + 1) (n - (i + 1)))
-      ≡ listPieces names month i begun (rulesFrom rules i (n - i))
+      → itemPieces names month (ruleAt rules i) ++ listPieces names month (begun || isOf month (ruleAt rules i)) (rulesFrom rules (i + 1) (n - (i + 1)))
+      ≡ listPieces names month begun (rulesFrom rules i (n - i))
   unfolding listPieces
   list-turn i n begun h = let e : n - i ≡ suc (n - (i + 1)) = omega arith in rw e
 
   -- the rules from number i on, behind what is gathered now, make the whole line
   pub record Rest (n : ℕ) (whole : Gathered) (i : ℕ) (l : List ℕ) (d : Listed) : Type 0 where
-    pub same : putPieces (gathered l (d .out)) (listPieces names month i (d .some) (rulesFrom rules i (n - i))) ≡ whole
+    pub same : putPieces (gathered l (d .out)) (listPieces names month (d .some) (rulesFrom rules i (n - i))) ≡ whole
 
 module _ {names : List ℕ} {month : ℕ} {rules : List ℕ} {n : ℕ} where
-  pub rest-all : (l : List ℕ) (d : Listed) → Rest names month rules n (putPieces (gathered l (d .out)) (listPieces names month 0 (d .some) (rulesFrom rules 0 n))) 0 l d
+  pub rest-all : (l : List ℕ) (d : Listed) → Rest names month rules n (putPieces (gathered l (d .out)) (listPieces names month (d .some) (rulesFrom rules 0 n))) 0 l d
   rest-all l d = record { same = let e : n - 0 ≡ n = omega arith in rw e }
 
   module _ {whole : Gathered} {i : ℕ} {l : List ℕ} {d : Listed} (a : Rest names month rules n whole i l d) where
-    pub rest-turn : {m : List ℕ} {e : Listed} → i < n → Puts l (d .out) (itemPieces names month i (ruleAt rules i)) m (e .out)
+    pub rest-turn : {m : List ℕ} {e : Listed} → i < n → Puts l (d .out) (itemPieces names month (ruleAt rules i)) m (e .out)
         → e .some ≡ (d .some || isOf month (ruleAt rules i)) → Rest names month rules n whole (i + 1) m e
     rest-turn {m} {e} h w s =
-        let item = itemPieces names month i (ruleAt rules i) in
+        let item = itemPieces names month (ruleAt rules i) in
         let rest = rulesFrom rules (i + 1) (n - (i + 1)) in
         record {
-          same = ap (λ (g : Gathered). putPieces g (listPieces names month (i + 1) (e .some) rest)) (w .same)
-              ∙ ap (λ (b : Bool). putPieces (putPieces (gathered l (d .out)) item) (listPieces names month (i + 1) b rest)) s
-              ∙ sym (pieces-append (gathered l (d .out)) item (listPieces names month (i + 1) (d .some || isOf month (ruleAt rules i)) rest))
+          same = ap (λ (g : Gathered). putPieces g (listPieces names month (e .some) rest)) (w .same)
+              ∙ ap (λ (b : Bool). putPieces (putPieces (gathered l (d .out)) item) (listPieces names month b rest)) s
+              ∙ sym (pieces-append (gathered l (d .out)) item (listPieces names month (d .some || isOf month (ruleAt rules i)) rest))
               ∙ ap (putPieces (gathered l (d .out))) (list-turn names month rules i n (d .some) h)
               ∙ a .same;
         }

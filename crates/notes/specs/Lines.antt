@@ -6,7 +6,7 @@ use lib.Dec.{leb, eqb}
 use lib.Ieee.{Float}
 use Rattle.text.specs.Digits.{digits}
 use Rattle.text.specs.Quoted.{bytes}
-use Rattle.fields.specs.Line.{nameOf}
+use Rattle.wall.specs.Names.{nameText}
 use Rattle.rules.specs.declared.Rule.{Rule}
 use Rattle.conversion.specs.declared.BsDate.{BsDate}
 use Rattle.panchanga.specs.Clock.{clockOf}
@@ -67,19 +67,19 @@ unfoldable pub rulePieces : ℕ → Text → List Text
 rulePieces number name = bytes "\n      " ∷ digits number ∷ bytes " " ∷ name ∷ []
 
 module _ (names : List ℕ) (month : ℕ) where
-  -- rule i, if it is one of the month
-  unfoldable pub itemPieces : ℕ → Rule → List Text
-  itemPieces i r = cond (isOf month r) (rulePieces (r .name) (nameOf i names)) []
+  -- a rule, if it is one of the month
+  unfoldable pub itemPieces : Rule → List Text
+  itemPieces r = cond (isOf month r) (rulePieces (r .name) (nameText (r .name) names)) []
 
-  -- the rules of a list from number i on, behind others or none
-  unfoldable pub listPieces : ℕ → Bool → List Rule → List Text
-  listPieces i begun [] = endOf begun ∷ []
-  listPieces i begun (r ∷ rs) = itemPieces i r ++ listPieces (i + 1) (begun || isOf month r) rs
+  -- the rules of a list, behind others or none
+  unfoldable pub listPieces : Bool → List Rule → List Text
+  listPieces begun [] = endOf begun ∷ []
+  listPieces begun (r ∷ rs) = itemPieces r ++ listPieces (begun || isOf month r) rs
 
 module _ (rules : List Rule) (names : List ℕ) where
   -- the month, and its rules each on a line
   unfoldable pub rulesPieces : ℕ → List Text
-  rulesPieces month = bytes "    rules of lunar month " ∷ digits month ∷ bytes ":" ∷ listPieces names month 0 false rules
+  rulesPieces month = bytes "    rules of lunar month " ∷ digits month ∷ bytes ":" ∷ listPieces names month false rules
 
   -- a new moon after the beginning of its month or else before the end, what it opens, and the rules of the two months that meet there
   unfoldable pub besidePieces : BsDate → Bool → Bool → ℕ → List Text

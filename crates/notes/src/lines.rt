@@ -8,31 +8,31 @@ ghost use mathlib.Core.Bool.{false, _||_};
 ghost use mathlib.Core.List.{[], _∷_};
 ghost use Prim.Native.Nat.{_+_, _*_, _≤_};
 ghost use lib.ListN.{length};
-ghost use Rattle.fields.specs.Line.{nameOf};
+ghost use Rattle.wall.specs.Names.{nameText};
 ghost use Rattle.rules.specs.Rules.{ruleAt, rulesOf};
 ghost use Rattle.output.specs.Pieces.{Puts};
 ghost use Rattle.notes.specs.Lines.{monthBefore, monthAfter, earlierOf, laterOf, momentPieces, wherePieces, openingPieces, nonePieces};
 ghost use Rattle.notes.specs.Lines.{isOf, endOf, rulePieces, itemPieces, listPieces, rulesPieces, besidePieces};
 
-// The name text of rule i, at most 64 bytes.
-fn put_rule_name(o: Out, out: &mut [u8], names: &[u8], i: usize) -> Out
-    ensures { λ r. ⌜ Puts (now (out .entry)) o (nameOf i (now (names .entry)) ∷ []) (now (out .exit)) r ⌝ }
+// The text of a name.
+fn put_rule_name(o: Out, out: &mut [u8], name: u16, names: &[u8]) -> Out
+    ensures { λ r. ⌜ Puts (now (out .entry)) o (nameText name (now (names .entry)) ∷ []) (now (out .exit)) r ⌝ }
 {
     let r = o.room(out, 128);
     Out {
-        at: fields::put_name(out, r.at, names, i),
+        at: wall::put_festival_name(out, r.at, name, names),
         begun: false,
         failed: r.failed,
     }
 }
 
 // One rule more of a list, on a line of its own: its name as a number and as text.
-fn put_rule_line(o: Out, out: &mut [u8], name: u16, names: &[u8], i: usize) -> Out
-    ensures { λ r. ⌜ Puts (now (out .entry)) o (rulePieces name (nameOf i (now (names .entry)))) (now (out .exit)) r ⌝ }
+fn put_rule_line(o: Out, out: &mut [u8], name: u16, names: &[u8]) -> Out
+    ensures { λ r. ⌜ Puts (now (out .entry)) o (rulePieces name (nameText name (now (names .entry)))) (now (out .exit)) r ⌝ }
 {
     let a = output::put_labelled(o, out, b"\n      ", name as u64);
     let b = output::put_text(a, out, b" ");
-    put_rule_name(b, out, names, i)
+    put_rule_name(b, out, name, names)
 }
 
 // What is written, and whether a rule stands there.
@@ -51,7 +51,7 @@ fn put_if_of_month(
     i: usize,
 ) -> Listed
     requires { ⌜ i * 8 + 8 ≤ length (now rules) ⌝ }
-    ensures { λ q. ⌜ Puts (now (out .entry)) (l .out) (itemPieces (now (names .entry)) month i (ruleAt (now (rules .entry)) i)) (now (out .exit)) (q .out) ⌝ }
+    ensures { λ q. ⌜ Puts (now (out .entry)) (l .out) (itemPieces (now (names .entry)) month (ruleAt (now (rules .entry)) i)) (now (out .exit)) (q .out) ⌝ }
     ensures { λ q. ⌜ q .some ≡ (l .some || isOf month (ruleAt (now (rules .entry)) i)) ⌝ }
 {
     let r = rules::rule_at(rules, i);
@@ -60,7 +60,7 @@ fn put_if_of_month(
         return l;
     }
     Listed {
-        out: put_rule_line(o, out, r.name, names, i),
+        out: put_rule_line(o, out, r.name, names),
         some: true,
     }
 }
@@ -75,7 +75,7 @@ fn put_rules_end(l: Listed, out: &mut [u8]) -> Out
 
 // The computed rules of a lunar month, each on its line; or none.
 fn put_rule_lines(o: Out, out: &mut [u8], month: u16, rules: &[u16], names: &[u8]) -> Out
-    ensures { λ r. ⌜ Puts (now (out .entry)) o (listPieces (now (names .entry)) month 0 false (rulesOf (now (rules .entry)))) (now (out .exit)) r ⌝ }
+    ensures { λ r. ⌜ Puts (now (out .entry)) o (listPieces (now (names .entry)) month false (rulesOf (now (rules .entry)))) (now (out .exit)) r ⌝ }
 {
     let mut l = Listed {
         out: o,

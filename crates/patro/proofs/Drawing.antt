@@ -50,39 +50,39 @@ drawn-page (refused k) l w = absurd (refused-answered refl (sym (w .says)))
 
 module _ (text out : List ℕ) where
   -- a page that is too long for any buffer, or for this one
-  pub long : 65535 < length text → Lays (laid (answered text) out) out (L.Refused R.NoRoom)
+  pub long : 262143 < length text → Lays (laid (answered text) out) out (L.Refused R.NoRoom)
   unfolding laid
-  long h = rw (lt-leb (length text) 65535 h) (record { says = refl; stored = refl })
+  long h = rw (lt-leb (length text) 262143 h) (record { says = refl; stored = refl })
 
   pub longer : length out < length text → Lays (laid (answered text) out) out (L.Refused R.NoRoom)
   unfolding laid
-  longer h = rw (lt-leb (length text) (length out) h, and-false (leb (length text) 65535)) (record { says = refl; stored = refl })
+  longer h = rw (lt-leb (length text) (length out) h, and-false (leb (length text) 262143)) (record { says = refl; stored = refl })
 
   -- a page that has room
-  pub fits : {after : List ℕ} {n : ℕ} → length text ≤ 65535 → length text ≤ length out → Wrote out 0 text after n → Lays (laid (answered text) out) after (L.Bytes n)
+  pub fits : {after : List ℕ} {n : ℕ} → length text ≤ 262143 → length text ≤ length out → Wrote out 0 text after n → Lays (laid (answered text) out) after (L.Bytes n)
   unfolding laid
   fits h k w =
-      rw (le-leb (length text) 65535 h, le-leb (length text) (length out) k) (record { says = ap answered (wrote-front w k .0); stored = w .stored ∙ sets-front text out k })
+      rw (le-leb (length text) 262143 h, le-leb (length text) (length out) k) (record { says = ap answered (wrote-front w k .0); stored = w .stored ∙ sets-front text out k })
 
--- a page that is cut off where its own buffer of 65,536 bytes ends is too long, as the whole is
-cut-laid : (text l page : List ℕ) (n : ℕ) (out : List ℕ) → length l ≡ 65536 → Wrote l 0 text page n → laid (answered (take n page)) out ≡ laid (answered text) out
+-- a page that is cut off where its own buffer of 262,144 bytes ends is too long, as the whole is
+cut-laid : (text l page : List ℕ) (n : ℕ) (out : List ℕ) → length l ≡ 262144 → Wrote l 0 text page n → laid (answered (take n page)) out ≡ laid (answered text) out
 unfolding laid
 cut-laid text l page n out e w =
-    ⊎-elim (λ (h : length text ≤ 65536). let q = wrote-front w (omega arith) in rw (q .1))
-    (λ (h : 65536 < length text).
+    ⊎-elim (λ (h : length text ≤ 262144). let q = wrote-front w (omega arith) in rw (q .1))
+    (λ (h : 262144 < length text).
     let z : length page ≡ length l = ap length (w .stored) ∙ simp length-sets in
     let f = w .end in
     let m : n ≤ length page = omega arith in
-    let k : 65535 < length (take n page) = rw (length-take-le n page m) (omega arith) in
-    rw (lt-leb (length (take n page)) 65535 k, lt-leb (length text) 65535 (omega arith)))
-    (split (length text) 65536)
+    let k : 262143 < length (take n page) = rw (length-take-le n page m) (omega arith) in
+    rw (lt-leb (length (take n page)) 262143 k, lt-leb (length text) 262143 (omega arith)))
+    (split (length text) 262144)
 
 -- what is drawn is laid
-module _ (a : Answer (List ℕ)) (l : List ℕ) (e : length l ≡ 65536) {page : List ℕ} {r : Laid} (w : Lays (drawn a l) page r) where
+module _ (a : Answer (List ℕ)) (l : List ℕ) (e : length l ≡ 262144) {page : List ℕ} {r : Laid} (w : Lays (drawn a l) page r) where
   drawn-bytes : {n : ℕ} → r ≡ L.Bytes n → (text : List ℕ) × ((a ≡ answered text) × Wrote l 0 text page n)
   drawn-bytes q = drawn-page a l (rw q at w)
 
-  pub bytes-few : {n : ℕ} → r ≡ L.Bytes n → n ≤ 65536
+  pub bytes-few : {n : ℕ} → r ≡ L.Bytes n → n ≤ 262144
   bytes-few q = let p = drawn-bytes q .1 .1 .end in omega arith
 
   pub lays-drawn : (out : List ℕ) {n : ℕ} → r ≡ L.Bytes n → laid (answered (take n page)) out ≡ laid a out
@@ -105,5 +105,5 @@ roomed-fits text out false p q = absurd (refused-answered refl (sym p))
 pub laid-fits : (a : Answer (List ℕ)) (out : List ℕ) {after : List ℕ} {r : Laid} {n : ℕ} → Lays (laid a out) after r → r ≡ L.Bytes n → n ≤ length after
 unfolding laid
 laid-fits (answered text) out w e =
-    roomed-fits text out (leb (length text) 65535 && leb (length text) (length out)) (sym (ap laidSays e) ∙ w .says) (w .stored)
+    roomed-fits text out (leb (length text) 262143 && leb (length text) (length out)) (sym (ap laidSays e) ∙ w .says) (w .stored)
 laid-fits (refused k) out w e = absurd (refused-answered (w .says) (ap laidSays e))

@@ -26,16 +26,16 @@ use Rattle.patro.specs.declared.pages.Part.{Part}
 use Rattle.patro.specs.declared.pages.Part.the-variants as P
 use Rattle.patro.specs.Pages.{cellOf, partPage, monthIn, pageBs}
 
-module _ (rules names : List ℕ) (y m d : ℕ) (x : Month) (cells festivals : List ℕ) where
-  pub day-zero : d ≡ 0 → partPage rules names y m (P.Day d) x cells festivals ≡ refused NoDay
+module _ (names : List ℕ) (y m d : ℕ) (x : Month) (cells festivals : List ℕ) where
+  pub day-zero : d ≡ 0 → partPage names y m (P.Day d) x cells festivals ≡ refused NoDay
   unfolding partPage
   day-zero e = given-off _ NoDay _ (rw e)
 
-  pub day-past : x .days < d → partPage rules names y m (P.Day d) x cells festivals ≡ refused NoDay
+  pub day-past : x .days < d → partPage names y m (P.Day d) x cells festivals ≡ refused NoDay
   unfolding partPage
   day-past h = given-off _ NoDay _ (rw (lt-leb d (x .days) h) (and-false (leb 1 d)))
 
-  pub day-in : (d ≡ 0 → ⊥) → d ≤ x .days → partPage rules names y m (P.Day d) x cells festivals ≡ answered (dayPage y m (cellOf d cells) rules names cells festivals)
+  pub day-in : (d ≡ 0 → ⊥) → d ≤ x .days → partPage names y m (P.Day d) x cells festivals ≡ answered (dayPage y m (cellOf d cells) names cells festivals)
   unfolding partPage
   day-in n h = given-on _ NoDay _ (and-both _ _ (le-leb 1 d (omega arith)) (le-leb d (x .days) h))
 
@@ -57,7 +57,7 @@ module _ (t : Table) (rows rules : List ℕ) (today : Date) (y m : ℕ) {g : Gri
   few-cells {x} e = weeks-few t rows rules today y m (replicate 504 0) (replicate 24576 0) x (sym (said gridSays e q))
 
   pub bs-page : (names : List ℕ) (part : Part) {x : Month} → g ≡ G.Is x
-      → pageBs t rows rules names today y m part ≡ partPage rules names y m part x (monthIn t rows rules today y m .cells) (monthIn t rows rules today y m .festivals)
+      → pageBs t rows rules names today y m part ≡ partPage names y m part x (monthIn t rows rules today y m .cells) (monthIn t rows rules today y m .festivals)
   unfolding pageBs
   bs-page names part {x} e = rw (← said gridSays e q) (then-answered x _)
 

@@ -40,10 +40,10 @@ abbrev pub titled : ℕ → ℕ → Month → Page
 titled y m x = record { year = y; month = m; first = x .first; last = x .last; weeks = x .cells / 7 }
 
 -- the whole month, or one of its days: refusal 6 where the day is 0 or past the month's end
-unfoldable pub partPage : List ℕ → List ℕ → ℕ → ℕ → Part → Month → List ℕ → List ℕ → Answer (List ℕ)
-partPage rules names y m P.Whole x cells festivals = answered (monthPage (titled y m x) rules names cells festivals)
-partPage rules names y m (P.Day d) x cells festivals =
-    given (leb 1 d && leb d (x .days)) NoDay (answered (dayPage y m (cellOf d cells) rules names cells festivals))
+unfoldable pub partPage : List ℕ → ℕ → ℕ → Part → Month → List ℕ → List ℕ → Answer (List ℕ)
+partPage names y m P.Whole x cells festivals = answered (monthPage (titled y m x) names cells festivals)
+partPage names y m (P.Day d) x cells festivals =
+    given (leb 1 d && leb d (x .days)) NoDay (answered (dayPage y m (cellOf d cells) names cells festivals))
 
 -- the month as the engine shows it in buffers of zeros for six weeks and for every list of a month: refusals 1, 2, 3 (today), 4, 5, 9
 abbrev pub monthIn : Table → List ℕ → List ℕ → Date → ℕ → ℕ → Shown
@@ -54,7 +54,7 @@ module _ (t : Table) (rows rules names : List ℕ) (today : Date) where
   unfoldable pub pageBs : ℕ → ℕ → Part → Answer (List ℕ)
   pageBs y m part =
       let shown = monthIn t rows rules today y m in
-      then (shown .answer) (λ x. partPage rules names y m part x (shown .cells) (shown .festivals))
+      then (shown .answer) (λ x. partPage names y m part x (shown .cells) (shown .festivals))
 
   -- a BS month, a BS date, a Gregorian date by its BS date (refusals 1, 3, 7 come first)
   unfoldable pub pageAsked : Asked → Answer (List ℕ)
@@ -69,10 +69,10 @@ pub record Laying : Type 0 where
   pub answer : Answer ℕ
   pub out : List ℕ
 
--- a page of at most 65,535 bytes that is no longer than the buffer stands at its front: refusal 9. A refusal changes nothing
+-- a page of at most 262,143 bytes that is no longer than the buffer stands at its front: refusal 9. A refusal changes nothing
 unfoldable pub laid : Answer (List ℕ) → List ℕ → Laying
 laid (answered text) out =
-    cond (leb (length text) 65535 && leb (length text) (length out))
+    cond (leb (length text) 262143 && leb (length text) (length out))
     (record { answer = answered (length text); out = over text out })
     (record { answer = refused NoRoom; out = out })
 laid (refused k) out = record { answer = refused k; out = out }

@@ -1,10 +1,11 @@
-// Writes a BS month as a wall calendar, or a day in full. Its arguments: the files of the year table and of the rules, today's Gregorian date, and then
-// a BS year and month, a BS date or a Gregorian date.
+// Writes a BS month as a wall calendar, or a day in full. Its arguments: the files of the year table, of the rules and of the names, today's
+// Gregorian date, and then a BS year and month, a BS date or a Gregorian date.
 mod pages;
 mod refusals;
 mod words;
 
 use conversion::Table;
+use files::NamesRead;
 use files::RulesRead;
 use files::TableRead;
 use gregorian::Date;
@@ -15,26 +16,26 @@ use paper::Refusal;
 use words::Asked;
 use words::Words;
 
-// Today by the third argument.
+// Today by the fourth argument.
 fn today() -> Date {
     let mut word = [0u8; 16];
-    let n = os::arg(3, &mut word);
+    let n = os::arg(4, &mut word);
     words::today(&word[..n])
 }
 
-// What the words from the fourth argument on ask. A word that is longer than its buffer is empty.
+// What the words from the fifth argument on ask. A word that is longer than its buffer is empty.
 fn from_words() -> Words {
     let mut first = [0u8; 16];
     let mut second = [0u8; 16];
     let mut third = [0u8; 16];
-    let a = os::arg(4, &mut first);
-    let b = os::arg(5, &mut second);
-    let c = os::arg(6, &mut third);
+    let a = os::arg(5, &mut first);
+    let b = os::arg(6, &mut second);
+    let c = os::arg(7, &mut third);
     let count = os::arg_count();
-    if count < 4 {
+    if count < 5 {
         return Words::Other;
     }
-    words::asked_by(count - 4, &first[..a], &second[..b], &third[..c])
+    words::asked_by(count - 5, &first[..a], &second[..b], &third[..c])
 }
 
 // Writes the line that says why there is no page to standard error. Where the table or the rules are refused, with 1 or 2, that was said with the
@@ -60,28 +61,31 @@ fn write_page(page: &[u8]) {
 
 // Writes what is asked.
 fn show(asked: Asked, table: Table, rows: &[u16], rules: &[u16], names: &[u8]) {
-    let mut page = [0u8; 65535];
+    let mut page = [0u8; 262143];
     match pages::lay(asked, today(), table, rows, rules, names, &mut page) {
         Laid::Bytes(n) => write_page(&page[..n]),
         Laid::Refused(why) => refuse(why),
     }
 }
 
-// Reads the two files and writes what is asked.
+// Reads the three files and writes what is asked.
 fn run(asked: Asked, rows: &mut [u16], rules: &mut [u16], names: &mut [u8]) {
     let TableRead::Is(table, n) = files::table_at(1, rows) else {
         return;
     };
-    let RulesRead::Are(k) = files::rules_at(2, rules, names) else {
+    let RulesRead::Are(k) = files::rules_at(2, rules) else {
         return;
     };
-    show(asked, table, &rows[..n], &rules[..k], names);
+    let NamesRead::Are(m) = files::names_at(3, names) else {
+        return;
+    };
+    show(asked, table, &rows[..n], &rules[..k], &names[..m]);
 }
 
 fn main() {
     let mut rows = [0u16; 1677];
     let mut rules = [0u16; 2600];
-    let mut names = [0u8; 20800];
+    let mut names = [0u8; 65536];
     match from_words() {
         Words::Ask(asked) => run(asked, &mut rows, &mut rules, &mut names),
         Words::Other => {

@@ -59,7 +59,6 @@ fn cell_of(cells: &[u16], day: u16) -> u8
 
 // Draws a part of a month from its cells and festivals, as far as the buffer goes.
 fn draw_part(
-    rules: &[u16],
     names: &[u8],
     year: u16,
     month: u16,
@@ -70,13 +69,13 @@ fn draw_part(
     page: &mut [u8],
 ) -> Laid
     requires { ⌜ (m .cells ≤ 42) × (length (now cells) ≡ 504) ⌝ }
-    ensures { λ r. ⌜ Lays (drawn (partPage (now (rules .entry)) (now (names .entry)) year month part m (now (cells .entry)) (now (festivals .entry)))
+    ensures { λ r. ⌜ Lays (drawn (partPage (now (names .entry)) year month part m (now (cells .entry)) (now (festivals .entry)))
         (now (page .entry))) (now (page .exit)) r ⌝ }
 {
     match part {
         Part::Whole => {
             let title = page_of(year, month, m);
-            Laid::Bytes(wall::put_month_page(page, 0, title, rules, names, cells, festivals))
+            Laid::Bytes(wall::put_month_page(page, 0, title, names, cells, festivals))
         }
         Part::Day(day) => {
             if day == 0 {
@@ -86,17 +85,7 @@ fn draw_part(
                 return Laid::Refused(Refusal::NoDay);
             }
             let cell = cell_of(cells, day);
-            Laid::Bytes(wall::put_day_page(
-                page,
-                0,
-                year,
-                month,
-                cell,
-                rules,
-                names,
-                cells,
-                festivals,
-            ))
+            Laid::Bytes(wall::put_day_page(page, 0, year, month, cell, names, cells, festivals))
         }
     }
 }
@@ -128,17 +117,7 @@ fn draw_bs(
         &mut cells,
         &mut festivals,
     ) {
-        GridAnswer::Is(m) => draw_part(
-            rules,
-            names,
-            year,
-            month,
-            part,
-            m,
-            &cells,
-            &festivals,
-            page,
-        ),
+        GridAnswer::Is(m) => draw_part(names, year, month, part, m, &cells, &festivals, page),
         GridAnswer::Refused(why) => Laid::Refused(why),
     }
 }
@@ -194,10 +173,10 @@ fn draw(
 
 // Copies the first n bytes of a page, where the page ended before its own buffer did and has room in the other.
 fn copy(page: &[u8], n: usize, out: &mut [u8]) -> Laid
-    requires { ⌜ (length (now page) ≡ 65536) × (n ≤ 65536) ⌝ }
+    requires { ⌜ (length (now page) ≡ 262144) × (n ≤ 262144) ⌝ }
     ensures { λ r. ⌜ Lays (laid (answered (take n (now (page .entry)))) (now (out .entry))) (now (out .exit)) r ⌝ }
 {
-    if 65535 < n {
+    if 262143 < n {
         return Laid::Refused(Refusal::NoRoom);
     }
     if out.len() < n {
@@ -219,7 +198,7 @@ pub fn lay(
     ensures { λ r. ⌜ Lays (laid (pageAsked table (now (rows .entry)) (now (rules .entry)) (now (names .entry)) today asked)
         (now (out .entry))) (now (out .exit)) r ⌝ }
 {
-    let mut page = [0u8; 65536];
+    let mut page = [0u8; 262144];
     match draw(asked, today, table, rows, rules, names, &mut page) {
         Laid::Bytes(n) => copy(&page, n, out),
         Laid::Refused(why) => Laid::Refused(why),

@@ -1,5 +1,6 @@
 // Appends a year's row without fear: what a longer year table adds, what it cannot change, and which of its new moons are doubtful.
 use conversion::Table;
+use files::NamesRead;
 use files::RulesRead;
 use files::TableRead;
 use libc::STDERR_FILENO;
@@ -126,7 +127,7 @@ fn answer(
     }
 }
 
-// Reads the rules that are asked, and answers over them and two tables.
+// Reads the rules and the names that are asked, and answers over them and two tables.
 fn answer_with(
     table: Table,
     old: &[u16],
@@ -137,17 +138,23 @@ fn answer_with(
     names: &mut [u8],
     out: &mut [u8],
 ) {
-    let RulesRead::Are(k) = files::rules_asked(3, count, rules, names) else {
+    let RulesRead::Are(k) = files::rules_asked(3, count, rules) else {
         return;
     };
-    answer(table, old, new_table, new, &rules[..k], names, out);
+    let NamesRead::Are(m) = files::names_asked(4, count, names) else {
+        return;
+    };
+    answer(table, old, new_table, new, &rules[..k], &names[..m], out);
 }
 
 // Reads the tables that the arguments name, and answers over the parts of the lent buffers that were read.
 fn run(old: &mut [u16], new: &mut [u16], rules: &mut [u16], names: &mut [u8], out: &mut [u8]) {
     let count = os::arg_count();
-    if (count != 3) & (count != 4) {
-        io::write_all(STDERR_FILENO, b"expected arguments: OLD NEW [RULES]\n");
+    if (count < 3) | (5 < count) {
+        io::write_all(
+            STDERR_FILENO,
+            b"expected arguments: OLD NEW [RULES [NAMES]]\n",
+        );
         return;
     }
     let TableRead::Is(table, n) = files::table_at(1, old) else {
@@ -172,7 +179,7 @@ fn main() {
     let mut old = [0u16; 1677];
     let mut new = [0u16; 1677];
     let mut rules = [0u16; 2600];
-    let mut names = [0u8; 20800];
+    let mut names = [0u8; 65536];
     let mut out = [0u8; 8192];
     run(&mut old, &mut new, &mut rules, &mut names, &mut out);
 }

@@ -1,6 +1,5 @@
 pub mod Going
 pub mod Parts
 pub mod Places
-pub mod Rules
 pub mod Counts
 pub mod Aligned

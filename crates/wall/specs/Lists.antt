@@ -20,15 +20,15 @@ unfoldable pub before : List ℕ → ℕ → ℕ
 before cells i = sum (λ k. num cells k 11) i
 
 -- the name of festival f, and whether it is a holiday: (holiday)
-unfoldable pub festivalText : List ℕ → List ℕ → List ℕ → ℕ → List ℕ
-festivalText rules names festivals f =
-    nameText 50 (getD festivals (f * 2) 0) rules names
+unfoldable pub festivalText : List ℕ → List ℕ → ℕ → List ℕ
+festivalText names festivals f =
+    nameText (getD festivals (f * 2) 0) names
     ++ marked (getD festivals (f * 2 + 1) 0) (bytes " (holiday)\n") (bytes "\n")
 
-module _ (rules names cells festivals : List ℕ) where
+module _ (names cells festivals : List ℕ) where
   -- the line of festival f, a festival of cell i
   abbrev pub lineOf : ℕ → ℕ → List ℕ
-  lineOf i f = dayOf cells i ++ festivalText rules names festivals f
+  lineOf i f = dayOf cells i ++ festivalText names festivals f
 
   -- the festivals of cell i
   unfoldable pub festivalsOn : ℕ → List ℕ

@@ -41,9 +41,9 @@ heads = border ++ ((repeated head 1 0 7 ++ bytes "|\n") ++ border)
 unfoldable pub legend : List ℕ
 legend = bytes "* holiday, << today; tithi 1 to 15 waxing, 16 to 30 waning half; Nepal time\n\n"
 
-unfoldable pub monthPage : Page → List ℕ → List ℕ → List ℕ → List ℕ → List ℕ
-monthPage p rules names cells festivals =
-    title p ++ (heads ++ (weeksOf cells (p .weeks) ++ (legend ++ festivalsOf rules names cells festivals (p .weeks * 7))))
+unfoldable pub monthPage : Page → List ℕ → List ℕ → List ℕ → List ℕ
+monthPage p names cells festivals =
+    title p ++ (heads ++ (weeksOf cells (p .weeks) ++ (legend ++ festivalsOf names cells festivals (p .weeks * 7))))
 
 -- ---- a day
 
@@ -86,6 +86,6 @@ holidayText cells i =
     (bytes "holiday  no\n")
 
 -- the day of cell i in a month
-unfoldable pub dayPage : ℕ → ℕ → ℕ → List ℕ → List ℕ → List ℕ → List ℕ → List ℕ
-dayPage year month i rules names cells festivals =
-    dayTitle year month cells i ++ (dateLine cells i ++ (readingText cells i ++ (holidayText cells i ++ festivalsOn rules names cells festivals i)))
+unfoldable pub dayPage : ℕ → ℕ → ℕ → List ℕ → List ℕ → List ℕ → List ℕ
+dayPage year month i names cells festivals =
+    dayTitle year month cells i ++ (dateLine cells i ++ (readingText cells i ++ (holidayText cells i ++ festivalsOn names cells festivals i)))

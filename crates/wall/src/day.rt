@@ -106,18 +106,17 @@ pub fn put_day_page(
     year: u16,
     month: u16,
     cell: u8,
-    rules: &[u16],
     names: &[u8],
     cells: &[u16],
     festivals: &[u16],
 ) -> usize
     ensures { λ r. ⌜ Wrote (now (out .entry)) at
-        (dayPage year month cell (now (rules .entry)) (now (names .entry)) (now (cells .entry)) (now (festivals .entry))) (now (out .exit)) r ⌝ }
+        (dayPage year month cell (now (names .entry)) (now (cells .entry)) (now (festivals .entry))) (now (out .exit)) r ⌝ }
 {
     let i = cell as usize;
     let a = put_day_title(out, at, year, month, cells, i);
     let b = put_date_line(out, a, cells, i);
     let c = put_reading(out, b, cells, i);
     let d = put_holiday(out, c, cells, i);
-    put_festivals_on(out, d, rules, names, cells, festivals, i)
+    put_festivals_on(out, d, names, cells, festivals, i)
 }

@@ -10,6 +10,7 @@ mod words;
 pub use day::put_day_page;
 use gregorian::Date;
 pub use month::put_month_page;
+pub use names::put_festival_name;
 
 // What the page of a month says beside its cells: BS year and month, its first and last Gregorian date, how many weeks its cells take.
 pub struct Page {

@@ -27,18 +27,11 @@ fn put_festival_day(out: &mut [u8], at: usize, cells: &[u16], i: usize) -> usize
 }
 
 // Writes the name of festival f, whether it is a holiday, and a line feed.
-fn put_festival(
-    out: &mut [u8],
-    at: usize,
-    rules: &[u16],
-    names: &[u8],
-    festivals: &[u16],
-    f: usize,
-) -> usize
+fn put_festival(out: &mut [u8], at: usize, names: &[u8], festivals: &[u16], f: usize) -> usize
     requires { ⌜ f ≤ 300000000 ⌝ }
-    ensures { λ r. ⌜ Wrote (now (out .entry)) at (festivalText (now (rules .entry)) (now (names .entry)) (now (festivals .entry)) f) (now (out .exit)) r ⌝ }
+    ensures { λ r. ⌜ Wrote (now (out .entry)) at (festivalText (now (names .entry)) (now (festivals .entry)) f) (now (out .exit)) r ⌝ }
 {
-    let a = put_festival_name(out, at, get(festivals, f * 2), 50, rules, names);
+    let a = put_festival_name(out, at, get(festivals, f * 2), names);
     put_mark(out, a, get(festivals, f * 2 + 1), b" (holiday)\n", b"\n")
 }
 
@@ -46,7 +39,6 @@ fn put_festival(
 fn put_festival_lines(
     out: &mut [u8],
     at: usize,
-    rules: &[u16],
     names: &[u8],
     cells: &[u16],
     festivals: &[u16],
@@ -56,14 +48,14 @@ fn put_festival_lines(
 ) -> usize
     requires { ⌜ (i ≤ 4096) × (from ≤ 299000000) ⌝ }
     ensures { λ r. ⌜ Wrote (now (out .entry)) at
-        (repeated (lineOf (now (rules .entry)) (now (names .entry)) (now (cells .entry)) (now (festivals .entry)) i) 1 from n) (now (out .exit)) r ⌝ }
+        (repeated (lineOf (now (names .entry)) (now (cells .entry)) (now (festivals .entry)) i) 1 from n) (now (out .exit)) r ⌝ }
 {
     let mut next = at;
     let mut f = from;
     let mut left = n;
     while 0 < left {
         let a = put_festival_day(out, next, cells, i);
-        next = put_festival(out, a, rules, names, festivals, f);
+        next = put_festival(out, a, names, festivals, f);
         f += 1;
         left -= 1;
     }
@@ -88,7 +80,6 @@ fn before(cells: &[u16], i: usize) -> usize
 pub fn put_festivals_on(
     out: &mut [u8],
     at: usize,
-    rules: &[u16],
     names: &[u8],
     cells: &[u16],
     festivals: &[u16],
@@ -96,27 +87,16 @@ pub fn put_festivals_on(
 ) -> usize
     requires { ⌜ i ≤ 4096 ⌝ }
     ensures { λ r. ⌜ Wrote (now (out .entry)) at
-        (festivalsOn (now (rules .entry)) (now (names .entry)) (now (cells .entry)) (now (festivals .entry)) i) (now (out .exit)) r ⌝ }
+        (festivalsOn (now (names .entry)) (now (cells .entry)) (now (festivals .entry)) i) (now (out .exit)) r ⌝ }
 {
     let f = before(cells, i);
-    put_festival_lines(
-        out,
-        at,
-        rules,
-        names,
-        cells,
-        festivals,
-        i,
-        f,
-        number(cells, i, 11),
-    )
+    put_festival_lines(out, at, names, cells, festivals, i, f, number(cells, i, 11))
 }
 
 // Writes the festivals of the first n cells.
 pub fn put_festivals(
     out: &mut [u8],
     at: usize,
-    rules: &[u16],
     names: &[u8],
     cells: &[u16],
     festivals: &[u16],
@@ -124,13 +104,13 @@ pub fn put_festivals(
 ) -> usize
     requires { ⌜ n ≤ 4096 ⌝ }
     ensures { λ r. ⌜ Wrote (now (out .entry)) at
-        (festivalsOf (now (rules .entry)) (now (names .entry)) (now (cells .entry)) (now (festivals .entry)) n) (now (out .exit)) r ⌝ }
+        (festivalsOf (now (names .entry)) (now (cells .entry)) (now (festivals .entry)) n) (now (out .exit)) r ⌝ }
 {
     let mut next = at;
     let mut i = 0;
     let mut left = n;
     while 0 < left {
-        next = put_festivals_on(out, next, rules, names, cells, festivals, i);
+        next = put_festivals_on(out, next, names, cells, festivals, i);
         i += 1;
         left -= 1;
     }

@@ -56,30 +56,21 @@ fn put_legend(out: &mut [u8], at: usize) -> usize
 }
 
 // Writes the page of a month from a place on, as far as the buffer goes, and answers the place after it. The cells and festivals are those of a month
-// grid, the names are 64 bytes for each rule.
+// grid, the names are a file of names.
 pub fn put_month_page(
     out: &mut [u8],
     at: usize,
     page: Page,
-    rules: &[u16],
     names: &[u8],
     cells: &[u16],
     festivals: &[u16],
 ) -> usize
     ensures { λ r. ⌜ Wrote (now (out .entry)) at
-        (monthPage page (now (rules .entry)) (now (names .entry)) (now (cells .entry)) (now (festivals .entry))) (now (out .exit)) r ⌝ }
+        (monthPage page (now (names .entry)) (now (cells .entry)) (now (festivals .entry))) (now (out .exit)) r ⌝ }
 {
     let a = put_title(out, at, page);
     let b = put_heads(out, a);
     let c = put_weeks(out, b, cells, page.weeks);
     let d = put_legend(out, c);
-    put_festivals(
-        out,
-        d,
-        rules,
-        names,
-        cells,
-        festivals,
-        page.weeks as u16 * 7,
-    )
+    put_festivals(out, d, names, cells, festivals, page.weeks as u16 * 7)
 }

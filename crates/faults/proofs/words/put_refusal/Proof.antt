@@ -7,11 +7,11 @@ use Rattle.faults.proofs.words.put_refusal.Tie as tie
 
 returns : tie.Need-returns
 unfolding refusalText
-returns c = then (c .before .before .before .before .before .before .before .before .before .before .before .put .ensures) (then (c .before .before .before .before .before .before .before .put-fault .ensures) (c .before .before .put2 .ensures))
+returns c = then (c .before .before .before .before .before .before .before .before .before .before .before .before .before .before .before .before .put-place .ensures) (then (c .before .before .before .before .before .before .before .before .before .before .before .put .ensures) (then (c .before .before .before .before .before .before .before .put-fault .ensures) (c .before .before .put2 .ensures)))
 
 pub put-refusal-spec : {M : Type 1} → statement M
 put-refusal-spec =
     tie.close
     (tie.spec
-    (λ c. search needs) (λ c κs. search needs) (λ c κs. search needs) (λ c. search needs) (λ c κs. search needs)
-    (λ c. search needs) returns)
+    (λ c κs. search needs) (λ c. search needs) (λ c κs. search needs) (λ c κs. search needs) (λ c. search needs)
+    (λ c κs. search needs) (λ c. search needs) returns)

@@ -7,11 +7,11 @@ use Rattle.faults.proofs.words.put_rule_name.Tie as tie
 
 returns : tie.Need-returns
 unfolding ruleText
-returns c = rw (← c .before .before .before .before .before .before .before .before .before .before .before .before .before .before .before .before .before .wrapping-add-u64 .ensures) (then (c .before .before .before .before .before .before .before .before .before .before .before .before .before .before .before .before .before .before .before .before .before .put .ensures) (then (c .before .before .before .before .before .before .before .before .before .before .before .before .before .before .before .before .put-decimal .ensures) (then (c .before .before .before .before .before .before .before .before .before .before .before .put2 .ensures) (then (c .before .before .before .before .before .before .before .put-decimal2 .ensures) (c .before .before .put3 .ensures)))))
+returns c = then (c .before .before .before .before .before .before .before .before .before .before .before .before .before .before .before .before .put-rule-lines .ensures) (then (c .before .before .before .before .before .before .before .before .before .before .before .put .ensures) (then (c .before .before .before .before .before .before .before .put-decimal .ensures) (c .before .before .put2 .ensures)))
 
 pub put-rule-name-spec : {M : Type 1} → statement M
 put-rule-name-spec =
     tie.close
     (tie.spec
-    (λ c. search needs) (λ c κs. search needs) (λ c κs. search needs) (λ c κs. search needs) (λ c. search needs)
-    (λ c κs. search needs) (λ c κs. search needs) (λ c. search needs) (λ c κs. search needs) (λ c. search needs) returns)
+    (λ c κs. search needs) (λ c. search needs) (λ c κs. search needs) (λ c κs. search needs) (λ c. search needs)
+    (λ c κs. search needs) (λ c. search needs) returns)

@@ -8,11 +8,10 @@ returns : tie.Need-returns
 returns c = reads-shut (c .faulted .ensures) (c .before .first .ensures)
 
 returns-2 : tie.Need-returns-2
-returns-2 c = reads-lines (c .before .before .before .before .read-open .ensures)
+returns-2 c = reads-lines (c .before .before .read-open .ensures)
 
 pub read-all-spec : {M : Type 1} → statement M
 read-all-spec =
     tie.close
     (tie.spec
-    (λ c κs. search needs) (λ c κs. search needs) returns (λ c κs. search needs) (λ c. search needs) (λ c. search needs)
-    returns-2)
+    (λ c κs. search needs) (λ c κs. search needs) returns (λ c κs. search needs) (λ c. search needs) returns-2)

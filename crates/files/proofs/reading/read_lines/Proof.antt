@@ -11,35 +11,32 @@ use Rattle.files.proofs.reading.read_lines.Statement.{statement}
 use Rattle.files.proofs.reading.read_lines.Tie as tie
 
 abbrev Inv-loop : tie.InvT-loop
-Inv-loop fd width rows₀ names₀ piece₀ line₀ q₀ input₀ rows names piece line q input =
-    (length rows ≡ length rows₀) × (length names ≡ length names₀) × (length piece ≡ length piece₀) × (length line ≡ length line₀)
-    × Stood (length line₀) width (made q₀ rows₀ names₀) (made q rows names) piece input × (well (q .fault) ≡ true)
+Inv-loop fd rows₀ piece₀ line₀ q₀ input₀ rows piece line q input =
+    (length rows ≡ length rows₀) × (length piece ≡ length piece₀) × (length line ≡ length line₀)
+    × Stood (length line₀) (made q₀ rows₀) (made q rows) piece input × (well (q .fault) ≡ true)
 
 abbrev μ-loop : tie.MeasureT-loop
-μ-loop fd width rows₀ names₀ piece₀ line₀ q₀ input₀ rows names piece line q input = input .left
+μ-loop fd rows₀ piece₀ line₀ q₀ input₀ rows piece line q input = input .left
 
 loop-holds : tie.Need-loop-holds Inv-loop μ-loop
-loop-holds c = (refl, refl, refl, refl, stood-first 50000 (omega arith) (c .start .ensures .0), c .before .before .before .before .before .pre .1)
-
-with-input-requires : tie.Need-with-input-requires Inv-loop μ-loop
-with-input-requires c κs = (c .before .before .before .before .before .before .before .before .before .before .before .before .before .before .before .before .before .before .pre .0, search needs)
+loop-holds c = (refl, refl, refl, stood-first 50000 (omega arith) (c .start .ensures .0), c .before .before .before .before .pre)
 
 returns : tie.Need-returns Inv-loop μ-loop
-returns c = let l = c .before .before .before .before .before .before .before .before .before .before .before .before .before .before .before .before .before .before .before .loop in
-    stood-fault (l .inv .4) (l .inv .5) (l .inv .3) (c .before .before .before .before .before .before .before .before .before .before .before .before .before .before .next-line .ensures) (c .before .before .before .before .before .before .with-input .ensures) (sym (c .before .is-well .ensures) ∙ not-true _ (c .if2 .taken))
+returns c = let l = c .before .before .before .before .before .before .before .before .before .before .before .before .before .before .before .before .loop in
+    stood-fault (l .inv .3) (l .inv .4) (l .inv .2) (c .before .before .before .before .before .before .before .before .before .before .before .next-line .ensures) (c .before .before .before .before .with-input .ensures) (sym (c .before .is-well .ensures) ∙ not-true _ (c .if2 .taken))
 
 loop-again : tie.Need-loop-again Inv-loop μ-loop
-loop-again c = let l = c .before .before .before .before .before .before .before .before .before .before .before .before .before .before .before .before .before .before .before .loop in
+loop-again c = let l = c .before .before .before .before .before .before .before .before .before .before .before .before .before .before .before .before .loop in
     let ok = sym (c .before .is-well .ensures) ∙ not-false _ (c .if2 .left) in
-    (search needs, search needs, search needs, search needs, stood-turn (l .inv .4) (l .inv .5) (l .inv .3) (c .before .before .before .before .before .before .before .before .before .before .before .before .before .before .next-line .ensures) (c .before .before .before .before .before .before .with-input .ensures) ok, ok)
+    (search needs, search needs, search needs, stood-turn (l .inv .3) (l .inv .4) (l .inv .2) (c .before .before .before .before .before .before .before .before .before .before .before .next-line .ensures) (c .before .before .before .before .with-input .ensures) ok, ok)
 
 returns-2 : tie.Need-returns-2 Inv-loop μ-loop
-returns-2 c = stood-over (c .before .before .loop .inv .4) (omega (arith, c .if1 .left))
+returns-2 c = stood-over (c .before .before .loop .inv .3) (omega (arith, c .if1 .left))
 
 pub read-lines-spec : {M : Type 1} → statement M
 read-lines-spec =
     tie.close
     (tie.spec
-    Inv-loop μ-loop (λ c κs. search needs) loop-holds (λ c κs. search needs) with-input-requires (λ c κs. search needs)
-    (λ c. search needs) (λ c. search needs) (λ c. search needs) (λ c. search needs) returns (λ c. search needs) loop-again
-    (λ c. search needs) (λ c. search needs) (λ c. search needs) (λ c. search needs) returns-2)
+    Inv-loop μ-loop (λ c κs. search needs) loop-holds (λ c κs. search needs) (λ c κs. search needs) (λ c κs. search needs)
+    (λ c. search needs) (λ c. search needs) (λ c. search needs) returns (λ c. search needs) loop-again (λ c. search needs)
+    (λ c. search needs) (λ c. search needs) returns-2)

@@ -9,13 +9,13 @@ use Rattle.files.proofs.reading.store.Statement.{statement}
 use Rattle.files.proofs.reading.store.Tie as tie
 
 abbrev Inv-loop : tie.InvT-loop
-Inv-loop rows₀ at n values i₀ rows i = (i ≤ n) × (length rows ≡ length rows₀) × (sets rows (at + i) (drop i (take n values)) ≡ sets rows₀ at (take n values))
+Inv-loop rows₀ at values i₀ rows i = (i ≤ 13) × (length rows ≡ length rows₀) × (sets rows (at + i) (drop i (take 13 values)) ≡ sets rows₀ at (take 13 values))
 
 abbrev μ-loop : tie.MeasureT-loop
-μ-loop rows₀ at n values i₀ rows i = n - i
+μ-loop rows₀ at values i₀ rows i = 13 - i
 
 loop-holds : tie.Need-loop-holds Inv-loop μ-loop
-loop-holds c = let a = c .args in (omega arith, refl, store-first (a .rows .now) (a .t3) (a .at) (a .n) (omega (arith, c .pre)))
+loop-holds c = let a = c .args in (omega arith, refl, store-first (a .rows .now) (a .t3) (a .at) 13 (omega (arith, c .pre)))
 
 mul-rows : tie.Need-mul-rows Inv-loop μ-loop
 mul-rows c = omega arith
@@ -41,7 +41,7 @@ loop-less c = omega arith
 loop-again : tie.Need-loop-again Inv-loop μ-loop
 loop-again c = let a = c .before .before .args in
     let l = c .before .loop in
-    (omega arith, simp length-set (l .inv .1), store-turn (l .rows) (a .t3) (a .at) (a .n) (omega (arith, c .before .before .pre)) (l .i) (c .loop-test .taken) ∙ l .inv .2)
+    (omega arith, simp length-set (l .inv .1), store-turn (l .rows) (a .t3) (a .at) 13 (omega (arith, c .before .before .pre)) (l .i) (c .loop-test .taken) ∙ l .inv .2)
 
 same-length : tie.Need-same-length Inv-loop μ-loop
 same-length c = c .before .loop .inv .1
@@ -49,7 +49,7 @@ same-length c = c .before .loop .inv .1
 returns : tie.Need-returns Inv-loop μ-loop
 returns c = let a = c .before .before .args in
     let l = c .before .loop in
-    store-over (l .rows) (a .t3) (a .at) (a .n) (omega (arith, c .before .before .pre)) (l .i) (c .loop-test .left) ∙ l .inv .2
+    store-over (l .rows) (a .t3) (a .at) 13 (omega (arith, c .before .before .pre)) (l .i) (c .loop-test .left) ∙ l .inv .2
 
 pub store-spec : {M : Type 1} → statement M
 store-spec =

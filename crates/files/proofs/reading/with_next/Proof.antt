@@ -6,20 +6,20 @@ use Rattle.files.proofs.reading.with_next.Statement.{statement}
 use Rattle.files.proofs.reading.with_next.Tie as tie
 
 returns : tie.Need-returns
-returns c = let a = c .before .before .before .before .before .before .args in
-    instead (c .faulted .ensures) refl refl (next-over (a .width) (a .r) (a .rows .now) (a .names .now) (a .s .now) (a .long) (c .before .if1 .taken))
+returns c = let a = c .before .before .before .before .before .args in instead (c .faulted .ensures) refl (next-over (a .r) (a .rows .now) (a .s .now) (a .long) (c .before .if1 .taken))
 
 returns-2 : tie.Need-returns-2
-returns-2 c = let a = c .before .before .before .before .before .before .before .before .args in
-    instead (c .faulted2 .ensures) refl refl (next-long (a .width) (a .r) (a .rows .now) (a .names .now) (a .s .now) (a .long) (c .before .before .before .if1 .left) (c .before .before .numbered .ensures) (c .before .if2 .taken))
+returns-2 c = let a = c .before .before .before .before .before .before .before .args in
+    instead (c .faulted2 .ensures) refl
+    (next-long (a .r) (a .rows .now) (a .s .now) (a .long) (c .before .before .before .if1 .left) (c .before .before .numbered .ensures) (c .before .if2 .taken))
 
 returns-3 : tie.Need-returns-3
-returns-3 c = let a = c .before .before .before .before .before .before .before .before .before .before .before .before .before .before .args in
-    next-text (a .width) (a .r) (a .rows .now) (a .names .now) (a .s .now) (a .long) (c .before .before .before .before .before .before .before .before .before .if1 .left) (c .before .before .before .before .before .before .before .before .numbered .ensures) (c .before .before .before .before .before .before .before .if2 .left) (c .before .before .before .before .with-line .ensures)
+returns-3 c = let a = c .before .before .before .before .before .before .before .before .before .before .args in
+    next-text (a .r) (a .rows .now) (a .s .now) (a .long) (c .before .before .before .before .before .before .if1 .left) (c .before .before .before .before .before .numbered .ensures) (c .before .before .before .before .if2 .left) (c .before .before .with-line .ensures)
 
 pub with-next-spec : {M : Type 1} → statement M
 with-next-spec =
     tie.close
     (tie.spec
-    (λ c κs. search needs) returns (λ c κs. search needs) (λ c κs. search needs) returns-2 (λ c κs. search needs)
-    (λ c. search needs) (λ c. search needs) returns-3)
+    (λ c κs. search needs) returns (λ c κs. search needs) (λ c κs. search needs) returns-2 (λ c κs. search needs) (λ c. search needs)
+    returns-3)

@@ -12,5 +12,5 @@ pub report-rules-spec : {M : Type 1} → statement M
 report-rules-spec =
     tie.close
     (tie.spec
-    (λ c. search needs) (λ c κs. search needs) (λ c. search needs) (λ c κs. search needs) (λ c. search needs)
-    slice-aggregate-write-all (λ c κs. search needs) (λ c. search needs))
+    (λ c. search needs) (λ c κs. search needs) (λ c. search needs) (λ c κs. search needs) (λ c. search needs) slice-aggregate-write-all
+    (λ c κs. search needs) (λ c. search needs))

@@ -5,10 +5,10 @@ use Rattle.notes.proofs.lines.put_if_of_month.Statement.{statement}
 use Rattle.notes.proofs.lines.put_if_of_month.Tie as tie
 
 returns : tie.Need-returns
-returns c = (next-none _ (c .before .before .before .before .rule-at .ensures) (c .if1 .taken) _ _ _ _, begun-none _ (c .before .before .before .before .rule-at .ensures) (c .if1 .taken) _)
+returns c = (next-none _ (c .before .before .before .before .rule-at .ensures) (c .if1 .taken) _ _ _, begun-none _ (c .before .before .before .before .rule-at .ensures) (c .if1 .taken) _)
 
 returns-2 : tie.Need-returns-2
-returns-2 c = (next-rule _ (c .before .before .before .before .before .before .before .before .rule-at .ensures) (c .before .before .before .before .if1 .left) _ _ (c .before .before .put-rule-line .ensures), begun-rule _ (c .before .before .before .before .before .before .before .before .rule-at .ensures) (c .before .before .before .before .if1 .left) (c .before .before .before .before .before .before .before .before .before .before .before .before .args .l .some))
+returns-2 c = (next-rule _ (c .before .before .before .before .before .before .before .before .rule-at .ensures) (c .before .before .before .before .if1 .left) _ (c .before .before .put-rule-line .ensures), begun-rule _ (c .before .before .before .before .before .before .before .before .rule-at .ensures) (c .before .before .before .before .if1 .left) (c .before .before .before .before .before .before .before .before .before .before .before .before .args .l .some))
 
 pub put-if-of-month-spec : {M : Type 1} → statement M
 put-if-of-month-spec =

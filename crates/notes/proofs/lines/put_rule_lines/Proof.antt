@@ -13,7 +13,7 @@ use Rattle.notes.proofs.lines.put_rule_lines.Statement.{statement}
 use Rattle.notes.proofs.lines.put_rule_lines.Tie as tie
 
 abbrev Inv-loop : tie.InvT-loop
-Inv-loop out₀ month rules names l₀ n i₀ out l i = (i ≤ n) × (length out ≡ length out₀) × Rest names month rules n (putPieces (gathered out₀ (l₀ .out)) (listPieces names month 0 (l₀ .some) (rulesFrom rules 0 n))) i out l
+Inv-loop out₀ month rules names l₀ n i₀ out l i = (i ≤ n) × (length out ≡ length out₀) × Rest names month rules n (putPieces (gathered out₀ (l₀ .out)) (listPieces names month (l₀ .some) (rulesFrom rules 0 n))) i out l
 
 abbrev μ-loop : tie.MeasureT-loop
 μ-loop out₀ month rules names l₀ n i₀ out l i = n - i

@@ -8,13 +8,13 @@ use Rattle.patro.proofs.pages.lay.Statement.{statement}
 use Rattle.patro.proofs.pages.lay.Tie as tie
 
 copy-requires : tie.Need-copy-requires
-copy-requires c κs = let a = c .before .before .before .before .before .before .before .before .before .before .before .before .args in (search needs, bytes-few (pageAsked (a .table) (a .rows .now) (a .rules .now) (a .names .now) (a .today) (a .asked)) (replicate 65536 0) (length-replicate {A = ℕ} 65536 0) (c .before .before .before .before .before .before .draw .ensures) (c .before .before .before .n .given .1))
+copy-requires c κs = let a = c .before .before .before .before .before .before .before .before .before .before .before .before .args in (search needs, bytes-few (pageAsked (a .table) (a .rows .now) (a .rules .now) (a .names .now) (a .today) (a .asked)) (replicate 262144 0) (length-replicate {A = ℕ} 262144 0) (c .before .before .before .before .before .before .draw .ensures) (c .before .before .before .n .given .1))
 
 returns : tie.Need-returns
-returns c = let a = c .before .before .before .before .before .before .before .before .before .before .before .before .before .before .before .args in rw (← lays-drawn (pageAsked (a .table) (a .rows .now) (a .rules .now) (a .names .now) (a .today) (a .asked)) (replicate 65536 0) (length-replicate {A = ℕ} 65536 0) (c .before .before .before .before .before .before .before .before .before .draw .ensures) (a .out .now) (c .before .before .before .before .before .before .n .given .1)) (c .before .before .copy .ensures)
+returns c = let a = c .before .before .before .before .before .before .before .before .before .before .before .before .before .before .before .args in rw (← lays-drawn (pageAsked (a .table) (a .rows .now) (a .rules .now) (a .names .now) (a .today) (a .asked)) (replicate 262144 0) (length-replicate {A = ℕ} 262144 0) (c .before .before .before .before .before .before .before .before .before .draw .ensures) (a .out .now) (c .before .before .before .before .before .before .n .given .1)) (c .before .before .copy .ensures)
 
 returns-2 : tie.Need-returns-2
-returns-2 c = let a = c .before .before .before .before .before .before .before .before .before .before .args in lays-refused (pageAsked (a .table) (a .rows .now) (a .rules .now) (a .names .now) (a .today) (a .asked)) (replicate 65536 0) (a .out .now) (c .before .before .before .before .draw .ensures) (c .before .why .given .1)
+returns-2 c = let a = c .before .before .before .before .before .before .before .before .before .before .args in lays-refused (pageAsked (a .table) (a .rows .now) (a .rules .now) (a .names .now) (a .today) (a .asked)) (replicate 262144 0) (a .out .now) (c .before .before .before .before .draw .ensures) (c .before .why .given .1)
 
 pub lay-spec : {M : Type 1} → statement M
 lay-spec =

@@ -1,0 +1,2 @@
+-- What the contracts of `clerk` are written in.
+pub mod Counts
