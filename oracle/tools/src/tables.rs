@@ -15,11 +15,10 @@ pub fn owner_table() -> Table {
     }
 }
 
-/// The numbers of a file that has no keys, or one before each number; `#` starts a comment.
+/// The numbers of a table file; `#` starts a comment.
 fn numbers(text: &str) -> Vec<u16> {
     let bodies = text.lines().filter_map(|line| line.split('#').next());
-    let values = bodies.filter_map(|body| body.split('=').next_back());
-    let words = values.flat_map(str::split_whitespace);
+    let words = bodies.flat_map(str::split_whitespace);
     words.map(|word| word.parse().expect("a number")).collect()
 }
 
@@ -41,7 +40,7 @@ pub fn ask_table() -> Table {
 
 /// The rules of `ask`'s sample.
 pub fn ask_rules() -> Vec<u16> {
-    numbers(include_str!("../../../crates/ask/data/rules"))
+    rules(include_bytes!("../../../crates/ask/data/rules"))
 }
 
 /// oracle/rules/stress.rules: as many rules of each kind as are accepted, few names.
