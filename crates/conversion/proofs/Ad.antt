@@ -1,16 +1,19 @@
 -- Gregorian dates and BS dates, for every calendar whose days are Gregorian dates, as those of every accepted table are. Assumes nothing.
 use Prim.Native.Nat.{ℕ, _+_, _-_, _≤_, _<_}
-use mathlib.Core.Path.{_≡_, sym, ap, _∙_, subst, subst⁻¹}
-use mathlib.Core.Bool.{true}
+use mathlib.Core.Path.{_≡_, refl, sym, ap, _∙_, subst, subst⁻¹}
+use mathlib.Core.Bool.{Bool, true, false}
 use mathlib.Core.List.{List}
 use mathlib.Core.Logic.{⊎-elim, _↔_}
 use native.Mathlib.Nat.{le-trans}
 use native.Mathlib.Omega.{arith}
 use lib.Dec.{T}
-use Rattle.paper.specs.declared.Refusal.the-variants.{BadTable, NoSuchDate, Outside}
+use Rattle.paper.specs.declared.Refusal.the-variants.{BadTable, NoSuchDate, Before, After}
+use Rattle.paper.specs.declared.Refusal.{Refusal}
+use Rattle.paper.specs.Refusals.{number}
 use Rattle.paper.specs.Answers.{answered, refused}
 use Rattle.paper.specs.Sums.{sum}
-use Rattle.paper.proofs.Answers.{answered-same, given-answered, given-on}
+use Rattle.paper.proofs.Answers.{answered-same, given-answered, given-on, given-off}
+use Rattle.paper.proofs.Days.{same-number}
 use Rattle.paper.proofs.Sums.{sum-past}
 use Rattle.paper.proofs.Tests.{T-true, split}
 use Rattle.gregorian.specs.declared.Date.{Date}
@@ -19,12 +22,12 @@ use Rattle.gregorian.specs.Answers.{real, numbered}
 use Rattle.gregorian.proofs.Laws.{IsReal, real-of, real-to, all-number, in-range, of-real, of-number, number-lt, earlier-of-lt}
 use Rattle.conversion.specs.declared.Table.{Table}
 use Rattle.conversion.specs.declared.BsDate.{BsDate}
-use Rattle.conversion.specs.Calendar.{Calendar, end, bs, EarlierBs, dayAt, toDay, fromDay, toAd, fromAd}
+use Rattle.conversion.specs.Calendar.{Calendar, end, bs, EarlierBs, dayAt, toDay, outside, fromDay, toAd, fromAd}
 use Rattle.conversion.specs.Flat.{date, firstDay, lens, rowCount, accepted, flat}
 use Rattle.conversion.specs.Claims.{firstOf, lastOf, TableDay}
 use Rattle.conversion.proofs.Rows.{row-lens}
 use Rattle.conversion.proofs.Accepted.{facts}
-use Rattle.conversion.proofs.Days.{Valid, OnTable, found, from-outside, in-date, of-date, converts, converted, valid-on, number-of, from-to, to-from, to-order, from-order}
+use Rattle.conversion.proofs.Days.{Valid, OnTable, found, from-outside, from-before, from-after, in-date, of-date, converts, converted, valid-on, number-of, from-to, to-from, to-order, from-order}
 
 -- a good calendar that has a day, and whose days are Gregorian dates
 pub record Served (c : Calendar) : Type 0 where
@@ -60,6 +63,17 @@ module _ (c : Calendar) (y m d : ℕ) where
   pub ad-from : (t : BsDate) → fromAd c y m d ≡ answered t → (isDate y m d ≡ true) × (fromDay c (dayNumber (date y m d)) ≡ answered t)
   unfolding fromAd
   ad-from t e = let a = given-answered (c .good) _ _ e in given-answered (isDate y m d) _ _ (a .1)
+
+  -- what is refused with 7 is a date, and `fromDay` refuses its day
+  pub ad-refused : (k : Refusal) → c .good ≡ true → number k ≡ 7 → fromAd c y m d ≡ refused k
+      → (isDate y m d ≡ true) × (fromDay c (dayNumber (date y m d)) ≡ refused k)
+  unfolding fromAd
+  ad-refused k g n e = go (isDate y m d) refl
+    where
+      go : (b : Bool) → isDate y m d ≡ b → (isDate y m d ≡ true) × (fromDay c (dayNumber (date y m d)) ≡ refused k)
+      go true f = (f, sym (from-ad g f) ∙ e)
+      go false f =
+          absurd (let z = same-number (sym (given-on (c .good) BadTable _ g ∙ given-off (isDate y m d) NoSuchDate _ f) ∙ e) in let q : ⊥ = omega arith in q)
 
 -- ---- the days of the table
 is-real : (x : Date) → isDate (x .year) (x .month) (x .day) ≡ true → IsReal x
@@ -141,9 +155,26 @@ module _ (c : Calendar) (s : Served c) where
       )
 
   -- ---- a date outside the table
-  pub ad-outside : (y m d : ℕ) → isDate y m d ≡ true → (TableDay c (date y m d) → ⊥) → fromAd c y m d ≡ refused Outside
+  pub ad-outside : (y m d : ℕ) → isDate y m d ≡ true → (TableDay c (date y m d) → ⊥) → fromAd c y m d ≡ refused (outside c (dayNumber (date y m d)))
   ad-outside y m d e h =
       from-ad c y m d (s .good) e ∙ from-outside c _ (s .good) (λ o. h (on-day (date y m d) e o))
+
+  -- by how many days
+  pub ad-before : (y m d : ℕ) → isDate y m d ≡ true → Earlier (date y m d) (firstOf c)
+      → (k : ℕ) × ((1 ≤ k) × (dayNumber (date y m d) + k ≡ dayNumber (firstOf c)) × (fromAd c y m d ≡ refused (Before k)))
+  ad-before y m d e h =
+      let f = first-real in
+      let l = number-lt (date y m d) (firstOf c) (is-real (date y m d) e) (f .0) h in
+      let n : dayNumber (date y m d) < c .start = omega (arith, f .1) in
+      (c .start - dayNumber (date y m d), (omega arith, omega (arith, f .1), from-ad c y m d (s .good) e ∙ from-before c _ (s .good) n))
+
+  pub ad-after : (y m d : ℕ) → isDate y m d ≡ true → Earlier (lastOf c) (date y m d)
+      → (k : ℕ) × ((1 ≤ k) × (dayNumber (lastOf c) + k ≡ dayNumber (date y m d)) × (fromAd c y m d ≡ refused (After k)))
+  ad-after y m d e h =
+      let f = last-real in
+      let l = number-lt (lastOf c) (date y m d) (f .0) (is-real (date y m d) e) h in
+      let n : end c ≤ dayNumber (date y m d) = omega (arith, f .1, s .some) in
+      (dayNumber (date y m d) - end c + 1, (omega arith, omega (arith, f .1, s .some), from-ad c y m d (s .good) e ∙ from-after c _ (s .good) n))
 
   pub ad-inside : (x : Date) → TableDay c x → (t : BsDate) × (fromAd c (x .year) (x .month) (x .day) ≡ answered t)
   ad-inside x d = (_, from-ad c _ _ _ (s .good) (d .real) ∙ found c (dayNumber x) (day-on x d))

@@ -6,11 +6,12 @@ use mathlib.Core.Logic.{inl, inr, ⊎-elim}
 use native.Mathlib.Omega.{arith}
 use borrow.Author.Tests.{leb-true, leb-false, le-leb, ltb-true, lt-ltb, le-ltb}
 use lib.Dec.{leb, ltb}
-use Rattle.paper.specs.declared.Refusal.the-variants.{BadTable, NoYear, NoMonth, NoDay, Outside}
+use Rattle.paper.specs.declared.Refusal.the-variants.{BadTable, NoYear, NoMonth, NoDay, Before, After}
 use Rattle.paper.specs.declared.Refusal.{Refusal}
 use Rattle.paper.specs.Answers.{Answer, answered, refused, given, then}
 use Rattle.paper.specs.Sums.{sum}
-use Rattle.paper.proofs.Answers.{answered-same, given-answered, given-then, given-on, given-off, then-answered, then-refused}
+use Rattle.paper.proofs.Answers.{answered-same, refused-answered, given-answered, given-then, given-on, given-off, then-answered, then-refused}
+use Rattle.paper.proofs.Days.{same-before, same-after, after-before, before-after}
 use Rattle.paper.proofs.Sums.{sum-past}
 use Rattle.paper.proofs.Tests.{and-left, and-right, and-both, and-never, split}
 use Rattle.gregorian.specs.declared.Date.{Date}
@@ -18,7 +19,7 @@ use Rattle.gregorian.proofs.Laws.{three}
 use Rattle.conversion.specs.declared.BsDate.{BsDate}
 use Rattle.conversion.specs.declared.Placed.{Placed}
 use Rattle.conversion.specs.declared.Placed.the-variants as P
-use Rattle.conversion.specs.Calendar.{Calendar, last, bs, numbers, EarlierBs, yearLen, end, yearOk, monthOk, dayOk, ofMonth, ofDate, dayAt, dateAt, dateInYear, dateAfter, monthLen, validBs, toDay, fromDay, placed}
+use Rattle.conversion.specs.Calendar.{Calendar, last, bs, numbers, EarlierBs, yearLen, end, yearOk, monthOk, dayOk, ofMonth, ofDate, dayAt, dateAt, dateInYear, dateAfter, monthLen, validBs, toDay, outside, fromDay, placed}
 use Rattle.conversion.proofs.Places.{Within, last-within, last-is}
 
 -- ---- a year of the calendar, told by the test, and by its place from the first
@@ -160,11 +161,11 @@ on-table c n t e =
     }
 
 -- and no others
-pub from-outside : (c : Calendar) (n : ℕ) → c .good ≡ true → (OnTable c n → ⊥) → fromDay c n ≡ refused Outside
+pub from-outside : (c : Calendar) (n : ℕ) → c .good ≡ true → (OnTable c n → ⊥) → fromDay c n ≡ refused (outside c n)
 unfolding fromDay
 from-outside c n g h =
     given-on (c .good) BadTable _ g
-    ∙ given-off _ Outside _ (and-never _ _ (λ p q. h (record { good = g; from = leb-true _ _ p; to = ltb-true _ _ q })))
+    ∙ given-off _ (outside c n) _ (and-never _ _ (λ p q. h (record { good = g; from = leb-true _ _ p; to = ltb-true _ _ q })))
 
 -- a day by its year, and by what is left in that year
 module _ (c : Calendar) (i r n : ℕ) (hi : i < c .years) (hr : r < yearLen c i) (e : c .start + sum (yearLen c) i + r ≡ n) where
@@ -297,17 +298,42 @@ placed-after c n r e =
     let f : n - end c ≡ r = omega arith in
     simp (le-ltb _ _ a, le-ltb _ _ b, f)
 
--- the date of a day by where it lies: outside, on either side, is 7
+-- the date of a day by where it lies: outside, on either side, is 7 with the days
 abbrev pub insideOnly : Placed → Answer BsDate
 insideOnly (P.Inside t) = answered t
-insideOnly (P.Before n) = refused Outside
-insideOnly (P.After n) = refused Outside
+insideOnly (P.Before n) = refused (Before n)
+insideOnly (P.After n) = refused (After n)
 
 pub from-placed : (c : Calendar) (n : ℕ) → c .good ≡ true → fromDay c n ≡ insideOnly (placed c n)
-unfolding fromDay placed given
+unfolding fromDay placed outside given
 from-placed c n g = given-on (c .good) BadTable _ g ∙ go (leb (c .start) n) refl (ltb n (end c)) refl
   where
-    go : (a : Bool) → leb (c .start) n ≡ a → (b : Bool) → ltb n (end c) ≡ b → given (a && b) Outside (answered (dateAfter c (n - c .start))) ≡ insideOnly (cond (ltb n (c .start)) (P.Before (c .start - n)) (cond b (P.Inside (dateAfter c (n - c .start))) (P.After (n - end c + 1))))
+    go : (a : Bool) → leb (c .start) n ≡ a → (b : Bool) → ltb n (end c) ≡ b → given (a && b) (cond (ltb n (c .start)) (Before (c .start - n)) (After (n - end c + 1))) (answered (dateAfter c (n - c .start))) ≡ insideOnly (cond (ltb n (c .start)) (P.Before (c .start - n)) (cond b (P.Inside (dateAfter c (n - c .start))) (P.After (n - end c + 1))))
     go true e true f = rw (le-ltb _ _ (leb-true _ _ e))
     go true e false f = rw (le-ltb _ _ (leb-true _ _ e))
     go false e b f = rw (lt-ltb _ _ (leb-false _ _ e))
+
+-- ---- how far outside
+module _ (c : Calendar) (n : ℕ) (g : c .good ≡ true) where
+  pub from-before : n < c .start → fromDay c n ≡ refused (Before (c .start - n))
+  from-before h = from-placed c n g ∙ ap insideOnly (placed-before c n h)
+
+  pub from-after : end c ≤ n → fromDay c n ≡ refused (After (n - end c + 1))
+  from-after h = let e : n ≡ end c + (n - end c) = omega arith in from-placed c n g ∙ ap insideOnly (placed-after c n (n - end c) e)
+
+  -- what is told is exact
+  pub before-told : (k : ℕ) → fromDay c n ≡ refused (Before k) → (n + k ≡ c .start) × (n < c .start)
+  before-told k e =
+      ⊎-elim
+      (λ l. ⊎-elim
+      (λ m. absurd (let z = after-before (sym (from-after m) ∙ e) in let q : ⊥ = omega arith in q))
+      (λ m. absurd (refused-answered e (found c n (record { good = g; from = l; to = m })))) (split (end c) n))
+      (λ l. let z = same-before (sym (from-before l) ∙ e) in (omega arith, l)) (split (c .start) n)
+
+  pub after-told : (k : ℕ) → fromDay c n ≡ refused (After k) → (n + 1 ≡ end c + k) × (end c ≤ n)
+  after-told k e =
+      ⊎-elim
+      (λ l. ⊎-elim
+      (λ m. let z = same-after (sym (from-after m) ∙ e) in (omega arith, m))
+      (λ m. absurd (refused-answered e (found c n (record { good = g; from = l; to = m })))) (split (end c) n))
+      (λ l. absurd (let z = before-after (sym (from-before l) ∙ e) in let q : ⊥ = omega arith in q)) (split (c .start) n)

@@ -7,22 +7,22 @@ use mathlib.Core.List.{List, _++_}
 use mathlib.Core.Logic.{⊎-elim}
 use native.Mathlib.Omega.{arith}
 use lib.ListN.{length-append, List·getD-append}
-use Rattle.paper.specs.declared.Refusal.the-variants.{NoYear, NoDay, Outside}
+use Rattle.paper.specs.declared.Refusal.the-variants.{NoYear, NoDay, Before, After}
 use Rattle.paper.specs.declared.Refusal.{Refusal}
 use Rattle.paper.specs.Answers.{Answer, answered, refused, given}
 use Rattle.paper.proofs.Answers.{answered-same, refused-answered}
-use Rattle.paper.proofs.Sums.{sum-ext}
+use Rattle.paper.proofs.Sums.{sum-ext, sum-mono}
 use Rattle.paper.proofs.Tests.{split}
 use Rattle.gregorian.specs.declared.Date.{Date}
-use Rattle.gregorian.specs.Calendar.{dateOf}
+use Rattle.gregorian.specs.Calendar.{dayNumber, dateOf}
 use Rattle.conversion.specs.declared.Table.{Table}
 use Rattle.conversion.specs.declared.BsDate.{BsDate}
-use Rattle.conversion.specs.Calendar.{Calendar, yearLen, dayAt, dateAfter, dayOk, ofMonth, monthLen, validBs, toDay, fromDay, toAd, fromAd}
-use Rattle.conversion.specs.Flat.{accepted, flat}
-use Rattle.conversion.specs.Claims.{Added, RefusedIf}
+use Rattle.conversion.specs.Calendar.{Calendar, yearLen, end, dayAt, dateAfter, dayOk, ofMonth, monthLen, validBs, toDay, outside, fromDay, toAd, fromAd}
+use Rattle.conversion.specs.Flat.{date, accepted, flat}
+use Rattle.conversion.specs.Claims.{Added, addedDays, RefusedIf}
 use Rattle.conversion.proofs.Accepted.{facts}
-use Rattle.conversion.proofs.Days.{InTable, OnTable, of-month, in-month, no-year, converted, found, from-outside, from-to, to-from}
-use Rattle.conversion.proofs.Ad.{from-ad, ad-from}
+use Rattle.conversion.proofs.Days.{InTable, OnTable, of-month, in-month, no-year, converted, found, from-outside, from-before, from-after, before-told, after-told, from-to, to-from}
+use Rattle.conversion.proofs.Ad.{from-ad, ad-from, ad-refused}
 
 pub record Extends (c e : Calendar) : Type 0 where
   pub good : c .good ≡ true
@@ -147,9 +147,9 @@ module _ (c e : Calendar) (x : Extends c e) where
       let v = converted c _ _ _ n (to-from c n t (found c n o ∙ ap answered q)) in
       omega (arith, v .month)
 
-  pub from-day-added : (n : ℕ) (t : BsDate) → fromDay e n ≡ answered t → RefusedIf (fromDay c n) Outside (Added c (t .year))
+  pub from-day-added : (n : ℕ) (t : BsDate) → fromDay e n ≡ answered t → RefusedIf (fromDay c n) (outside c n) (Added c (t .year))
   from-day-added n t h =
-      refused-if _ Outside (t .year) _
+      refused-if _ (outside c n) (t .year) _
       (λ l. from-outside c n (x .good) (not-added n t h l))
       (λ l. from-to c _ _ _ n (day-kept _ _ _ n l (to-from e n t h)))
 
@@ -158,7 +158,51 @@ module _ (c e : Calendar) (x : Extends c e) where
       let a = ad-from c y m d t h in
       from-ad e y m d (x .good-too) (a .0) ∙ from-day-longer _ t (a .1)
 
-  pub from-added : (y m d : ℕ) (t : BsDate) → fromAd e y m d ≡ answered t → RefusedIf (fromAd c y m d) Outside (Added c (t .year))
+  pub from-added : (y m d : ℕ) (t : BsDate) → fromAd e y m d ≡ answered t → RefusedIf (fromAd c y m d) (outside c (dayNumber (date y m d))) (Added c (t .year))
   from-added y m d t h =
       let a = ad-from e y m d t h in
       rw (from-ad c y m d (x .good) (a .0)) (from-day-added _ t (a .1))
+
+  -- ---- how far outside
+
+  -- the longer ends no earlier
+  end-later : end c ≤ end e
+  end-later =
+      let a = sum-ext (yearLen c) (yearLen e) (c .years) same-year in
+      let b = sum-mono (yearLen e) (c .years) (e .years) (x .years) in
+      omega (arith, x .start)
+
+  pub day-before : (n k : ℕ) → fromDay c n ≡ refused (Before k) → fromDay e n ≡ refused (Before k)
+  day-before n k h =
+      let a = before-told c n (x .good) k h in
+      let b : e .start - n ≡ k = omega (arith, a, x .start) in
+      from-before e n (x .good-too) (omega (arith, a .1, x .start)) ∙ ap (λ (j : ℕ). refused (Before j)) b
+
+  pub day-reached : (n k : ℕ) → fromDay c n ≡ refused (After k) → k ≤ addedDays c e → (t : BsDate) × ((fromDay e n ≡ answered t) × Added c (t .year))
+  day-reached n k h l =
+      let a = after-told c n (x .good) k h in
+      let f = found e n (record { good = x .good-too; from = omega (arith, a .1, x .start); to = omega (arith, a .0, end-later) }) in
+      (_, (f, from-day-added n _ f .only (After k) h))
+
+  pub day-after : (n k : ℕ) → fromDay c n ≡ refused (After k) → addedDays c e < k → fromDay e n ≡ refused (After (k - addedDays c e))
+  day-after n k h l =
+      let a = after-told c n (x .good) k h in
+      let m = end-later in
+      let b : n - end e + 1 ≡ k - addedDays c e = omega (arith, a) in
+      from-after e n (x .good-too) (omega (arith, a)) ∙ ap (λ (j : ℕ). refused (After j)) b
+
+  pub ad-before : (y m d k : ℕ) → fromAd c y m d ≡ refused (Before k) → fromAd e y m d ≡ refused (Before k)
+  ad-before y m d k h =
+      let a = ad-refused c y m d (Before k) (x .good) refl h in
+      from-ad e y m d (x .good-too) (a .0) ∙ day-before _ k (a .1)
+
+  pub ad-reached : (y m d k : ℕ) → fromAd c y m d ≡ refused (After k) → k ≤ addedDays c e → (t : BsDate) × ((fromAd e y m d ≡ answered t) × Added c (t .year))
+  ad-reached y m d k h l =
+      let a = ad-refused c y m d (After k) (x .good) refl h in
+      let b = day-reached _ k (a .1) l in
+      (b .0, (from-ad e y m d (x .good-too) (a .0) ∙ b .1 .0, b .1 .1))
+
+  pub ad-after : (y m d k : ℕ) → fromAd c y m d ≡ refused (After k) → addedDays c e < k → fromAd e y m d ≡ refused (After (k - addedDays c e))
+  ad-after y m d k h l =
+      let a = ad-refused c y m d (After k) (x .good) refl h in
+      from-ad e y m d (x .good-too) (a .0) ∙ day-after _ k (a .1) l

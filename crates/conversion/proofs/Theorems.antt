@@ -40,7 +40,9 @@ matched c s =
       no-month = λ y m d p h. Days.no-month c y m _ (s .good) (p .0) (p .1) (λ f t. h (f, t));
       no-day = λ y m d p q h. Days.no-day c y m d _ (in-table c y m (s .good) p q) (λ f t. h (f, t));
       no-date = λ y m d h. given-on (c .good) BadTable _ (s .good) ∙ given-off (isDate y m d) NoSuchDate _ h;
-      outside = Ad.ad-outside c s;
+      out = Ad.ad-outside c s;
+      before = Ad.ad-before c s;
+      after = Ad.ad-after c s;
       valid = λ y m d. simp (given-then, then-answered);
       len = λ y m p q. Days.of-month c y m _ (in-table c y m (s .good) p q);
       len-no-year = λ y m h. Days.no-year c y m _ (s .good) (λ f t. h (f, t));
@@ -74,6 +76,9 @@ extended c e x =
       valid-added = Longer.valid-added c e x;
       to-added = Longer.to-added c e x;
       from-added = Longer.from-added c e x;
+      from-before = Longer.ad-before c e x;
+      from-reached = Longer.ad-reached c e x;
+      from-after = Longer.ad-after c e x;
     }
 
 -- for every accepted table, and the same with more rows where that is accepted too

@@ -4,7 +4,8 @@
 use Prim.Native.Nat.{ℕ, zero, suc, _+_, _-_}
 use mathlib.Core.Bool.{Bool, cond, _&&_}
 use lib.Dec.{leb, ltb}
-use Rattle.paper.specs.declared.Refusal.the-variants.{BadTable, NoSuchDate, NoYear, NoMonth, NoDay, Outside}
+use Rattle.paper.specs.declared.Refusal.{Refusal}
+use Rattle.paper.specs.declared.Refusal.the-variants.{BadTable, NoSuchDate, NoYear, NoMonth, NoDay, Before, After}
 use Rattle.paper.specs.Answers.{Answer, answered, given}
 use Rattle.paper.specs.Sums.{sum}
 use Rattle.gregorian.specs.declared.Date.{Date}
@@ -82,9 +83,13 @@ dateInYear c i r = dateAt c i (last (c .len i) 12 r) (r - sum (c .len i) (last (
 abbrev pub dateAfter : Calendar → ℕ → BsDate
 dateAfter c r = dateInYear c (last (yearLen c) (c .years) r) (r - sum (yearLen c) (last (yearLen c) (c .years) r))
 
+-- refusal 7 of a day outside: so many days before the first day, or after the last
+unfoldable pub outside : Calendar → ℕ → Refusal
+outside c n = cond (ltb n (c .start)) (Before (c .start - n)) (After (n - end c + 1))
+
 -- the date of a day: refusals 1, 7
 unfoldable pub fromDay : Calendar → ℕ → Answer BsDate
-fromDay c n = given (c .good) BadTable (given (leb (c .start) n && ltb n (end c)) Outside (answered (dateAfter c (n - c .start))))
+fromDay c n = given (c .good) BadTable (given (leb (c .start) n && ltb n (end c)) (outside c n) (answered (dateAfter c (n - c .start))))
 
 -- where a day lies: a date, or so many days before the first day or after the last
 unfoldable pub placed : Calendar → ℕ → Placed

@@ -4,12 +4,12 @@ use mathlib.Core.Path.{_≡_}
 use mathlib.Core.Bool.{true, false}
 use mathlib.Core.Logic.{_↔_}
 use Rattle.paper.specs.declared.Refusal.{Refusal}
-use Rattle.paper.specs.declared.Refusal.the-variants.{BadTable, NoSuchDate, NoYear, NoMonth, NoDay, Outside}
+use Rattle.paper.specs.declared.Refusal.the-variants.{BadTable, NoSuchDate, NoYear, NoMonth, NoDay, Before, After}
 use Rattle.paper.specs.Answers.{Answer, answered, refused, then}
 use Rattle.gregorian.specs.declared.Date.{Date}
-use Rattle.gregorian.specs.Calendar.{isDate, dateOf, Earlier}
+use Rattle.gregorian.specs.Calendar.{isDate, dayNumber, dateOf, Earlier}
 use Rattle.conversion.specs.declared.BsDate.{BsDate}
-use Rattle.conversion.specs.Calendar.{Calendar, bs, EarlierBs, monthLen, validBs, toAd, fromAd, end}
+use Rattle.conversion.specs.Calendar.{Calendar, bs, EarlierBs, monthLen, validBs, toAd, fromAd, outside, end}
 use Rattle.conversion.specs.Flat.{date}
 
 -- the year is one of the table, the month one of 1 to 12, the day one of the month
@@ -43,6 +43,10 @@ pub record TableDay (c : Calendar) (x : Date) : Type 0 where
 abbrev pub Added : Calendar → ℕ → Type 0
 Added c y = c .first + c .years ≤ y
 
+-- how many days the longer of two tables adds to the shorter
+abbrev pub addedDays : Calendar → Calendar → ℕ
+addedDays short long = end long - end short
+
 -- refused exactly if P holds, and then with k
 pub record RefusedIf {A : Type 0} (a : Answer A) (k : Refusal) (P : Type 0) : Type 0 where
   pub when : P → a ≡ refused k
@@ -67,7 +71,12 @@ pub record OneToOne (c : Calendar) : Type 0 where
   pub no-month : (y m d : ℕ) → YearIn c y → (MonthIn m → ⊥) → toAd c y m d ≡ refused NoMonth
   pub no-day : (y m d : ℕ) → YearIn c y → MonthIn m → (DayIn c y m d → ⊥) → toAd c y m d ≡ refused NoDay
   pub no-date : (y m d : ℕ) → isDate y m d ≡ false → fromAd c y m d ≡ refused NoSuchDate
-  pub outside : (y m d : ℕ) → isDate y m d ≡ true → (TableDay c (date y m d) → ⊥) → fromAd c y m d ≡ refused Outside
+  pub out : (y m d : ℕ) → isDate y m d ≡ true → (TableDay c (date y m d) → ⊥) → fromAd c y m d ≡ refused (outside c (dayNumber (date y m d)))
+  -- a date before the first table day is told by how many days, one or more; so is a date after the last
+  pub before : (y m d : ℕ) → isDate y m d ≡ true → Earlier (date y m d) (firstOf c)
+      → (k : ℕ) × ((1 ≤ k) × (dayNumber (date y m d) + k ≡ dayNumber (firstOf c)) × (fromAd c y m d ≡ refused (Before k)))
+  pub after : (y m d : ℕ) → isDate y m d ≡ true → Earlier (lastOf c) (date y m d)
+      → (k : ℕ) × ((1 ≤ k) × (dayNumber (lastOf c) + k ≡ dayNumber (date y m d)) × (fromAd c y m d ≡ refused (After k)))
   -- a date is validated exactly if it converts, with the same refusals; and a month has a length exactly if it is one of the table
   pub valid : (y m d : ℕ) → validBs c y m d ≡ then (toAd c y m d) (λ x. answered tt)
   pub len : (y m : ℕ) → YearIn c y → MonthIn m → monthLen c y m ≡ answered (c .len (y - c .first) (m - 1))
@@ -92,4 +101,11 @@ pub record DatesStay (short long : Calendar) : Type 0 where
   pub len-added : (y m n : ℕ) → monthLen long y m ≡ answered n → RefusedIf (monthLen short y m) NoYear (Added short y)
   pub valid-added : (y m d : ℕ) → validBs long y m d ≡ answered tt → RefusedIf (validBs short y m d) NoYear (Added short y)
   pub to-added : (y m d : ℕ) (x : Date) → toAd long y m d ≡ answered x → RefusedIf (toAd short y m d) NoYear (Added short y)
-  pub from-added : (y m d : ℕ) (t : BsDate) → fromAd long y m d ≡ answered t → RefusedIf (fromAd short y m d) Outside (Added short (t .year))
+  pub from-added : (y m d : ℕ) (t : BsDate) → fromAd long y m d ≡ answered t
+      → RefusedIf (fromAd short y m d) (outside short (dayNumber (date y m d))) (Added short (t .year))
+  -- the days before the first day stay; those after the last become a date of an added year, or are fewer by the days that are added
+  pub from-before : (y m d k : ℕ) → fromAd short y m d ≡ refused (Before k) → fromAd long y m d ≡ refused (Before k)
+  pub from-reached : (y m d k : ℕ) → fromAd short y m d ≡ refused (After k) → k ≤ addedDays short long
+      → (t : BsDate) × ((fromAd long y m d ≡ answered t) × Added short (t .year))
+  pub from-after : (y m d k : ℕ) → fromAd short y m d ≡ refused (After k) → addedDays short long < k
+      → fromAd long y m d ≡ refused (After (k - addedDays short long))

@@ -291,7 +291,7 @@ pub fn bs_to_ad(table: Table, rows: &[u16], date: BsDate) -> DateAnswer
     }
 }
 
-// The BS date of a Gregorian date: refusals 1, 3, 7.
+// The BS date of a Gregorian date: refusals 1, 3 and 7, which tells how far outside the table the date lies.
 pub fn ad_to_bs(table: Table, rows: &[u16], year: u16, month: u16, day: u16) -> BsAnswer
     ensures { λ r. ⌜ bsSays r ≡ fromAd (flat table (now (rows .entry))) year month day ⌝ }
 {
@@ -308,7 +308,7 @@ pub fn ad_to_bs(table: Table, rows: &[u16], year: u16, month: u16, day: u16) -> 
     let place = place_in(table, rows, start, n, p.row, offset - p.before);
     match place {
         Placed::Inside(d) => BsAnswer::Is(d),
-        Placed::Before(_) => BsAnswer::Refused(Refusal::Outside),
-        Placed::After(_) => BsAnswer::Refused(Refusal::Outside),
+        Placed::Before(k) => BsAnswer::Refused(Refusal::Before(k)),
+        Placed::After(k) => BsAnswer::Refused(Refusal::After(k)),
     }
 }

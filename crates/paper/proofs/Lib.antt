@@ -1,5 +1,6 @@
 pub mod Tests
 pub mod Answers
+pub mod Days
 pub mod Sums
 pub mod Stores
 pub mod Floats

@@ -3,7 +3,7 @@ use Prim.Native.Nat.{ℕ}
 use Rattle.paper.specs.declared.Refusal.{Refusal}
 use Rattle.paper.specs.declared.Refusal.the-variants as R
 use Rattle.paper.specs.declared.Told.{Told}
-use Rattle.paper.specs.declared.Told.the-variants.{Line, Nothing}
+use Rattle.paper.specs.declared.Told.the-variants as T
 
 abbrev pub number : Refusal → ℕ
 number R.BadTable = 1
@@ -12,24 +12,26 @@ number R.NoSuchDate = 3
 number R.NoYear = 4
 number R.NoMonth = 5
 number R.NoDay = 6
-number R.Outside = 7
+number (R.Before days) = 7
+number (R.After days) = 7
 number R.OutOfRange = 8
 number R.NoRoom = 9
 number R.OffTable = 10
 number R.NotEnded = 11
 number (R.OutOfForm k) = 12
 
--- 12 alone tells a line, the first that is out of form
-abbrev pub line : Refusal → Told
-line R.BadTable = Nothing
-line R.BadRules = Nothing
-line R.NoSuchDate = Nothing
-line R.NoYear = Nothing
-line R.NoMonth = Nothing
-line R.NoDay = Nothing
-line R.Outside = Nothing
-line R.OutOfRange = Nothing
-line R.NoRoom = Nothing
-line R.OffTable = Nothing
-line R.NotEnded = Nothing
-line (R.OutOfForm k) = Line k
+-- 7 tells the days before the first day of the table or after its last, 12 the first line that is out of form; the others tell nothing
+abbrev pub told : Refusal → Told
+told R.BadTable = T.Nothing
+told R.BadRules = T.Nothing
+told R.NoSuchDate = T.Nothing
+told R.NoYear = T.Nothing
+told R.NoMonth = T.Nothing
+told R.NoDay = T.Nothing
+told (R.Before days) = T.Before days
+told (R.After days) = T.After days
+told R.OutOfRange = T.Nothing
+told R.NoRoom = T.Nothing
+told R.OffTable = T.Nothing
+told R.NotEnded = T.Nothing
+told (R.OutOfForm k) = T.Line k

@@ -63,10 +63,10 @@ returns-3 : tie.Need-returns-3
 returns-3 c = sym (answer (c .before .before .before) ∙ ap insideOnly (c .before .place .given .1))
 
 returns-4 : tie.Need-returns-4
-returns-4 c = sym (answer (c .before .before) ∙ ap insideOnly (c .enum-told .given .1))
+returns-4 c = sym (answer (c .before .before .before) ∙ ap insideOnly (c .before .place2 .given .1))
 
 returns-5 : tie.Need-returns-5
-returns-5 c = sym (answer (c .before .before) ∙ ap insideOnly (c .enum-told2 .given .1))
+returns-5 c = sym (answer (c .before .before .before) ∙ ap insideOnly (c .before .place3 .given .1))
 
 pub ad-to-bs-spec : {M : Type 1} → statement M
 ad-to-bs-spec =
