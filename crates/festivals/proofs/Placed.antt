@@ -7,7 +7,8 @@ use mathlib.Core.Logic.{⊎-elim}
 use native.Mathlib.Omega.{arith}
 use denote.Enum.Declared.{tagOf}
 use types.Run.{OneOf}
-use Rattle.paper.specs.declared.Refusal.the-variants.{Outside}
+use Rattle.paper.specs.declared.Refusal.{Refusal}
+use Rattle.paper.specs.declared.Refusal.the-variants.{Before, After}
 use Rattle.paper.specs.Answers.{answered, refused}
 use Rattle.paper.specs.Sums.{sum}
 use Rattle.paper.proofs.Answers.{answered-same}
@@ -23,20 +24,20 @@ module _ (c : Calendar) (g : c .good ≡ true) (n : ℕ) (p : Placed) (e : p ≡
   pub inside : (t : BsDate) → p ≡ P.Inside t → fromDay c n ≡ answered t
   inside t q = from-placed c n g ∙ ap insideOnly (sym e ∙ q)
 
-  pub before-first : (k : ℕ) → p ≡ P.Before k → fromDay c n ≡ refused Outside
+  pub before-first : (k : ℕ) → p ≡ P.Before k → fromDay c n ≡ refused (Before k)
   before-first k q = from-placed c n g ∙ ap insideOnly (sym e ∙ q)
 
-  pub after-last : (k : ℕ) → p ≡ P.After k → fromDay c n ≡ refused Outside
+  pub after-last : (k : ℕ) → p ≡ P.After k → fromDay c n ≡ refused (After k)
   after-last k q = from-placed c n g ∙ ap insideOnly (sym e ∙ q)
 
   -- the else of a `let Placed::Inside(..)`
-  pub outside : OneOf (1 ∷ 2 ∷ []) (tagOf the-type p) → fromDay c n ≡ refused Outside
-  outside h = from-placed c n g ∙ ap insideOnly (sym e) ∙ go p h
+  pub not-inside : OneOf (1 ∷ 2 ∷ []) (tagOf the-type p) → (k : Refusal) × (fromDay c n ≡ refused k)
+  not-inside h = let r = go p h in (r .0, from-placed c n g ∙ ap insideOnly (sym e) ∙ r .1)
     where
-      go : (q : Placed) → OneOf (1 ∷ 2 ∷ []) (tagOf the-type q) → insideOnly q ≡ refused Outside
+      go : (q : Placed) → OneOf (1 ∷ 2 ∷ []) (tagOf the-type q) → (k : Refusal) × (insideOnly q ≡ refused k)
       go (P.Inside t) h = absurd (⊎-elim (λ e. omega arith) (λ e. omega arith) h)
-      go (P.Before k) h = refl
-      go (P.After k) h = refl
+      go (P.Before k) h = (Before k, refl)
+      go (P.After k) h = (After k, refl)
 
 -- the month of a date is 1 to 12
 pub month-of : (c : Calendar) (n : ℕ) (t : BsDate) → fromDay c n ≡ answered t → (1 ≤ t .month) × (t .month ≤ 12)

@@ -91,8 +91,8 @@ fn list_placed(
 {
     let place = conversion::place(table, rows, number);
     match place {
-        Placed::Before(_) => ListAnswer::Refused(Refusal::Outside),
-        Placed::After(_) => ListAnswer::Refused(Refusal::Outside),
+        Placed::Before(k) => ListAnswer::Refused(Refusal::Before(k)),
+        Placed::After(k) => ListAnswer::Refused(Refusal::After(k)),
         Placed::Inside(bs) => list_day(table, rows, rules, bs, number, out),
     }
 }
@@ -124,7 +124,7 @@ pub fn festivals_on(
     }
 }
 
-// The festivals of a Gregorian date, as name, holiday. Refusals 1, 2, 3, 7, 9.
+// The festivals of a Gregorian date, as name, holiday. Refusals 1, 2, 3, 7, 9; 7 tells how far outside the table the date lies.
 pub fn festivals_on_ad(
     table: Table,
     rows: &[u16],

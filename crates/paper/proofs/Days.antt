@@ -25,6 +25,14 @@ abbrev ofRefusal : {A : Type 0} → (Refusal → ℕ) → Answer A → ℕ
 ofRefusal f (answered x) = 0
 ofRefusal f (refused k) = f k
 
+-- a refusal is the same whatever is asked
+abbrev orElse : {A : Type 0} → Refusal → Answer A → Refusal
+orElse other (answered x) = other
+orElse other (refused k) = k
+
+pub refused-as : {A B : Type 0} {j k : Refusal} → _≡_ {A = Answer A} (refused j) (refused k) → _≡_ {A = Answer B} (refused j) (refused k)
+refused-as {A} {B} {j} e = ap (λ (a : Answer A). refused (orElse j a)) e
+
 -- equal refusals have one number
 pub same-number : {A : Type 0} {j k : Refusal} → _≡_ {A = Answer A} (refused j) (refused k) → number j ≡ number k
 same-number e = ap (ofRefusal number) e

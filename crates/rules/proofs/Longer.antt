@@ -10,12 +10,11 @@ use native.Mathlib.Omega.{arith}
 use borrow.Author.Tests.{le-leb, lt-leb, lt-ltb, eqb-true, ne-eqb}
 use lib.Dec.{eqb}
 use Rattle.paper.specs.declared.Refusal.{Refusal}
-use Rattle.paper.specs.declared.Refusal.the-variants.{Outside}
 use Rattle.paper.specs.Answers.{Answer, answered, refused}
 use Rattle.paper.proofs.Answers.{answered-same}
 use Rattle.paper.proofs.Tests.{split}
 use Rattle.conversion.specs.declared.BsDate.{BsDate}
-use Rattle.conversion.specs.Calendar.{Calendar, dayAt, fromDay}
+use Rattle.conversion.specs.Calendar.{Calendar, dayAt, outside, fromDay}
 use Rattle.conversion.specs.Claims.{Added, RefusedIf}
 use Rattle.conversion.proofs.Days.{Valid, converts, converted, to-from}
 use Rattle.conversion.proofs.Longer.{Extends, day-longer, from-day-longer, from-day-added}
@@ -80,7 +79,7 @@ unfolding next
 next-none o f h = rw h
 
 -- a day that the longer answers is refused by the shorter exactly if it lies in an added year
-pub day-refused : (c e : Calendar) → Extends c e → (n : ℕ) (t : BsDate) → fromDay e n ≡ answered t → RefusedIf (fromDay c n) Outside (AddedDay c e n)
+pub day-refused : (c e : Calendar) → Extends c e → (n : ℕ) (t : BsDate) → fromDay e n ≡ answered t → RefusedIf (fromDay c n) (outside c n) (AddedDay c e n)
 day-refused c e x n t q =
     let r = from-day-added c e x n t q in
     record {

@@ -1,25 +1,25 @@
 -- What is proved of day lists, over any sky and any calendar. Asked by BS date and by Gregorian date of the same day the answer is the same. And they are
 -- steady: rows added to a year table change no answered list, and a computed entry only where it lies in an added year. Assumes nothing.
-use Prim.Native.Nat.{ℕ, _+_}
-use mathlib.Core.Path.{_≡_, sym, ap, _∙_}
+use Prim.Native.Nat.{ℕ, _+_, _-_, _≤_, _<_}
+use mathlib.Core.Path.{_≡_, refl, sym, ap, _∙_}
 use mathlib.Core.Bool.{Bool, true}
 use mathlib.Core.List.{List, _++_}
 use native.Mathlib.Omega.{arith}
-use Rattle.paper.specs.declared.Refusal.the-variants.{NoSuchDate, NoYear, Outside}
-use Rattle.paper.specs.Answers.{Answer, answered}
+use Rattle.paper.specs.declared.Refusal.the-variants.{NoSuchDate, NoYear, Before, After}
+use Rattle.paper.specs.Answers.{Answer, answered, refused}
 use Rattle.paper.proofs.Answers.{given-answered, given-on}
 use Rattle.gregorian.specs.declared.Date.{Date}
 use Rattle.gregorian.specs.Calendar.{isDate, dayNumber}
 use Rattle.conversion.specs.declared.Table.{Table}
 use Rattle.conversion.specs.declared.BsDate.{BsDate}
-use Rattle.conversion.specs.Calendar.{Calendar, bs, toDay, fromDay, toAd, fromAd}
+use Rattle.conversion.specs.Calendar.{Calendar, bs, toDay, outside, fromDay, toAd, fromAd}
 use Rattle.conversion.specs.Flat.{accepted, flat, date}
 use Rattle.conversion.proofs.Rows.{row-lens}
 use Rattle.conversion.proofs.Accepted.{facts}
-use Rattle.conversion.specs.Claims.{Added, RefusedIf}
+use Rattle.conversion.specs.Claims.{Added, addedDays, RefusedIf}
 use Rattle.conversion.proofs.Days.{from-to, to-from}
 use Rattle.conversion.proofs.Ad.{Served, ad-from}
-use Rattle.conversion.proofs.Longer.{Extends, extends, day-longer, day-added, from-day-longer}
+use Rattle.conversion.proofs.Longer.{Extends, extends, day-longer, day-added, from-day-longer, day-before, day-reached, day-after}
 use Rattle.conversion.proofs.Theorems.{matched}
 use Rattle.rules.specs.declared.Rule.{Rule}
 use Rattle.rules.specs.Lent.{lent}
@@ -27,7 +27,7 @@ use Rattle.rules.specs.Sky.{Sky}
 use Rattle.rules.specs.Festivals.{Pair, listed, listOnBs, listOnAd}
 use Rattle.rules.specs.Longer.{AddedDay, SameList, ListsStay}
 use Rattle.rules.proofs.Lent.{lent-told}
-use Rattle.rules.proofs.Questions.{then-by, on-bs, on-ad}
+use Rattle.rules.proofs.Questions.{then-by, then-not, on-bs, on-ad, ad-outside}
 use Rattle.rules.proofs.Following.{then-told, then-longer, then-added}
 use Rattle.rules.proofs.Longer.{Filled, day-refused, opening-same, entry-same, list-same}
 
@@ -83,14 +83,33 @@ module _ {I : Type 0} (s : Sky I) (rs : List Rule) (ok : Bool) (c e : Calendar) 
       on-ad s e rs ok y m d (x .good-too) (o .0) (o .1)
       ∙ then-longer (fromDay c n) (fromDay e n) _ _ (from-day-longer c e x n) (λ t q. ap answered (list-same s c e x w rs n t q)) l (sym (on-ad s c rs ok y m d (x .good) (o .0) (o .1)) ∙ h)
 
-  ad-added : listOnAd s e rs ok y m d ≡ answered l → RefusedIf (listOnAd s c rs ok y m d) Outside (AddedDay c e (dayNumber (date y m d)))
+  ad-added : listOnAd s e rs ok y m d ≡ answered l → RefusedIf (listOnAd s c rs ok y m d) (outside c (dayNumber (date y m d))) (AddedDay c e (dayNumber (date y m d)))
   ad-added h =
       let o = ad-rules s e rs ok y m d h in
       let n = dayNumber (date y m d) in
       let q = sym (on-ad s e rs ok y m d (x .good-too) (o .0) (o .1)) ∙ h in
       let t = then-told (fromDay e n) _ q in
       rw (on-ad s c rs ok y m d (x .good) (o .0) (o .1))
-      (then-added (fromDay c n) (fromDay e n) _ _ (from-day-longer c e x n) (λ t q. ap answered (list-same s c e x w rs n t q)) Outside (AddedDay c e n) (t .0) l (t .1 .0) (day-refused c e x n (t .0) (t .1 .0)) q)
+      (then-added (fromDay c n) (fromDay e n) _ _ (from-day-longer c e x n) (λ t q. ap answered (list-same s c e x w rs n t q)) (outside c n) (AddedDay c e n) (t .0) l (t .1 .0) (day-refused c e x n (t .0) (t .1 .0)) q)
+
+-- a day outside
+module _ {I : Type 0} (s : Sky I) (rs : List Rule) (ok : Bool) (c e : Calendar) (x : Extends c e) (y m d k : ℕ) where
+  ad-before : listOnAd s c rs ok y m d ≡ refused (Before k) → listOnAd s e rs ok y m d ≡ refused (Before k)
+  ad-before h =
+      let o = ad-outside s c rs ok y m d (Before k) (x .good) refl h in
+      on-ad s e rs ok y m d (x .good-too) (o .0) (o .1) ∙ then-not _ _ (Before k) (day-before c e x _ k (o .2))
+
+  ad-reached : listOnAd s c rs ok y m d ≡ refused (After k) → k ≤ addedDays c e
+      → (l : List Pair) × ((listOnAd s e rs ok y m d ≡ answered l) × AddedDay c e (dayNumber (date y m d)))
+  ad-reached h l =
+      let o = ad-outside s c rs ok y m d (After k) (x .good) refl h in
+      let r = day-reached c e x _ k (o .2) l in
+      (_, (on-ad s e rs ok y m d (x .good-too) (o .0) (o .1) ∙ then-by _ _ (r .0) (r .1 .0), record { date = r .0; is = r .1 .0; added = r .1 .1 }))
+
+  ad-after : listOnAd s c rs ok y m d ≡ refused (After k) → addedDays c e < k → listOnAd s e rs ok y m d ≡ refused (After (k - addedDays c e))
+  ad-after h l =
+      let o = ad-outside s c rs ok y m d (After k) (x .good) refl h in
+      on-ad s e rs ok y m d (x .good-too) (o .0) (o .1) ∙ then-not _ _ _ (day-after c e x _ k (o .2) l)
 
 pub steady-by : {I : Type 0} (s : Sky I) (rs : List Rule) (ok : Bool) (out : List ℕ) (c e : Calendar) → Extends c e → Filled c → ListsStay s rs ok out c e
 steady-by s rs ok out c e x w =
@@ -101,6 +120,9 @@ steady-by s rs ok out c e x w =
       on-ad = λ y m d l h. same-list out h (ad-longer s rs ok c e x w y m d l h);
       on-bs-added = bs-added s rs ok c e x w;
       on-ad-added = ad-added s rs ok c e x w;
+      on-ad-before = ad-before s rs ok c e x;
+      on-ad-reached = ad-reached s rs ok c e x;
+      on-ad-after = ad-after s rs ok c e x;
     }
 
 filled : (t : Table) (rows : List ℕ) → accepted t rows ≡ true → Filled (flat t rows)

@@ -6,13 +6,12 @@ use native.Mathlib.Omega.{arith}
 use lib.Ieee.{ofBits}
 use lib.ListN.{length}
 use Rattle.paper.specs.Floats.{near}
-use Rattle.paper.specs.declared.Refusal.the-variants.{Outside}
 use Rattle.paper.specs.Answers.{answered}
 use Rattle.conversion.specs.Calendar.{fromDay}
 use Rattle.conversion.specs.Flat.{flat}
 use Rattle.festivals.specs.Kathmandu.{kathmandu}
 use Rattle.festivals.specs.Answers.{dayIs}
-use Rattle.festivals.proofs.Placed.{inside, outside, month-of}
+use Rattle.festivals.proofs.Placed.{inside, not-inside, month-of}
 use Rattle.festivals.proofs.Moons.{put, Stands, stands-turn, place-nothing, place-outside, place-other, place-in, placed-none, placed-first, none-yet}
 use Rattle.festivals.proofs.months.months_of.Statement.{statement}
 use Rattle.festivals.proofs.months.months_of.Tie as tie
@@ -41,7 +40,8 @@ loop-again-2 c =
     let n = p .before .before in
     let d = n .before .before in
     let o = d .before .before .before .before .before in
-    stands-turn _ _ _ _ _ _ _ _ _ (d .before .before .loop-test .taken) (fits d) (place-outside _ _ _ _ _ _ (sym (ap dayIs (n .k .given .1)) ∙ d .nepal-day .ensures) Outside (outside _ (o .pre .0) _ (p .place .result) (p .place .ensures) (c .match2 .keys2))) (d .before .before .before .loop .inv)
+    let r = not-inside _ (o .pre .0) _ (p .place .result) (p .place .ensures) (c .match2 .keys2) in
+    stands-turn _ _ _ _ _ _ _ _ _ (d .before .before .loop-test .taken) (fits d) (place-outside _ _ _ _ _ _ (sym (ap dayIs (n .k .given .1)) ∙ d .nepal-day .ensures) (r .0) (r .1)) (d .before .before .before .loop .inv)
 
 -- the date of a new moon inside the table
 dated-in : (t : tie.After-date Inv-loop μ-loop) →

@@ -5,14 +5,13 @@ use mathlib.Core.Path.{_≡_, ap, _∙_}
 use mathlib.Core.List.{List}
 use native.Mathlib.Omega.{arith}
 use lib.ListN.{length}
-use Rattle.paper.specs.declared.Refusal.the-variants.{Outside}
 use Rattle.conversion.specs.Flat.{flat}
 use Rattle.rules.specs.Festivals.{ruleDay, entry}
 use Rattle.rules.specs.Resolved.{putEntry}
 use Rattle.rules.proofs.Accepted.{good-rules, good-rule}
 use Rattle.festivals.specs.Kathmandu.{kathmandu}
 use Rattle.festivals.specs.Answers.{dayIs}
-use Rattle.festivals.proofs.Placed.{inside, outside}
+use Rattle.festivals.proofs.Placed.{inside, not-inside}
 use Rattle.festivals.proofs.Entries.{Entered, rule-day-at, entry-nothing, entry-outside, entry-here, entered-first, entered-skip, entered-next, entered-all, place-left}
 use Rattle.festivals.proofs.years.resolve_year.Statement.{statement}
 use Rattle.festivals.proofs.years.resolve_year.Tie as tie
@@ -88,7 +87,8 @@ loop-again-3 c =
     let q = p .before .before in
     let d = q .before .before in
     let o = d .before .before .before .before .before .before .before .before .before in
-    turned d _ (entry-outside _ _ _ _ _ _ _ Outside (met-day d ∙ ap dayIs (q .k .given .1)) (outside _ (o .pre .0) _ (p .place .result) (p .place .ensures) (c .match2 .keys2)))
+    let r = not-inside _ (o .pre .0) _ (p .place .result) (p .place .ensures) (c .match2 .keys2) in
+    turned d _ (entry-outside _ _ _ _ _ _ _ (r .0) (met-day d ∙ ap dayIs (q .k .given .1)) (r .1))
 
 mul-out : tie.Need-mul-out Inv-loop μ-loop
 mul-out c = omega (arith, room (c .before .before .before .before .before .before .before))
