@@ -55,6 +55,9 @@ length-octets (b ∷ bs) = omega (arith, length-append (run 16 2 b) (octetsText 
 pub digits-short : (n : ℕ) → n < 2 ^ 64 → length (digits n) ≤ 30
 digits-short n h = omega (arith, length-run 10 (places n) n, places-most n h)
 
+pub negative-short : (n : ℕ) → n < 2 ^ 64 → length (bytes "-" ++ digits n) ≤ 30
+negative-short n h = omega (arith, length-append (bytes "-") (digits n), length-run 10 (places n) n, places-most n h)
+
 pub float-short : (x : Float) → length (floatText x) ≤ 30
 unfolding floatText
 float-short x = either (isNan x)

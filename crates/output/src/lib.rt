@@ -2,10 +2,11 @@
 // when it is nearly full.
 ghost use mathlib.Core.Path.{_≡_};
 ghost use mathlib.Core.Bool.{true, false};
-ghost use mathlib.Core.List.{[], _∷_};
+ghost use mathlib.Core.List.{[], _∷_, _++_};
 ghost use Prim.Native.Nat.{_+_, _≤_};
 ghost use lib.ListN.{length};
 ghost use Rattle.text.specs.Digits.{digits};
+ghost use Rattle.text.specs.Quoted.{bytes};
 ghost use Rattle.text.specs.Written.{Wrote};
 ghost use Rattle.output.specs.Floats.{floatText};
 ghost use Rattle.output.specs.Gathered as Gathered;
@@ -202,6 +203,19 @@ impl Out {
         let o = self.space(buffer);
         Out {
             at: text::put_decimal(buffer, o.at, n),
+            begun: true,
+            failed: o.failed,
+        }
+    }
+
+    // A decimal number behind a minus sign.
+    pub fn negative(self, buffer: &mut [u8], n: u64) -> Out
+        ensures { λ r. ⌜ Gathers (now (buffer .entry)) self ((bytes "-" ++ digits «n») ∷ []) (now (buffer .exit)) r ⌝ }
+    {
+        let o = self.space(buffer);
+        let at = text::put(buffer, o.at, b"-");
+        Out {
+            at: text::put_decimal(buffer, at, n),
             begun: true,
             failed: o.failed,
         }

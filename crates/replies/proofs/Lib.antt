@@ -1,2 +1,2 @@
 -- The laws of `replies`.
-pub mod Told
+pub mod Octets

@@ -1,14 +1,14 @@
 -- What a question is answered, and its words. Assumes nothing.
 use Prim.Native.Nat.{ℕ}
 use mathlib.Core.Bool.{Bool, cond}
-use mathlib.Core.List.{List, [], _∷_, map}
+use mathlib.Core.List.{List, [], _∷_, _++_, map}
 use mathlib.Core.Option.{Option, some, none}
 use lib.Dec.{eqb}
 use lib.Ieee.{Float}
 use Rattle.paper.specs.Answers.{Answer, answered, refused}
-use Rattle.paper.specs.Refusals.{number}
-use Rattle.paper.specs.declared.Refusal.{Refusal}
-use Rattle.paper.specs.declared.Refusal.the-variants as K
+use Rattle.paper.specs.Refusals.{number, told}
+use Rattle.paper.specs.declared.Told.{Told}
+use Rattle.paper.specs.declared.Told.the-variants as T
 use Rattle.text.specs.Digits.{digits}
 use Rattle.text.specs.Quoted.{bytes}
 use Rattle.gregorian.specs.declared.Date.{Date}
@@ -55,25 +55,17 @@ dateIn w = record { year = small w 1; month = small w 2; day = small w 3 }
 abbrev pub dateWords : ℕ → ℕ → ℕ → List (List ℕ)
 dateWords y m d = digits y ∷ digits m ∷ digits d ∷ []
 
--- what is told behind a refusal's number: of 12 the line
-abbrev pub toldWords : Refusal → List (List ℕ)
-toldWords K.BadTable = []
-toldWords K.BadRules = []
-toldWords K.NoSuchDate = []
-toldWords K.NoYear = []
-toldWords K.NoMonth = []
-toldWords K.NoDay = []
-toldWords K.Outside = []
-toldWords K.OutOfRange = []
-toldWords K.NoRoom = []
-toldWords K.OffTable = []
-toldWords K.NotEnded = []
-toldWords (K.OutOfForm line) = digits line ∷ []
+-- what is told behind a refusal's number: of 7 the days after the last day, or behind a minus sign those before the first; of 12 the line
+abbrev pub toldWords : Told → List (List ℕ)
+toldWords (T.Before k) = (bytes "-" ++ digits k) ∷ []
+toldWords (T.After k) = digits k ∷ []
+toldWords (T.Line k) = digits k ∷ []
+toldWords T.Nothing = []
 
 -- a question mark, a refusal's number and what is told with it, or 0 and the values; "none" where there is none
 unfoldable pub replyWords : Reply → List (List ℕ)
 replyWords R.Unformed = bytes "?" ∷ []
-replyWords (R.Refused k) = digits (number k) ∷ toldWords k
+replyWords (R.Refused k) = digits (number k) ∷ toldWords (told k)
 replyWords R.Good = digits 0 ∷ []
 replyWords R.Nothing = digits 0 ∷ bytes "none" ∷ []
 replyWords (R.Number n) = digits 0 ∷ digits n ∷ []

@@ -2,13 +2,14 @@
 ghost use mathlib.Core.Path.{_≡_};
 ghost use Rattle.text.specs.Digits.{digits};
 ghost use Rattle.output.specs.Gathered.{Gathers};
-ghost use Rattle.replies.specs.Replies.{dateIn, dateWords, replyWords, barred, bytesWords};
+ghost use Rattle.replies.specs.Replies.{dateIn, dateWords, toldWords, replyWords, barred, bytesWords};
 ghost use Rattle.replies.specs.declared.Reply.the-variants as R;
 use asked::Words;
 use gregorian::Date;
 use output::Out;
 use panchanga::lunar::Reading;
 use paper::Refusal;
+use paper::Told;
 
 // A question mark for a line out of form, the number of a refusal and what is told with it, or 0 and values.
 pub enum Reply {
@@ -50,15 +51,23 @@ fn put_reading(o: Out, out: &mut [u8], x: Reading) -> Out
     put_date_words(named, out, x.end, x.sunrise, x.sunset)
 }
 
+// What a refusal tells beside its number.
+fn put_told(o: Out, out: &mut [u8], t: Told) -> Out
+    ensures { λ r. ⌜ Gathers (now (out .entry)) o (toldWords t) (now (out .exit)) r ⌝ }
+{
+    match t {
+        Told::Before(days) => o.negative(out, days as u64),
+        Told::After(days) => o.number(out, days as u64),
+        Told::Line(line) => o.number(out, line as u64),
+        Told::Nothing => o,
+    }
+}
+
 // A refusal's number, and behind it what is told with it.
 fn put_refusal(o: Out, out: &mut [u8], k: Refusal) -> Out
     ensures { λ r. ⌜ Gathers (now (out .entry)) o (replyWords (R.Refused k)) (now (out .exit)) r ⌝ }
 {
-    let p = o.number(out, k.number() as u64);
-    match k {
-        Refusal::OutOfForm(line) => p.number(out, line as u64),
-        _ => p,
-    }
+    put_told(o.number(out, k.number() as u64), out, k.told())
 }
 
 impl Reply {

@@ -12,7 +12,7 @@ use Rattle.gregorian.specs.Calendar.{isDate, dayNumber, weekdayOf}
 use Rattle.gregorian.specs.Answers.{real}
 use Rattle.gregorian.proofs.Laws.{of-number, real-of}
 use Rattle.conversion.specs.declared.BsDate.{BsDate}
-use Rattle.conversion.specs.Calendar.{dayAt, toDay, toAd, fromDay, fromAd}
+use Rattle.conversion.specs.Calendar.{dayAt, toDay, toAd, outside, fromDay, fromAd}
 use Rattle.conversion.specs.Flat.{rowOk, accepted}
 use Rattle.conversion.proofs.Ad.{number-ad, served, ad-to-from}
 use Rattle.rules.specs.declared.lists.Day.{Day}
@@ -42,7 +42,7 @@ by-number t x e r =
 
 -- THE EXAMPLES
 pub checked : AllSay examples
-unfolding AllSay Says examples toDay toAd fromAd fromDay given accepted rowOk all sum isDate dayNumber stepMonth monthAt absolute wholeYears monthsLeft
+unfolding AllSay Says examples toDay toAd fromAd fromDay outside given accepted rowOk all sum isDate dayNumber stepMonth monthAt absolute wholeYears monthsLeft
 checked = (
   by-number _ _ refl tt,
   (

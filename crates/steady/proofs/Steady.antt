@@ -1,11 +1,17 @@
 -- DEMAND 3 holds, for every accepted table and the same with more rows where that is accepted too. Assumes nothing.
-use Prim.Native.Nat.{ℕ}
+use Prim.Native.Nat.{ℕ, _*_}
 use mathlib.Core.Path.{_≡_, refl, sym, ap, _∙_}
-use mathlib.Core.Bool.{true}
+use mathlib.Core.Bool.{Bool, true, false, cond}
+use native.Mathlib.Omega.{arith}
 use mathlib.Core.List.{List, _++_}
+use lib.Dec.{leb}
+use lib.ListN.{length, drop}
 use Rattle.paper.specs.declared.Refusal.{Refusal}
+use Rattle.paper.specs.declared.Refusal.the-variants.{Before, After, NoRoom}
 use Rattle.paper.specs.Answers.{Answer, answered, refused}
+use Rattle.paper.specs.Refusals.{number}
 use Rattle.paper.proofs.Answers.{refused-answered}
+use Rattle.paper.proofs.Days.{same-number, refused-as}
 use Rattle.gregorian.specs.declared.Date.{Date}
 use Rattle.conversion.specs.declared.Table.{Table}
 use Rattle.conversion.specs.Flat.{accepted}
@@ -13,7 +19,7 @@ use Rattle.conversion.specs.Claims.{RefusedIf}
 use Rattle.conversion.proofs.Longer.{extends}
 use Rattle.conversion.proofs.Theorems as Conversion
 use Rattle.rules.specs.Rules.{rulesOf, acceptedRules}
-use Rattle.rules.specs.Festivals.{Pair, listed}
+use Rattle.rules.specs.Festivals.{Pair, Listed, numbers, listed}
 use Rattle.rules.proofs.Theorems as Lists
 use Rattle.festivals.specs.Kathmandu.{kathmandu}
 use Rattle.grid.specs.Month.{Grid, shown}
@@ -49,6 +55,16 @@ listed-refused : (out : List ℕ) (k : Refusal) → listed (refused k) out .answ
 unfolding listed
 listed-refused out k = refl
 
+-- a list in a buffer that is refused with 7 is refused before it comes to the buffer
+listed-outside : (a : Answer (List Pair)) (out : List ℕ) (k : Refusal) → number k ≡ 7 → listed a out .answer ≡ refused k → a ≡ refused k
+unfolding listed
+listed-outside (answered l) out k n e = absurd (go (leb (length l * 2) (length out)) e)
+  where
+    go : (b : Bool) → cond {A = Listed} b (record { answer = answered (length l); buffer = numbers l ++ drop (length l * 2) out }) (record { answer = refused NoRoom; buffer = out }) .answer ≡ refused k → ⊥
+    go true h = refused-answered h refl
+    go false h = let z = same-number h in omega arith
+listed-outside (refused j) out k n e = refused-as e
+
 shown-refused : (cells festivals : List ℕ) (k : Refusal) → shown (refused k) cells festivals .answer ≡ refused k
 unfolding shown
 shown-refused cells festivals k = refl
@@ -68,5 +84,13 @@ steady t rows more rules today a b =
       step = λ y m s. stays (step-longer _ _ x y m s) (step-added _ _ x y m s);
       list = λ y m d out. let s = l out t rows more a b in told-stays (λ (z : Answer (List Pair)). listed z out) (λ w. w .answer) (listed-refused out) (λ v h. s .on-bs y m d v h .answer) (s .on-bs-added y m d);
       list-ad = λ y m d out. let s = l out t rows more a b in told-stays (λ (z : Answer (List Pair)). listed z out) (λ w. w .answer) (listed-refused out) (λ v h. s .on-ad y m d v h .answer) (s .on-ad-added y m d);
+      bs-outside = λ y m d. record { before = c .from-before y m d; after = c .from-after y m d; reached = c .from-reached y m d };
+      list-outside = λ y m d out.
+          let s = l out t rows more a b in
+          record {
+            before = λ k h. ap (λ (z : Answer (List Pair)). listed z out .answer) (s .on-ad-before y m d k (listed-outside _ out (Before k) refl h)) ∙ listed-refused out (Before k);
+            after = λ k h r. ap (λ (z : Answer (List Pair)). listed z out .answer) (s .on-ad-after y m d k (listed-outside _ out (After k) refl h) r) ∙ listed-refused out _;
+            reached = λ k h r. s .on-ad-reached y m d k (listed-outside _ out (After k) refl h) r .1 .1;
+          };
       month = λ y m cells festivals. told-stays (λ (z : Answer Grid). shown z cells festivals) (λ w. w .answer) (shown-refused cells festivals) (g .month y m _ _) (g .month-added y m _ _);
     }

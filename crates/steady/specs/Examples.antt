@@ -4,7 +4,7 @@ use mathlib.Core.Path.{_≡_}
 use mathlib.Core.List.{List, [], _∷_}
 use lib.IntN.{ℤ, pos, negsuc}
 use Rattle.paper.specs.declared.Refusal.{Refusal}
-use Rattle.paper.specs.declared.Refusal.the-variants.{NoYear, NoMonth, NoDay, Outside, OffTable}
+use Rattle.paper.specs.declared.Refusal.the-variants.{NoYear, NoMonth, NoDay, Before, After, OffTable}
 use Rattle.paper.specs.Answers.{answered, refused}
 use Rattle.gregorian.specs.declared.Date.{Date}
 use Rattle.conversion.specs.declared.BsDate.{BsDate}
@@ -48,8 +48,8 @@ examples =
     ∷ noBs (bs 100 12 31) NoDay
     ∷ noBs (bs 100 13 40) NoMonth
     ∷ noBs (bs 102 13 1) NoYear
-    ∷ noAd (date 1952 1 2) Outside
-    ∷ noAd (date 1949 12 31) Outside
+    ∷ noAd (date 1952 1 2) (After 1)
+    ∷ noAd (date 1949 12 31) (Before 1)
     ∷ step 100 12 (pos 1) (record { year = 101; month = 1 })
     ∷ noStep 100 1 (negsuc 0) OffTable
     ∷ []

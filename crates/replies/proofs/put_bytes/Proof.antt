@@ -1,6 +1,6 @@
 -- `replies::put_bytes` meets its contract. Assumes nothing.
 use Rattle.output.proofs.Gathering.{then}
-use Rattle.replies.proofs.Told.{bytes-none, bytes-some}
+use Rattle.replies.proofs.Octets.{bytes-none, bytes-some}
 use borrow.Author.Needs.{needs}
 use Rattle.replies.proofs.put_bytes.Statement.{statement}
 use Rattle.replies.proofs.put_bytes.Tie as tie
