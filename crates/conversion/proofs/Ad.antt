@@ -76,7 +76,7 @@ module _ (c : Calendar) (y m d : ℕ) where
           absurd (let z = same-number (sym (given-on (c .good) BadTable _ g ∙ given-off (isDate y m d) NoSuchDate _ f) ∙ e) in let q : ⊥ = omega arith in q)
 
 -- ---- the days of the table
-is-real : (x : Date) → isDate (x .year) (x .month) (x .day) ≡ true → IsReal x
+pub is-real : (x : Date) → isDate (x .year) (x .month) (x .day) ≡ true → IsReal x
 is-real x e = real-of x (subst⁻¹ T e tt)
 
 module _ (c : Calendar) (s : Served c) where

@@ -27,11 +27,11 @@ module _ {l : List ℕ} {i : ℕ} {m : List ℕ} {p : ℕ} (w n : ℕ) where
       same zero z = absurd (z refl)
       same (suc k) z = refl
 
--- a reply that is written where there is room for 64 bytes
-pub replied : (o : Out) (s : List ℕ) {l m : List ℕ} {at next : ℕ} → at ≡ room 64 l (o .at) → Wrote l at (replyTo s) m next
+-- a reply that is written where there is room for 80 bytes
+pub replied : (o : Out) (s : List ℕ) {l m : List ℕ} {at next : ℕ} → at ≡ room 80 l (o .at) → Wrote l at (replyTo s) m next
     → record { buffer = m; at = next; begun = false } ≡ gatherReply (gathered l o) s
 unfolding gatherReply
-replied o s {l} {m} {next = next} e w = stored-there 64 l o (replyTo s) m next false (rw e at w)
+replied o s {l} {m} {next = next} e w = stored-there 80 l o (replyTo s) m next false (rw e at w)
 
 -- the reply is gathered, and the next line is read
 pub turn-done : {t r : Turn} {g : Gathered} {piece line out piece' line' out' : List ℕ} → g ≡ gatherReply (gathered out (t .out)) (take (t .len) line)

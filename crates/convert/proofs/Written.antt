@@ -18,7 +18,7 @@ use Rattle.convert.proofs.Short.{reply-short}
 
 -- a buffer with room for a reply, and no more of it taken than it has
 record Fits (g : Gathered) : Type 0 where
-  pub space : 64 ≤ length (g .buffer)
+  pub space : 80 ≤ length (g .buffer)
   pub within : g .at ≤ length (g .buffer)
 
 -- a text that has room is whole behind what was taken
@@ -29,9 +29,9 @@ whole-there l text a h =
     rw (n, sets-eq text l a h) (take-at (take a l ++ text) _ (a + length text) k)
 
 -- where a reply goes lies in the buffer
-room-within : (l : List ℕ) (at : ℕ) → at ≤ length l → room 64 l at ≤ length l
+room-within : (l : List ℕ) (at : ℕ) → at ≤ length l → room 80 l at ≤ length l
 unfolding room
-room-within l at h = go (leb (at + 64) (length l))
+room-within l at h = go (leb (at + 80) (length l))
   where
     go : (b : Bool) → cond b at 0 ≤ length l
     go true = h
@@ -42,14 +42,14 @@ room-within l at h = go (leb (at + 64) (length l))
 module _ (x : Told) (s : List ℕ) (f : Fits (x .gathered)) where
   reply-told : toldBytes (toldReply x s) ≡ toldBytes x ++ replyTo s
   unfolding gatherReply stored room
-  reply-told = go (leb (x .gathered .at + 64) (length (x .gathered .buffer))) refl
+  reply-told = go (leb (x .gathered .at + 80) (length (x .gathered .buffer))) refl
     where
-      go : (b : Bool) → leb (x .gathered .at + 64) (length (x .gathered .buffer)) ≡ b
+      go : (b : Bool) → leb (x .gathered .at + 80) (length (x .gathered .buffer)) ≡ b
           → writeUnless b x .written
           ++ take (cond b (x .gathered .at) 0 + min (length (replyTo s)) (length (x .gathered .buffer) - cond b (x .gathered .at) 0)) (sets (x .gathered .buffer) (cond b (x .gathered .at) 0) (replyTo s))
           ≡ toldBytes x ++ replyTo s
       go true e =
-          let k = leb-true (x .gathered .at + 64) (length (x .gathered .buffer)) e in
+          let k = leb-true (x .gathered .at + 80) (length (x .gathered .buffer)) e in
           ap (λ (t : List ℕ). x .written ++ t) (whole-there (x .gathered .buffer) (replyTo s) (x .gathered .at) (omega (arith, reply-short s)))
           ∙ sym (append-assoc (x .written) (take (x .gathered .at) (x .gathered .buffer)) (replyTo s))
       go false e = ap (λ (t : List ℕ). toldBytes x ++ t) (whole-there (x .gathered .buffer) (replyTo s) 0 (omega (arith, f .space, reply-short s)))
@@ -58,7 +58,7 @@ module _ (x : Told) (s : List ℕ) (f : Fits (x .gathered)) where
   unfolding gatherReply stored
   reply-fits =
       let l = x .gathered .buffer in
-      let a = room 64 l (x .gathered .at) in
+      let a = room 80 l (x .gathered .at) in
       record {
         space = omega (arith, length-sets l a (replyTo s), f .space);
         within = omega (arith, length-sets l a (replyTo s), room-within l (x .gathered .at) (f .within));
@@ -99,6 +99,6 @@ gathers-after (l ∷ ls) x =
     gathers-after ls (writeUnless (l .more) (toldReply x (handed (l .line)))) ∙ ap (λ (g : Gathered). gathersAfter converting tt g ls) (gathers-next x l)
 
 -- what a run gathers, with what was written out before it, are the replies to its lines
-pub all-replies : (out : List ℕ) (ls : List Came) → 64 ≤ length out
+pub all-replies : (out : List ℕ) (ls : List Came) → 80 ≤ length out
     → (toldAfter (untold out) ls .gathered ≡ gathersAfter converting tt (fresh out) ls) × (toldBytes (toldAfter (untold out) ls) ≡ replies ls)
 all-replies out ls h = (gathers-after ls (untold out), told-after ls (untold out) (record { space = h; within = omega arith }))

@@ -2,7 +2,9 @@
 use Prim.Native.Nat.{ℕ}
 use mathlib.Core.Bool.{false}
 use mathlib.Core.List.{List, [], _++_}
-use Rattle.paper.specs.Refusals.{number}
+use Rattle.paper.specs.Refusals.{number, told}
+use Rattle.paper.specs.declared.Told.{Told}
+use Rattle.paper.specs.declared.Told.the-variants as T
 use Rattle.paper.specs.Answers.{Answer, answered, refused}
 use Rattle.text.specs.Digits.{digits}
 use Rattle.text.specs.Quoted.{bytes}
@@ -21,14 +23,14 @@ use Rattle.convert.specs.Lines.{numbersText, lineForm}
 
 -- ---- a reply
 
--- the date as read beside the one found; a refused date as read beside none
+-- the date as read beside the one found; a refused date as read beside none. A Gregorian date that is refused tells what its refusal tells
 abbrev pub fromBs : ℕ → ℕ → ℕ → Answer Date → Reply
-fromBs y m d (answered x) = record { bs = shown.Date y m d; ad = shown.Date (x .year) (x .month) (x .day); refusal = 0 }
-fromBs y m d (refused k) = record { bs = shown.Date y m d; ad = shown.Nothing; refusal = number k }
+fromBs y m d (answered x) = record { bs = shown.Date y m d; ad = shown.Date (x .year) (x .month) (x .day); refusal = 0; told = T.Nothing }
+fromBs y m d (refused k) = record { bs = shown.Date y m d; ad = shown.Nothing; refusal = number k; told = T.Nothing }
 
 abbrev pub fromAdDate : ℕ → ℕ → ℕ → Answer BsDate → Reply
-fromAdDate y m d (answered x) = record { bs = shown.Date (x .year) (x .month) (x .day); ad = shown.Date y m d; refusal = 0 }
-fromAdDate y m d (refused k) = record { bs = shown.Nothing; ad = shown.Date y m d; refusal = number k }
+fromAdDate y m d (answered x) = record { bs = shown.Date (x .year) (x .month) (x .day); ad = shown.Date y m d; refusal = 0; told = T.Nothing }
+fromAdDate y m d (refused k) = record { bs = shown.Nothing; ad = shown.Date y m d; refusal = number k; told = told k }
 
 unfoldable pub bsReply : ℕ → ℕ → ℕ → Reply
 bsReply y m d = fromBs y m d (toAd own y m d)
@@ -43,11 +45,22 @@ abbrev pub shownText : ℕ → ℕ → Shown → List ℕ
 shownText first others (shown.Date y m d) = numbersText first others y m d
 shownText first others shown.Nothing = bytes "none"
 
--- bs=.., ad=.. and refusal=.., each with a line feed
+-- the days after the last day, or behind a minus sign those before the first; 0 where no days are told
+abbrev pub outsideText : Told → List ℕ
+outsideText (T.Before k) = bytes "-" ++ digits k
+outsideText (T.After k) = digits k
+outsideText (T.Line k) = bytes "0"
+outsideText T.Nothing = bytes "0"
+
+-- bs=.. and ad=..
+abbrev pub datesText : Shown → Shown → List ℕ
+datesText bs ad = bytes "bs=" ++ (shownText 0 0 bs ++ (bytes "\nad=" ++ shownText 4 2 ad))
+
+-- these, refusal=.. and outside=.., each with a line feed
 abbrev pub replyText : Reply → List ℕ
 replyText r =
-    bytes "bs=" ++ (shownText 0 0 (r .bs) ++ (bytes "\nad=" ++ (shownText 4 2 (r .ad)
-    ++ (bytes "\nrefusal=" ++ (digits (r .refusal) ++ bytes "\n")))))
+    datesText (r .bs) (r .ad)
+    ++ (bytes "\nrefusal=" ++ (digits (r .refusal) ++ (bytes "\noutside=" ++ (outsideText (r .told) ++ bytes "\n"))))
 
 abbrev pub lineReply : Line → List ℕ
 lineReply (Bs y m d) = replyText (bsReply y m d)
@@ -60,9 +73,9 @@ replyTo s = lineReply (lineForm s)
 
 -- ---- all replies
 
--- the reply to a line behind what is gathered, or at the front, once that is written out, where 64 bytes are not free: no reply is longer
+-- the reply to a line behind what is gathered, or at the front, once that is written out, where 80 bytes are not free: no reply is longer
 unfoldable pub gatherReply : Gathered → List ℕ → Gathered
-gatherReply g s = stored 64 g (replyTo s) false
+gatherReply g s = stored 80 g (replyTo s) false
 
 -- the program holds nothing, and replies to each line
 abbrev pub converting : Program (Unit {0})

@@ -27,10 +27,10 @@ toldBytes x = x .written ++ take (x .gathered .at) (x .gathered .buffer)
 abbrev pub writeUnless : Bool → Told → Told
 writeUnless later x = cond later x (record { written = toldBytes x; gathered = writtenOut (x .gathered) })
 
--- the reply to a line: what is gathered is written out first where 64 bytes are not free behind it
+-- the reply to a line: what is gathered is written out first where 80 bytes are not free behind it
 abbrev pub toldReply : Told → List ℕ → Told
 toldReply x s = record {
-  written = writeUnless (leb (x .gathered .at + 64) (length (x .gathered .buffer))) x .written;
+  written = writeUnless (leb (x .gathered .at + 80) (length (x .gathered .buffer))) x .written;
   gathered = gatherReply (x .gathered) s;
 }
 

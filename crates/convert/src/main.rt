@@ -1,4 +1,4 @@
-// Reads lines bs=Y-M-D and ad=YYYY-MM-DD, and writes both dates and the refusal of each.
+// Reads lines bs=Y-M-D and ad=YYYY-MM-DD, and writes both dates of each, the refusal, and how far outside the table a date lies.
 ghost use mathlib.Core.Path.{_≡_};
 ghost use Prim.Native.Nat.{_≤_};
 ghost use lib.ListN.{length};
@@ -16,7 +16,7 @@ use output::Out;
 fn answer(o: Out, out: &mut [u8], s: &[u8]) -> Out
     ensures { λ r. ⌜ gathered (now (out .exit)) r ≡ gatherReply (gathered (now (out .entry)) o) (now (s .entry)) ⌝ }
 {
-    let ready = o.room(out, 64);
+    let ready = o.room(out, 80);
     Out {
         at: reply::put_line(out, ready.at, s),
         begun: false,

@@ -7,13 +7,14 @@ ghost use Rattle.conversion.specs.Own.{ownTable};
 ghost use Rattle.text.specs.Dashed.{dash};
 ghost use Rattle.text.specs.Written.{Wrote};
 ghost use Rattle.convert.specs.Lines.{numberText};
-ghost use Rattle.convert.specs.Replies.{fromBs, fromAdDate, bsReply, adReply, shownText, replyText, replyTo};
+ghost use Rattle.convert.specs.Replies.{fromBs, fromAdDate, bsReply, adReply, shownText, outsideText, datesText, replyText, replyTo};
 use crate::line;
 use crate::line::Line;
 use conversion::BsAnswer;
 use conversion::BsDate;
 use conversion::Table;
 use gregorian::DateAnswer;
+use paper::Told;
 
 // A date as it is shown, or none.
 pub enum Shown {
@@ -21,11 +22,12 @@ pub enum Shown {
     Nothing,
 }
 
-// The two dates and the refusal, 0 for none.
+// The two dates, the refusal, 0 for none, and what it tells.
 pub struct Reply {
     pub bs: Shown,
     pub ad: Shown,
     pub refusal: u16,
+    pub told: Told,
 }
 
 // The rows of the own table.
@@ -70,7 +72,7 @@ fn table() -> Table
     }
 }
 
-// A BS date as read beside its Gregorian date, or beside none where it is refused.
+// A BS date as read beside its Gregorian date, or beside none where it is refused, which tells no days.
 fn beside_ad(y: u16, m: u16, d: u16, a: DateAnswer) -> Reply
     ensures { λ r. ⌜ r ≡ fromBs y m d (dateSays a) ⌝ }
 {
@@ -79,11 +81,13 @@ fn beside_ad(y: u16, m: u16, d: u16, a: DateAnswer) -> Reply
             bs: Shown::Date(y, m, d),
             ad: Shown::Date(x.year, x.month, x.day),
             refusal: 0,
+            told: Told::Nothing,
         },
         DateAnswer::Refused(k) => Reply {
             bs: Shown::Date(y, m, d),
             ad: Shown::Nothing,
             refusal: k.number(),
+            told: Told::Nothing,
         },
     }
 }
@@ -97,11 +101,13 @@ fn beside_bs(y: u16, m: u16, d: u16, a: BsAnswer) -> Reply
             bs: Shown::Date(x.year, x.month, x.day),
             ad: Shown::Date(y, m, d),
             refusal: 0,
+            told: Told::Nothing,
         },
         BsAnswer::Refused(k) => Reply {
             bs: Shown::Nothing,
             ad: Shown::Date(y, m, d),
             refusal: k.number(),
+            told: k.told(),
         },
     }
 }
@@ -159,19 +165,44 @@ fn put_shown(out: &mut [u8], at: usize, shown: Shown, first: u8, others: u8) -> 
     }
 }
 
-// Writes the three lines of a reply.
+// Writes how many days a date lies after the last day of the table, or behind a minus sign before its first; 0 where nothing is told.
+fn put_outside(out: &mut [u8], at: usize, told: Told) -> usize
+    ensures { λ r. ⌜ Wrote (now (out .entry)) at (outsideText told) (now (out .exit)) r ⌝ }
+{
+    match told {
+        Told::Before(days) => {
+            let a = text::put(out, at, b"-");
+            text::put_decimal(out, a, days as u64)
+        }
+        Told::After(days) => text::put_decimal(out, at, days as u64),
+        Told::Line(_) => text::put(out, at, b"0"),
+        Told::Nothing => text::put(out, at, b"0"),
+    }
+}
+
+// Writes the two dates, each behind its name.
+fn put_dates(out: &mut [u8], at: usize, bs: Shown, ad: Shown) -> usize
+    ensures { λ r. ⌜ Wrote (now (out .entry)) at (datesText bs ad) (now (out .exit)) r ⌝ }
+{
+    let a = text::put(out, at, b"bs=");
+    let b = put_shown(out, a, bs, 0, 0);
+    let c = text::put(out, b, b"\nad=");
+    put_shown(out, c, ad, 4, 2)
+}
+
+// Writes the four lines of a reply.
 fn put_reply(out: &mut [u8], at: usize, reply: Reply) -> usize
     ensures { λ r. ⌜ Wrote (now (out .entry)) at (replyText reply) (now (out .exit)) r ⌝ }
 {
     let bs = reply.bs;
     let ad = reply.ad;
-    let a = text::put(out, at, b"bs=");
-    let b = put_shown(out, a, bs, 0, 0);
-    let c = text::put(out, b, b"\nad=");
-    let d = put_shown(out, c, ad, 4, 2);
-    let e = text::put(out, d, b"\nrefusal=");
-    let f = text::put_decimal(out, e, reply.refusal as u64);
-    text::put(out, f, b"\n")
+    let told = reply.told;
+    let a = put_dates(out, at, bs, ad);
+    let b = text::put(out, a, b"\nrefusal=");
+    let c = text::put_decimal(out, b, reply.refusal as u64);
+    let d = text::put(out, c, b"\noutside=");
+    let e = put_outside(out, d, told);
+    text::put(out, e, b"\n")
 }
 
 // Writes the reply to a line from a place on, and answers the place after it. A line of another form is skipped.
