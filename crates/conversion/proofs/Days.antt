@@ -9,6 +9,7 @@ use lib.Dec.{leb, ltb}
 use Rattle.paper.specs.declared.Refusal.the-variants.{BadTable, NoYear, NoMonth, NoDay, Before, After}
 use Rattle.paper.specs.declared.Refusal.{Refusal}
 use Rattle.paper.specs.Answers.{Answer, answered, refused, given, then}
+use Rattle.paper.specs.Refusals.{number}
 use Rattle.paper.specs.Sums.{sum}
 use Rattle.paper.proofs.Answers.{answered-same, refused-answered, given-answered, given-then, given-on, given-off, then-answered, then-refused}
 use Rattle.paper.proofs.Days.{same-before, same-after, after-before, before-after}
@@ -337,3 +338,11 @@ module _ (c : Calendar) (n : ℕ) (g : c .good ≡ true) where
       (λ m. let z = same-after (sym (from-after m) ∙ e) in (omega arith, m))
       (λ m. absurd (refused-answered e (found c n (record { good = g; from = l; to = m })))) (split (end c) n))
       (λ l. absurd (let z = before-after (sym (from-before l) ∙ e) in let q : ⊥ = omega arith in q)) (split (c .start) n)
+
+pub outside-number : (c : Calendar) (n : ℕ) → number (outside c n) ≡ 7
+unfolding outside
+outside-number c n = go (ltb n (c .start))
+  where
+    go : (b : Bool) → number (cond b (Before (c .start - n)) (After (n - end c + 1))) ≡ 7
+    go true = refl
+    go false = refl

@@ -10,7 +10,8 @@ use lib.ListN.{length}
 use Rattle.paper.specs.declared.Refusal.{Refusal}
 use Rattle.paper.specs.declared.Refusal.the-variants as R
 use Rattle.paper.specs.Answers.{Answer, answered, refused}
-use Rattle.paper.specs.Refusals.{number, line}
+use Rattle.paper.specs.Refusals.{number, told}
+use Rattle.paper.specs.declared.Told as Paper
 use Rattle.sky.specs.Answers.{startsAnswer, startsBuffer}
 use Rattle.rules.specs.Festivals.{Pair, Listed, listed}
 use Rattle.grid.specs.Month.{Grid, Shown, shown}
@@ -18,9 +19,9 @@ use Rattle.rulefile.specs.Files.{readInto, writeInto}
 use Rattle.rulefile.proofs.Theorems.{rule-files}
 use Rattle.steady.specs.Once.{OneOutcome}
 use Rattle.steady.proofs.Refusals.{list-left, month-left, starts-left}
-use Rattle.panel.specs.Boundary.{code, gives, givesSome, givesList, givesMonth, lineIn, givesLine, givesRead, givesWritten, MonthPlaces, monthNumbers}
+use Rattle.panel.specs.Boundary.{code, gives, givesSome, givesList, givesListAd, givesMonth, lineIn, daysIn, givesTold, givesRead, givesWritten, MonthPlaces, monthNumbers}
 use Rattle.panel.specs.Lent.{MonthState}
-use Rattle.panel.specs.Claims.{Crosses, CrossesWithLine}
+use Rattle.panel.specs.Claims.{Crosses, CrossesTelling}
 use Rattle.panel.proofs.Handing.{both}
 
 -- no refusal has the number 0
@@ -31,7 +32,8 @@ number-not-zero R.NoSuchDate h = omega arith
 number-not-zero R.NoYear h = omega arith
 number-not-zero R.NoMonth h = omega arith
 number-not-zero R.NoDay h = omega arith
-number-not-zero R.Outside h = omega arith
+number-not-zero (R.Before j) h = omega arith
+number-not-zero (R.After j) h = omega arith
 number-not-zero R.OutOfRange h = omega arith
 number-not-zero R.NoRoom h = omega arith
 number-not-zero R.OffTable h = omega arith
@@ -68,7 +70,7 @@ some-left (refused k) parts old h = refl
 abbrev pub Told : Type 0 → Type 0
 Told B = ℕ × B
 
--- a day's list, a month, a rule file written and one read
+-- a day's list, a month, a rule file written, and a day's list asked by Gregorian date
 abbrev pub toldList : Listed → ℕ → Told (ℕ × List ℕ)
 toldList l old = let g = givesList l old in (g .0 .0, (g .0 .1, g .1))
 
@@ -78,8 +80,8 @@ toldMonth m old = let g = givesMonth m old in (g .0 .0, (g .0 .1, g .1))
 abbrev pub toldWritten : Answer ℕ × List ℕ → ℕ → Told (ℕ × List ℕ)
 toldWritten w old = let g = givesWritten w old in (g .0 .0, (g .0 .1, g .1))
 
-abbrev pub toldRead : Answer ℕ × List ℕ → ℕ × ℕ → Told ((ℕ × ℕ) × List ℕ)
-toldRead w old = let g = givesRead w old in (g .0 .0, (g .0 .1, g .1))
+abbrev pub toldListAd : Listed → ℕ × (ℕ × ℕ) → Told ((ℕ × (ℕ × ℕ)) × List ℕ)
+toldListAd l old = let g = givesListAd l old in (g .0 .0, (g .0 .1, g .1))
 
 -- an equation on the number and the places, beside the buffers, is one on the number and all of these
 pub beside : {P X : Type 0} {x : ℕ} {u : P} {b : X} {d : (ℕ × P) × X} → _≡_ {A = (ℕ × P) × X} ((x, u), b) d → _≡_ {A = ℕ × (P × X)} (x, (u, b)) (d .0 .0, (d .0 .1, d .1))
@@ -153,36 +155,79 @@ written-leaves rules old h =
     let r = other-refused (w .0) (λ z. h (gives-code (w .0) (λ n. n) (old .0) ∙ z)) in
     both (gives-left (w .0) (λ n. n) (old .0) h) (rule-files .write-left rules (old .1) (r .0) (r .1))
 
--- ---- with the place of a line
+-- ---- with the place of what a refusal tells
 
 -- a refusal with another number than 12 tells no line
-no-line : (k : Refusal) (old : ℕ) → (number k ≡ 12 → ⊥) → lineIn (line k) old ≡ old
+no-line : (k : Refusal) (old : ℕ) → (number k ≡ 12 → ⊥) → lineIn (told k) old ≡ old
 no-line R.BadTable old h = refl
 no-line R.BadRules old h = refl
 no-line R.NoSuchDate old h = refl
 no-line R.NoYear old h = refl
 no-line R.NoMonth old h = refl
 no-line R.NoDay old h = refl
-no-line R.Outside old h = refl
+no-line (R.Before j) old h = refl
+no-line (R.After j) old h = refl
 no-line R.OutOfRange old h = refl
 no-line R.NoRoom old h = refl
 no-line R.OffTable old h = refl
 no-line R.NotEnded old h = refl
 no-line (R.OutOfForm j) old h = absurd (h refl)
 
--- the number that is given beside a line is the answer's
-line-code : (a : Answer ℕ) (old : ℕ × ℕ) → givesLine a old .0 ≡ code a
-line-code (answered n) old = refl
-line-code (refused k) old = refl
+-- a refusal with another number than 7 tells no days
+no-days : (k : Refusal) (old : ℕ × ℕ) → (number k ≡ 7 → ⊥) → daysIn (told k) old ≡ old
+no-days R.BadTable old h = refl
+no-days R.BadRules old h = refl
+no-days R.NoSuchDate old h = refl
+no-days R.NoYear old h = refl
+no-days R.NoMonth old h = refl
+no-days R.NoDay old h = refl
+no-days (R.Before j) old h = absurd (h refl)
+no-days (R.After j) old h = absurd (h refl)
+no-days R.OutOfRange old h = refl
+no-days R.NoRoom old h = refl
+no-days R.OffTable old h = refl
+no-days R.NotEnded old h = refl
+no-days (R.OutOfForm j) old h = refl
 
--- a number other than 0 leaves the count, a number other than 12 the line
-count-kept : (a : Answer ℕ) (old : ℕ × ℕ) → (givesLine a old .0 ≡ 0 → ⊥) → givesLine a old .1 .0 ≡ old .0
-count-kept (answered n) old h = absurd (h refl)
-count-kept (refused k) old h = refl
+module _ {A P D : Type 0} (tell : Paper.Told → D → D) (parts : A → P) where
+  -- the number that is given is the answer's
+  pub told-code : (a : Answer A) (old : P × D) → givesTold tell a parts old .0 ≡ code a
+  told-code (answered x) old = refl
+  told-code (refused k) old = refl
 
-line-kept : (a : Answer ℕ) (old : ℕ × ℕ) → (givesLine a old .0 ≡ 12 → ⊥) → givesLine a old .1 .1 ≡ old .1
-line-kept (answered n) old h = refl
-line-kept (refused k) old h = no-line k (old .1) h
+  -- a number other than 0 leaves the answer's places
+  parts-kept : (a : Answer A) (old : P × D) → (givesTold tell a parts old .0 ≡ 0 → ⊥) → givesTold tell a parts old .1 .0 ≡ old .0
+  parts-kept (answered x) old h = absurd (h refl)
+  parts-kept (refused k) old h = refl
+
+  -- where n alone tells something, another number leaves its place
+  told-kept : (n : ℕ) → ((k : Refusal) (old : D) → (number k ≡ n → ⊥) → tell (told k) old ≡ old) → (a : Answer A) (old : P × D)
+      → (givesTold tell a parts old .0 ≡ n → ⊥) → givesTold tell a parts old .1 .1 ≡ old .1
+  told-kept n quiet (answered x) old h = refl
+  told-kept n quiet (refused k) old h = quiet k (old .1) h
+
+module _ {K : Type 0} {A S : K → Type 0} {C : (k : K) → A k → ℕ → S k → Type 0} {P D B X : Type 0} {before : (k : K) → A k → (P × D) × B} {after : (k : K) → S k → (P × D) × B} where
+  -- THE LAW for such a call: `answer` is its answer, and `buffer` what it leaves in the buffer, which a refusal does not change
+  by-telling : (tell : Paper.Told → D → D) (n : ℕ) → ((k : Refusal) (old : D) → (number k ≡ n → ⊥) → tell (told k) old ≡ old)
+      → (answer : (k : K) → A k → Answer X) (parts : X → P) (buffer : (k : K) → A k → B)
+      → ((k : K) (a : A k) (j : Refusal) → answer k a ≡ refused j → buffer k a ≡ before k a .1)
+      → ((k : K) (a : A k) (x : ℕ) (s : S k) → C k a x s → _≡_ {A = Told (P × D) × B} ((x, after k s .0), after k s .1) (givesTold tell (answer k a) parts (before k a .0), buffer k a))
+      → CrossesTelling n C before after
+  by-telling tell n quiet answer parts buffer kept e =
+      record {
+        once = one-outcome (λ k a. let g = givesTold tell (answer k a) parts (before k a .0) in (g .0, (g .1, buffer k a))) (λ k a x s p. beside (e k a x s p));
+        left = λ k a x s p z.
+            let d = e k a x s p in
+            let old = before k a .0 in
+            let other : givesTold tell (answer k a) parts old .0 ≡ 0 → ⊥ = λ q. z (ap (λ (g : Told (P × D) × B). g .0 .0) d ∙ q) in
+            let r = other-refused (answer k a) (λ q. other (told-code tell parts (answer k a) old ∙ q)) in (
+              ap (λ (g : Told (P × D) × B). g .0 .1 .0) d ∙ parts-kept tell parts (answer k a) old other,
+              ap (λ (g : Told (P × D) × B). g .1) d ∙ kept k a (r .0) (r .1),
+            );
+        told-left = λ k a x s p z.
+            let d = e k a x s p in
+            ap (λ (g : Told (P × D) × B). g .0 .1 .1) d ∙ told-kept tell parts n quiet (answer k a) (before k a .0) (λ q. z (ap (λ (g : Told (P × D) × B). g .0 .0) d ∙ q));
+      }
 
 module _ {K : Type 0} {A S : K → Type 0} {C : (k : K) → A k → ℕ → S k → Type 0} where
   -- a day's list
@@ -223,21 +268,23 @@ module _ {K : Type 0} {A S : K → Type 0} {C : (k : K) → A k → ℕ → S k 
   pub by-read : {before : (k : K) → A k → (ℕ × ℕ) × List ℕ} {after : (k : K) → S k → (ℕ × ℕ) × List ℕ} (text : (k : K) → A k → List ℕ)
       → ((k : K) (a : A k) (x : ℕ) (s : S k) → C k a x s
       → _≡_ {A = Told (ℕ × ℕ) × List ℕ} ((x, after k s .0), after k s .1) (givesRead (readInto (text k a) (before k a .1)) (before k a .0)))
-      → CrossesWithLine C before after
+      → CrossesTelling 12 C before after
   by-read {before} text e =
-      record {
-        once = one-outcome (λ k a. toldRead (readInto (text k a) (before k a .1)) (before k a .0)) (λ k a x s p. beside (e k a x s p));
-        left = λ k a x s p n.
-            let d = e k a x s p in
-            let old = before k a in
-            let w = readInto (text k a) (old .1) in
-            let other : givesLine (w .0) (old .0) .0 ≡ 0 → ⊥ = λ z. n (ap (λ (g : Told (ℕ × ℕ) × List ℕ). g .0 .0) d ∙ z) in
-            let r = other-refused (w .0) (λ z. other (line-code (w .0) (old .0) ∙ z)) in (
-              ap (λ (g : Told (ℕ × ℕ) × List ℕ). g .0 .1 .0) d ∙ count-kept (w .0) (old .0) other,
-              ap (λ (g : Told (ℕ × ℕ) × List ℕ). g .1) d ∙ rule-files .read-left (text k a) (old .1) (r .0) (r .1),
-            );
-        line-left = λ k a x s p n.
-            let d = e k a x s p in
-            let old = before k a in
-            ap (λ (g : Told (ℕ × ℕ) × List ℕ). g .0 .1 .1) d ∙ line-kept (readInto (text k a) (old .1) .0) (old .0) (λ z. n (ap (λ (g : Told (ℕ × ℕ) × List ℕ). g .0 .0) d ∙ z));
-      }
+      by-telling lineIn 12 no-line (λ k a. readInto (text k a) (before k a .1) .0) (λ n. n) (λ k a. readInto (text k a) (before k a .1) .1)
+      (λ k a j h. rule-files .read-left (text k a) (before k a .1) j h) e
+
+  -- a day's list asked by Gregorian date
+  pub by-list-ad : {before : (k : K) → A k → (ℕ × (ℕ × ℕ)) × List ℕ} {after : (k : K) → S k → (ℕ × (ℕ × ℕ)) × List ℕ} (answer : (k : K) → A k → Answer (List Pair))
+      → ((k : K) (a : A k) (x : ℕ) (s : S k) → C k a x s
+      → _≡_ {A = Told (ℕ × (ℕ × ℕ)) × List ℕ} ((x, after k s .0), after k s .1) (givesListAd (listed (answer k a) (before k a .1)) (before k a .0)))
+      → CrossesTelling 7 C before after
+  by-list-ad {before} answer e =
+      by-telling daysIn 7 no-days (λ k a. listed (answer k a) (before k a .1) .answer) (λ n. n) (λ k a. listed (answer k a) (before k a .1) .buffer)
+      (λ k a j h. list-left (answer k a) (before k a .1) j h) e
+
+  -- a date asked by Gregorian date, without a buffer
+  pub by-days : {P X : Type 0} {before : (k : K) → A k → P × (ℕ × ℕ)} {after : (k : K) → S k → P × (ℕ × ℕ)} (answer : (k : K) → A k → Answer X) (parts : X → P)
+      → ((k : K) (a : A k) (x : ℕ) (s : S k) → C k a x s → _≡_ {A = Told (P × (ℕ × ℕ))} (x, after k s) (givesTold daysIn (answer k a) parts (before k a)))
+      → CrossesTelling {B = Unit {0}} 7 C (λ k a. (before k a, tt)) (λ k s. (after k s, tt))
+  by-days answer parts e =
+      by-telling daysIn 7 no-days answer parts (λ k a. tt) (λ k a j h. refl) (λ k a x s p. both (e k a x s p) refl)

@@ -1,5 +1,5 @@
 -- NO SECOND ANSWER, AND A REFUSAL LEAVES WHAT WAS LENT, for each C function: two numbers that meet its contract are equal, and so is all that they leave
--- in the lent places and buffers; a number other than 0 leaves these as they were, but that 12 writes the line to its place. Three functions are lent nothing
+-- in the lent places and buffers; a number other than 0 leaves these as they were, but that 7 writes its days and 12 its line to places of their own. Three functions are lent nothing
 -- to write to. Assumes nothing.
 use Prim.Native.Nat.{ℕ}
 use mathlib.Core.Path.{sym, _∙_}
@@ -20,9 +20,9 @@ use Rattle.grid.specs.Step.{stepMonth}
 use Rattle.grid.specs.Kathmandu.{monthUnder}
 use Rattle.steady.specs.Once.{OneAnswer}
 use Rattle.panel.specs.Boundary.{numbers, bsNumbers, readings, monthOf, lent, kalaBy}
-use Rattle.panel.specs.Lent.{one, two, three, four, span, walked, listed, month}
-use Rattle.panel.specs.Claims.{Crosses, CrossesWithLine}
-use Rattle.panel.proofs.Crossing.{by-gives, by-value, by-some, by-starts, by-list, by-month, by-written, by-read}
+use Rattle.panel.specs.Lent.{one, two, three, four, span, walked, dated, listed, listedAd, month}
+use Rattle.panel.specs.Claims.{Crosses, CrossesTelling}
+use Rattle.panel.proofs.Crossing.{by-gives, by-value, by-some, by-starts, by-list, by-list-ad, by-days, by-month, by-written, by-read}
 use Rattle.panel.proofs.dates.panel_date_new.Reads as DateNew
 use Rattle.panel.proofs.dates.panel_date_day_number.Reads as DayNumber
 use Rattle.panel.proofs.dates.panel_date_weekday.Reads as Weekday
@@ -109,8 +109,8 @@ validate-bs-date k a x y s t p q = p ∙ sym q
 pub bs-to-ad : Crosses BsToAd.Learnt (λ k a. three (a .1 .1 .1 .1 .1 .1 .1 .1)) (λ k s. three (s .1 .1 .1 .1 .1 .1 .1 .1))
 bs-to-ad = by-gives (λ k a. let x = a .1 .1 .1 .1 .1 in toAd (tableIn a) (x .0) (x .1 .0) (x .1 .1 .0)) numbers (λ k a x s p. p)
 
-pub ad-to-bs : Crosses AdToBs.Learnt (λ k a. three (a .1 .1 .1 .1 .1 .1 .1 .1)) (λ k s. three (s .1 .1 .1 .1 .1 .1 .1 .1))
-ad-to-bs = by-gives (λ k a. let x = a .1 .1 .1 .1 .1 in fromAd (tableIn a) (x .0) (x .1 .0) (x .1 .1 .0)) bsNumbers (λ k a x s p. p)
+pub ad-to-bs : CrossesTelling {B = Unit {0}} 7 AdToBs.Learnt (λ k a. (dated (a .1 .1 .1 .1 .1 .1 .1 .1), tt)) (λ k s. (dated (s .1 .1 .1 .1 .1 .1 .1 .1), tt))
+ad-to-bs = by-days (λ k a. let x = a .1 .1 .1 .1 .1 in fromAd (tableIn a) (x .0) (x .1 .0) (x .1 .1 .0)) bsNumbers (λ k a x s p. p)
 
 -- ---- trigonometry
 
@@ -192,12 +192,12 @@ check-rules k a x y s t p q = p ∙ sym q
 pub festivals-on : Crosses FestivalsOn.Learnt (λ k a. listed (a .1 .1 .1 .1 .1 .1 .1 .1 .1)) (λ k s. listed (s .1 .1 .1 .1 .1 .1 .1 .1 .1))
 festivals-on = by-list (λ k a. let rules = now (a .1 .1 .1 .1 .1 .0) in let x = a .1 .1 .1 .1 .1 .1 in listOnBs kathmandu (tableIn a) (rulesOf rules) (acceptedRules rules) (x .0) (x .1 .0) (x .1 .1 .0)) (λ k a x s p. p)
 
-pub festivals-on-ad : Crosses FestivalsOnAd.Learnt (λ k a. listed (a .1 .1 .1 .1 .1 .1 .1 .1 .1)) (λ k s. listed (s .1 .1 .1 .1 .1 .1 .1 .1 .1))
-festivals-on-ad = by-list (λ k a. let rules = now (a .1 .1 .1 .1 .1 .0) in let x = a .1 .1 .1 .1 .1 .1 in listOnAd kathmandu (tableIn a) (rulesOf rules) (acceptedRules rules) (x .0) (x .1 .0) (x .1 .1 .0)) (λ k a x s p. p)
+pub festivals-on-ad : CrossesTelling 7 FestivalsOnAd.Learnt (λ k a. listedAd (a .1 .1 .1 .1 .1 .1 .1 .1 .1)) (λ k s. listedAd (s .1 .1 .1 .1 .1 .1 .1 .1 .1))
+festivals-on-ad = by-list-ad (λ k a. let rules = now (a .1 .1 .1 .1 .1 .0) in let x = a .1 .1 .1 .1 .1 .1 in listOnAd kathmandu (tableIn a) (rulesOf rules) (acceptedRules rules) (x .0) (x .1 .0) (x .1 .1 .0)) (λ k a x s p. p)
 
 -- ---- rule files
 
-pub read-rules : CrossesWithLine ReadRules.Learnt (λ k a. walked (a .1)) (λ k s. walked (s .1))
+pub read-rules : CrossesTelling 12 ReadRules.Learnt (λ k a. walked (a .1)) (λ k s. walked (s .1))
 read-rules = by-read (λ k a. now (a .0)) (λ k a x s p. p)
 
 pub write-rules : Crosses WriteRules.Learnt (λ k a. listed (a .1)) (λ k s. listed (s .1))

@@ -6,11 +6,11 @@ use mathlib.Core.Option.{Option, some, none}
 use lib.Dec.{leb}
 use lib.Ieee.{Float}
 use Rattle.paper.specs.Answers.{Answer, answered, refused, given}
-use Rattle.paper.specs.Refusals.{number, line}
+use Rattle.paper.specs.Refusals.{number, told}
 use Rattle.paper.specs.declared.Refusal.{Refusal}
 use Rattle.paper.specs.declared.Refusal.the-variants.{BadRules}
 use Rattle.paper.specs.declared.Told.{Told}
-use Rattle.paper.specs.declared.Told.the-variants.{Line, Nothing}
+use Rattle.paper.specs.declared.Told.the-variants as T
 use Rattle.gregorian.specs.declared.Date.{Date}
 use Rattle.conversion.specs.declared.BsDate.{BsDate}
 use Rattle.conversion.specs.declared.Table.{Table}
@@ -46,20 +46,34 @@ givesList l old = (gives (l .answer) (λ n. n) old, l .buffer)
 
 -- the place for a line: a line that is told goes there, all else leaves it
 abbrev pub lineIn : Told → ℕ → ℕ
-lineIn (Line k) old = k
-lineIn Nothing old = old
+lineIn (T.Before k) old = old
+lineIn (T.After k) old = old
+lineIn (T.Line k) old = k
+lineIn T.Nothing old = old
 
-abbrev pub numberAndLine : Refusal → ℕ → ℕ × ℕ
-numberAndLine k old = (number k, lineIn (line k) old)
+-- the two places for days, before the first day and after the last: days that are told go to their side, with 0 on the other; all else leaves both
+abbrev pub daysIn : Told → ℕ × ℕ → ℕ × ℕ
+daysIn (T.Before k) old = (k, 0)
+daysIn (T.After k) old = (0, k)
+daysIn (T.Line k) old = old
+daysIn T.Nothing old = old
 
--- an answer and the place for a line
-abbrev pub givesLine : Answer ℕ → ℕ × ℕ → ℕ × (ℕ × ℕ)
-givesLine (answered n) old = (0, (n, old .1))
-givesLine (refused k) old = (number k, (old .0, lineIn (line k) (old .1)))
+-- the number of a refusal, and the place of what it tells, which `tell` fills
+abbrev pub numberAnd : {D : Type 0} → (Told → D → D) → Refusal → D → ℕ × D
+numberAnd tell k old = (number k, tell (told k) old)
+
+-- 0 and the parts of the answer; or the number of the refusal, and what it tells. Neither touches the place of the other
+abbrev pub givesTold : {A P D : Type 0} → (Told → D → D) → Answer A → (A → P) → P × D → ℕ × (P × D)
+givesTold tell (answered x) parts old = (0, (parts x, old .1))
+givesTold tell (refused k) parts old = (number k, (old .0, tell (told k) (old .1)))
+
+-- a day's list asked by Gregorian date: its count or how far outside the date lies, and the lent buffer
+abbrev pub givesListAd : Listed → ℕ × (ℕ × ℕ) → (ℕ × (ℕ × (ℕ × ℕ))) × List ℕ
+givesListAd l old = (givesTold daysIn (l .answer) (λ n. n) old, l .buffer)
 
 -- a rule file read: its count and the place of the line, and the lent buffer; one written: its bytes, and the lent buffer
 abbrev pub givesRead : Answer ℕ × List ℕ → ℕ × ℕ → (ℕ × (ℕ × ℕ)) × List ℕ
-givesRead w old = (givesLine (w .0) old, w .1)
+givesRead w old = (givesTold lineIn (w .0) (λ n. n) old, w .1)
 
 abbrev pub givesWritten : Answer ℕ × List ℕ → ℕ → (ℕ × ℕ) × List ℕ
 givesWritten w old = (gives (w .0) (λ n. n) old, w .1)

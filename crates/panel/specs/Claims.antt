@@ -12,16 +12,16 @@ module _ {K : Type 0} {A S : K → Type 0} {B : Type 0} (C : (k : K) → A k →
     -- a number other than 0 leaves every place and buffer
     pub left : (k : K) (a : A k) (x : ℕ) (s : S k) → C k a x s → (x ≡ 0 → ⊥) → after k s ≡ before k a
 
--- the same of a call that is lent a place for a line too, which stands behind the count: `before` and `after` read both, and the buffer
-module _ {K : Type 0} {A S : K → Type 0} {B : Type 0} (C : (k : K) → A k → ℕ → S k → Type 0) where
-  pub record CrossesWithLine (before : (k : K) → A k → (ℕ × ℕ) × B) (after : (k : K) → S k → (ℕ × ℕ) × B) : Type 0 where
+-- the same of a call that is lent a place for what its refusal n tells: `before` and `after` read the answer's places, that place, and the buffer
+module _ {K : Type 0} {A S : K → Type 0} {P D B : Type 0} (n : ℕ) (C : (k : K) → A k → ℕ → S k → Type 0) where
+  pub record CrossesTelling (before : (k : K) → A k → (P × D) × B) (after : (k : K) → S k → (P × D) × B) : Type 0 where
     -- no second number, and no second state of a place or the buffer, meets the contract
     pub once : OneOutcome C after
-    -- a number other than 0 leaves the count and the buffer
+    -- a number other than 0 leaves the answer's places and the buffer
     pub left : (k : K) (a : A k) (x : ℕ) (s : S k) → C k a x s → (x ≡ 0 → ⊥)
         → (after k s .0 .0 ≡ before k a .0 .0) × (after k s .1 ≡ before k a .1)
-    -- a number other than 12 leaves the line's place
-    pub line-left : (k : K) (a : A k) (x : ℕ) (s : S k) → C k a x s → (x ≡ 12 → ⊥) → after k s .0 .1 ≡ before k a .0 .1
+    -- a number other than n leaves the place of what is told
+    pub told-left : (k : K) (a : A k) (x : ℕ) (s : S k) → C k a x s → (x ≡ n → ⊥) → after k s .0 .1 ≡ before k a .0 .1
 
 -- the number x is n where P holds, and 0 where it does not
 pub record NumberIf (x n : ℕ) (P : Type 0) : Type 0 where

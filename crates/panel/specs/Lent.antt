@@ -36,6 +36,14 @@ span s = (now (s .0), (now (s .1 .0), now (s .1 .1 .0)))
 abbrev pub walked : {X Y Z : Type 0} → RefT X × (RefT Y × Last Z) → (Y × Z) × X
 walked s = ((now (s .1 .0), now (s .1 .1 .0)), now (s .0))
 
+-- three places, and two for days behind them
+abbrev pub dated : {X Y Z B A : Type 0} → RefT X × (RefT Y × (RefT Z × (RefT B × Last A))) → (X × Y × Z) × (B × A)
+dated s = let d = s .1 .1 .1 in ((now (s .0), now (s .1 .0), now (s .1 .1 .0)), (now (d .0), now (d .1 .0)))
+
+-- a buffer, its count behind it, and two places for days
+abbrev pub listedAd : {X Y B A : Type 0} → RefT X × (RefT Y × (RefT B × Last A)) → (Y × (B × A)) × X
+listedAd s = let d = s .1 .1 in ((now (s .1 .0), (now (d .0), now (d .1 .0))), now (s .0))
+
 -- a buffer, and its count behind it
 abbrev pub listed : {X Y : Type 0} → RefT X × Last Y → Y × X
 listed s = (now (s .1 .0), now (s .0))
@@ -83,6 +91,13 @@ lendThree e x = (ref (e 0) (x .0), (ref (e 1) (x .1), (ref (e 2) (x .2), tt)))
 
 abbrev pub lendList : {X Y : Type 0} → (ℕ → Place) → Y × X → RefT X × Last Y
 lendList e x = (ref (e 0) (x .1), (ref (e 1) (x .0), tt))
+
+abbrev pub lendDated : {X Y Z B A : Type 0} → (ℕ → Place) → (X × Y × Z) × (B × A) → RefT X × (RefT Y × (RefT Z × (RefT B × Last A)))
+lendDated e x =
+    (ref (e 0) (x .0 .0), (ref (e 1) (x .0 .1), (ref (e 2) (x .0 .2), (ref (e 3) (x .1 .0), (ref (e 4) (x .1 .1), tt)))))
+
+abbrev pub lendListAd : {X Y B A : Type 0} → (ℕ → Place) → (Y × (B × A)) × X → RefT X × (RefT Y × (RefT B × Last A))
+lendListAd e x = (ref (e 0) (x .1), (ref (e 1) (x .0 .0), (ref (e 2) (x .0 .1 .0), (ref (e 3) (x .0 .1 .1), tt))))
 
 abbrev pub lendMonth : (ℕ → Place) → MonthState → MonthLent
 lendMonth e x =

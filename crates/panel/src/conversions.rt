@@ -4,9 +4,10 @@ ghost use Rattle.paper.specs.declared.Refusal.the-variants.{BadTable};
 ghost use Rattle.conversion.specs.Flat.{accepted};
 ghost use Rattle.conversion.specs.Calendar.{monthLen, validBs, toAd, fromAd};
 ghost use Rattle.conversion.specs.Answers.{daysSays, validSays, bsSays};
-ghost use Rattle.panel.specs.Boundary.{code, gives, numbers, bsNumbers, table, lent, accepting};
+ghost use Rattle.panel.specs.Boundary.{code, gives, daysIn, givesTold, numbers, bsNumbers, lent, table, accepting};
 use crate::acceptance;
 use crate::dates::give_date;
+use crate::give_days;
 use crate::table_of;
 use conversion::BsAnswer;
 use conversion::BsDate;
@@ -37,10 +38,18 @@ fn give_validity(answer: Validity) -> u16
     }
 }
 
-// A BS date's three numbers where they are asked for.
-fn give_bs(answer: BsAnswer, year: &mut u16, month: &mut u16, day: &mut u16) -> u16
-    ensures { λ r. ⌜ (r, (now (year .exit), now (month .exit), now (day .exit)))
-        ≡ gives (bsSays answer) bsNumbers (now (year .entry), now (month .entry), now (day .entry)) ⌝ }
+// A BS date's three numbers where they are asked for, or how far outside the table the date lies.
+fn give_bs(
+    answer: BsAnswer,
+    year: &mut u16,
+    month: &mut u16,
+    day: &mut u16,
+    days_before: &mut u32,
+    days_after: &mut u32,
+) -> u16
+    ensures { λ r. ⌜ (r, ((now (year .exit), now (month .exit), now (day .exit)), (now («days_before» .exit), now («days_after» .exit))))
+        ≡ givesTold daysIn (bsSays answer) bsNumbers
+        ((now (year .entry), now (month .entry), now (day .entry)), (now («days_before» .entry), now («days_after» .entry))) ⌝ }
 {
     match answer {
         BsAnswer::Is(date) => {
@@ -49,7 +58,7 @@ fn give_bs(answer: BsAnswer, year: &mut u16, month: &mut u16, day: &mut u16) -> 
             *day = date.day;
             0
         }
-        BsAnswer::Refused(k) => k.number(),
+        BsAnswer::Refused(k) => give_days(k, days_before, days_after),
     }
 }
 
@@ -134,7 +143,7 @@ pub extern "C" fn panel_bs_to_ad(
     )
 }
 
-// The BS date of a Gregorian date: 1, 3, 7.
+// The BS date of a Gregorian date, or how far outside the table it lies: 1, 3, 7.
 #[no_mangle]
 pub extern "C" fn panel_ad_to_bs(
     first_year: u16,
@@ -148,10 +157,12 @@ pub extern "C" fn panel_ad_to_bs(
     bs_year: &mut u16,
     bs_month: &mut u16,
     bs_day: &mut u16,
+    days_before: &mut u32,
+    days_after: &mut u32,
 ) -> u16
-    ensures { λ r. ⌜ (r, (now («bs_year» .exit), now («bs_month» .exit), now («bs_day» .exit)))
-        ≡ gives (fromAd (lent «first_year» «first_ad_year» «first_ad_month» «first_ad_day» (now (rows .entry))) year month day) bsNumbers
-        (now («bs_year» .entry), now («bs_month» .entry), now («bs_day» .entry)) ⌝ }
+    ensures { λ r. ⌜ (r, ((now («bs_year» .exit), now («bs_month» .exit), now («bs_day» .exit)), (now («days_before» .exit), now («days_after» .exit))))
+        ≡ givesTold daysIn (fromAd (lent «first_year» «first_ad_year» «first_ad_month» «first_ad_day» (now (rows .entry))) year month day) bsNumbers
+        ((now («bs_year» .entry), now («bs_month» .entry), now («bs_day» .entry)), (now («days_before» .entry), now («days_after» .entry))) ⌝ }
 {
     let table = table_of(first_year, first_ad_year, first_ad_month, first_ad_day);
     give_bs(
@@ -159,5 +170,7 @@ pub extern "C" fn panel_ad_to_bs(
         bs_year,
         bs_month,
         bs_day,
+        days_before,
+        days_after,
     )
 }

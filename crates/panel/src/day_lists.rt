@@ -3,8 +3,9 @@ ghost use mathlib.Core.Path.{_≡_};
 ghost use Rattle.paper.specs.declared.Refusal.the-variants.{BadRules};
 ghost use Rattle.rules.specs.Rules.{acceptedRules};
 ghost use Rattle.festivals.specs.Answers.{listSays, onBs, onAd};
-ghost use Rattle.panel.specs.Boundary.{code, gives, givesList, table, accepting};
+ghost use Rattle.panel.specs.Boundary.{code, gives, daysIn, givesTold, givesList, givesListAd, table, accepting};
 use crate::acceptance;
+use crate::give_days;
 use crate::table_of;
 use festivals::ListAnswer;
 use paper::Refusal;
@@ -19,6 +20,25 @@ fn give_count(answer: ListAnswer, count: &mut usize) -> u16
             0
         }
         ListAnswer::Refused(k) => k.number(),
+    }
+}
+
+// The same, or how far outside the table the date lies.
+fn give_count_or_days(
+    answer: ListAnswer,
+    count: &mut usize,
+    days_before: &mut u32,
+    days_after: &mut u32,
+) -> u16
+    ensures { λ r. ⌜ (r, (now (count .exit), (now («days_before» .exit), now («days_after» .exit))))
+        ≡ givesTold daysIn (listSays answer) (λ x. x) (now (count .entry), (now («days_before» .entry), now («days_after» .entry))) ⌝ }
+{
+    match answer {
+        ListAnswer::Count(n) => {
+            *count = n;
+            0
+        }
+        ListAnswer::Refused(k) => give_days(k, days_before, days_after),
     }
 }
 
@@ -56,7 +76,7 @@ pub extern "C" fn panel_festivals_on(
     )
 }
 
-// The festivals of a Gregorian date, as name, holiday, at the front of a lent buffer, and how many: 1, 2, 3, 7, 9.
+// The festivals of a Gregorian date, as name, holiday, at the front of a lent buffer, and how many; or how far outside the table the date lies: 1, 2, 3, 7, 9.
 #[no_mangle]
 pub extern "C" fn panel_festivals_on_ad(
     first_year: u16,
@@ -70,14 +90,19 @@ pub extern "C" fn panel_festivals_on_ad(
     day: u16,
     festivals: &mut [u16],
     count: &mut usize,
+    days_before: &mut u32,
+    days_after: &mut u32,
 ) -> u16
-    ensures { λ r. ⌜ ((r, now (count .exit)), now (festivals .exit))
-        ≡ givesList (onAd (table «first_year» «first_ad_year» «first_ad_month» «first_ad_day»)
-        (now (rows .entry)) (now (rules .entry)) year month day (now (festivals .entry))) (now (count .entry)) ⌝ }
+    ensures { λ r. ⌜ ((r, (now (count .exit), (now («days_before» .exit), now («days_after» .exit)))), now (festivals .exit))
+        ≡ givesListAd (onAd (table «first_year» «first_ad_year» «first_ad_month» «first_ad_day»)
+        (now (rows .entry)) (now (rules .entry)) year month day (now (festivals .entry)))
+        (now (count .entry), (now («days_before» .entry), now («days_after» .entry))) ⌝ }
 {
     let table = table_of(first_year, first_ad_year, first_ad_month, first_ad_day);
-    give_count(
+    give_count_or_days(
         festivals::festivals_on_ad(table, rows, rules, year, month, day, festivals),
         count,
+        days_before,
+        days_after,
     )
 }

@@ -1,7 +1,7 @@
 // Rules as a text file, read and written.
 ghost use mathlib.Core.Path.{_≡_};
 ghost use Rattle.rulefile.specs.Files.{readSays, writtenSays, readInto, writeInto};
-ghost use Rattle.panel.specs.Boundary.{gives, numberAndLine, givesLine, givesRead, givesWritten};
+ghost use Rattle.panel.specs.Boundary.{gives, lineIn, numberAnd, givesTold, givesRead, givesWritten};
 use paper::Refusal;
 use paper::Told;
 use rulefile::FileRead;
@@ -9,10 +9,12 @@ use rulefile::FileWritten;
 
 // The number of a refusal, and the line that it tells where that is asked for.
 fn give_line(refusal: Refusal, line: &mut usize) -> u16
-    ensures { λ r. ⌜ (r, now (line .exit)) ≡ numberAndLine refusal (now (line .entry)) ⌝ }
+    ensures { λ r. ⌜ (r, now (line .exit)) ≡ numberAnd lineIn refusal (now (line .entry)) ⌝ }
 {
-    let told = refusal.line();
+    let told = refusal.told();
     match told {
+        Told::Before(_) => refusal.number(),
+        Told::After(_) => refusal.number(),
         Told::Line(k) => {
             *line = k;
             refusal.number()
@@ -23,7 +25,8 @@ fn give_line(refusal: Refusal, line: &mut usize) -> u16
 
 // The number of rules where it is asked for, and with 12 the line.
 fn give_rules(answer: FileRead, count: &mut usize, line: &mut usize) -> u16
-    ensures { λ r. ⌜ (r, (now (count .exit), now (line .exit))) ≡ givesLine (readSays answer) (now (count .entry), now (line .entry)) ⌝ }
+    ensures { λ r. ⌜ (r, (now (count .exit), now (line .exit))) ≡ givesTold lineIn (readSays answer) (λ n. n)
+        (now (count .entry), now (line .entry)) ⌝ }
 {
     match answer {
         FileRead::Rules(n) => {
