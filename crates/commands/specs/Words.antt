@@ -9,6 +9,7 @@ use Rattle.text.specs.Dashed.{numbers, ended}
 use Rattle.text.specs.declared.triples.Numbers.{Numbers}
 use Rattle.text.specs.declared.triples.Numbers.the-variants as N
 use Rattle.gregorian.specs.declared.Date.{Date}
+use Rattle.commands.specs.declared.words.Asked.{Asked}
 use Rattle.commands.specs.declared.words.Asked.the-variants as A
 use Rattle.commands.specs.declared.words.Words.{Words}
 use Rattle.commands.specs.declared.words.Words.the-variants as W
@@ -69,3 +70,9 @@ unfoldable pub askedBy : ℕ → List ℕ → List ℕ → List ℕ → Words
 askedBy count a b c =
     cond (eqb count 1) (askedDate (dateIn a))
     (cond (eqb count 2) (askedMonth (pairIn a b)) (cond (eqb count 3) (askedDay (pairIn a b) (numberIn c)) W.Other))
+
+-- the Gregorian date that is asked; where it is a BS month or date, one that is before every table's first day
+abbrev pub dateAsked : Asked → Date
+dateAsked (A.Month y m) = record { year = 1900; month = 1; day = 1 }
+dateAsked (A.Day y m d) = record { year = 1900; month = 1; day = 1 }
+dateAsked (A.Date x) = x

@@ -1,3 +1,4 @@
 // What the words of a command ask, and the line that says why it is refused.
+mod outside;
 pub mod refusals;
 pub mod words;

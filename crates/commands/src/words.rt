@@ -1,6 +1,6 @@
 // What is asked: the words of the command line, read.
 ghost use mathlib.Core.Path.{_≡_};
-ghost use Rattle.commands.specs.Words.{dateIn, numberIn, pairIn, orFirst, askedDate, askedMonth, askedDay, askedBy};
+ghost use Rattle.commands.specs.Words.{dateIn, numberIn, pairIn, orFirst, askedDate, askedMonth, askedDay, askedBy, dateAsked};
 use gregorian::Date;
 use text::Numbers;
 use text::Whole;
@@ -114,4 +114,23 @@ pub fn asked_by(count: usize, a: &[u8], b: &[u8], c: &[u8]) -> Words
         return three_words(a, b, c);
     }
     Words::Other
+}
+
+// The Gregorian date that is asked; where it is a BS month or date, one that is before every table's first day.
+pub fn date_asked(asked: Asked) -> Date
+    ensures { λ r. ⌜ r ≡ dateAsked asked ⌝ }
+{
+    match asked {
+        Asked::Month(_, _) => Date {
+            year: 1900,
+            month: 1,
+            day: 1,
+        },
+        Asked::Day(_, _, _) => Date {
+            year: 1900,
+            month: 1,
+            day: 1,
+        },
+        Asked::Date(date) => date,
+    }
 }

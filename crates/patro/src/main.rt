@@ -40,12 +40,12 @@ fn from_words() -> Words {
 
 // Writes the line that says why there is no page to standard error. Where the table or the rules are refused, with 1 or 2, that was said with the
 // line of the file as they were read.
-fn refuse(why: Refusal) {
+fn refuse(why: Refusal, asked: Asked) {
     if why.number() <= 2 {
         return;
     }
-    let mut line = [0u8; 128];
-    let n = refusals::put_refusal(&mut line, 0, why);
+    let mut line = [0u8; 160];
+    let n = refusals::put_refusal(&mut line, 0, why, words::date_asked(asked));
     io::write_all(STDERR_FILENO, &line[..n]);
 }
 
@@ -64,7 +64,7 @@ fn show(asked: Asked, table: Table, rows: &[u16], rules: &[u16], names: &[u8]) {
     let mut page = [0u8; 262143];
     match pages::lay(asked, today(), table, rows, rules, names, &mut page) {
         Laid::Bytes(n) => write_page(&page[..n]),
-        Laid::Refused(why) => refuse(why),
+        Laid::Refused(why) => refuse(why, asked),
     }
 }
 

@@ -7,6 +7,7 @@ mod month;
 mod names;
 mod words;
 
+pub use columns::put_full_date;
 pub use day::put_day_page;
 use gregorian::Date;
 pub use month::put_month_page;

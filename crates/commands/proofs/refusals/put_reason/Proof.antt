@@ -1,4 +1,4 @@
--- `patro::refusals::put_reason` meets its contract: each variant's text is put. Assumes nothing.
+-- `commands::refusals::put_reason` meets its contract: each variant's text is put. Assumes nothing.
 use borrow.Author.Needs.{needs}
 use Rattle.commands.proofs.refusals.put_reason.Statement.{statement}
 use Rattle.commands.proofs.refusals.put_reason.Tie as tie
@@ -10,9 +10,9 @@ put-reason-spec =
     (λ c. search needs) (λ c. search needs) (λ c κs. search needs) (λ c. search needs) (λ c. search needs) (λ c κs. search needs)
     (λ c. search needs) (λ c. search needs) (λ c κs. search needs) (λ c. search needs) (λ c. search needs) (λ c κs. search needs)
     (λ c. search needs) (λ c. search needs) (λ c κs. search needs) (λ c. search needs) (λ c. search needs) (λ c κs. search needs)
-    (λ c. search needs) (λ c. search needs) (λ c κs. search needs) (λ c. search needs) (λ c. search needs) (λ c κs. search needs)
-    (λ c. search needs) (λ c. search needs) (λ c κs. search needs) (λ c. search needs) (λ c. search needs) (λ c κs. search needs)
-    (λ c. search needs) (λ c. search needs) (λ c κs. search needs) (λ c. search needs) (λ c κs. search needs)
+    (λ c. search needs) (λ c κs. search needs) (λ c. search needs) (λ c κs. search needs) (λ c. search needs) (λ c. search needs)
+    (λ c κs. search needs) (λ c. search needs) (λ c. search needs) (λ c κs. search needs) (λ c. search needs) (λ c. search needs)
+    (λ c κs. search needs) (λ c. search needs) (λ c. search needs) (λ c κs. search needs) (λ c. search needs) (λ c κs. search needs)
     (λ c. search needs)
     (λ c. rw (c .before .before .before .before .before .enum-told .given .1) (c .before .before .put .ensures))
     (λ c. search needs)
@@ -26,6 +26,10 @@ put-reason-spec =
     (λ c. search needs)
     (λ c. rw (c .before .before .before .before .before .enum-told6 .given .1) (c .before .before .put6 .ensures))
     (λ c. search needs)
+    (λ c. rw (c .before .before .before .before .before .why .given .1) (c .before .before .put-before .ensures))
+    (λ c. search needs)
+    (λ c. rw (c .before .before .before .before .before .why2 .given .1) (c .before .before .put-after .ensures))
+    (λ c. search needs)
     (λ c. rw (c .before .before .before .before .before .enum-told7 .given .1) (c .before .before .put7 .ensures))
     (λ c. search needs)
     (λ c. rw (c .before .before .before .before .before .enum-told8 .given .1) (c .before .before .put8 .ensures))
@@ -34,6 +38,4 @@ put-reason-spec =
     (λ c. search needs)
     (λ c. rw (c .before .before .before .before .before .enum-told10 .given .1) (c .before .before .put10 .ensures))
     (λ c. search needs)
-    (λ c. rw (c .before .before .before .before .before .enum-told11 .given .1) (c .before .before .put11 .ensures))
-    (λ c. search needs)
-    (λ c. rw (c .before .before .before .before .before .why .given .1) (c .before .before .put-out-of-form .ensures)))
+    (λ c. rw (c .before .before .before .before .before .why3 .given .1) (c .before .before .put-out-of-form .ensures)))
