@@ -76,10 +76,6 @@ pub data ReadsNames (answer : NamesRead) (left : List ℕ) : Type 0 where
 
 -- ---- what is wrong with a line
 
--- data/nepal.names, line 3: and a space
-unfoldable pub lineText : List ℕ → ℕ → List ℕ
-lineText path n = path ++ (bytes ", line " ++ (digits n ++ bytes ": "))
-
 unfoldable pub nameFaultText : Fault → List ℕ
 nameFaultText fault.Mark = bytes "expected NUMBER=TEXT: the file begins with a byte order mark\n"
 nameFaultText fault.Form = bytes "expected NUMBER=TEXT\n"

@@ -6,7 +6,7 @@ ghost use lib.ListN.{length};
 ghost use Rattle.text.specs.Reading.{wholeSays};
 ghost use Rattle.text.specs.Written.{Wrote};
 ghost use Rattle.files.specs.Told.{tableLine, yearOf, otherYear, yearIn, meets, nowhere, lookedAt, placeText, yearsText, warningText};
-ghost use Rattle.files.specs.Texts.{lineText, nameFaultText};
+ghost use Rattle.files.specs.Texts.{nameFaultText};
 ghost use Rattle.files.specs.Inner.{Looks};
 use crate::TableRead;
 use crate::problems::Problem;
@@ -246,20 +246,10 @@ fn walk(s: &[u8], numbers: &mut [u16]) -> Walked
     Walked { count: i, at }
 }
 
-// Writes the name of a file and a line of it.
-fn put_line(out: &mut [u8], at: usize, path: &[u8], n: u64) -> usize
-    ensures { λ r. ⌜ Wrote (now (out .entry)) at (lineText (now (path .entry)) «n») (now (out .exit)) r ⌝ }
-{
-    let a = text::put(out, at, path);
-    let b = text::put(out, a, b", line ");
-    let c = text::put_decimal(out, b, n);
-    text::put(out, c, b": ")
-}
-
 // Says what was expected in the line that i come before, with which this text begins.
 fn report_line(path: &[u8], i: usize, rest: &[u8]) {
     let mut out = [0u8; 4608];
-    let a = put_line(&mut out, 0, path, wrapping_add_u64(i as u64, 1));
+    let a = faults::put_line(&mut out, 0, path, wrapping_add_u64(i as u64, 1));
     let n = faults::put_line_fault(&mut out, a, i, rest);
     io::write_all(STDERR_FILENO, &out[..n]);
 }
@@ -328,7 +318,7 @@ fn put_name_fault(out: &mut [u8], at: usize, fault: naming::Fault) -> usize
 // Says which line of a file of names is out of form, and why.
 pub fn tell_name(path: &[u8], line: usize, fault: naming::Fault) {
     let mut out = [0u8; 4608];
-    let a = put_line(&mut out, 0, path, line as u64);
+    let a = faults::put_line(&mut out, 0, path, line as u64);
     let n = put_name_fault(&mut out, a, fault);
     io::write_all(STDERR_FILENO, &out[..n]);
 }
