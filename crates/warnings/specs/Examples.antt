@@ -46,7 +46,7 @@ pub record Examples : Type 0 where
   pub no-text : Tells (unnamed ++ given 30 3) 0 "warning: f, line 7: rule 1 (lines 1 to 8) has name 3, which has no text in the file of names\n"
   pub told-once : Tells (unnamed ++ given 30 3) 1 ""
   pub no-day : Tells (given 31 2) 0
-      "warning: f, line 4: rule 1 (lines 1 to 8) gives day 31 of month 12 of BS 100, which has 30 days: it shows nothing and still silences its name\n"
+      "warning: f, line 4: rule 1 (lines 1 to 8) gives day 31, but month 12 of BS 100 has 30 days: it shows nothing and still silences its name\n"
   -- by a rule that comes later
   pub beside : Tells (given 30 1 ++ newYear) 0
       "warning: f, line 7: rule 1 (lines 1 to 8) has name 1, which rule 2 (lines 9 to 16) has on a fixed date: both show\n"

@@ -33,14 +33,14 @@ labelled label n = label ++ digits n
 unfoldable pub nameText : ℕ → List ℕ
 nameText name = labelled (bytes " has name ") name ++ bytes ", which "
 
--- gives day 32 of month 12 of BS 2085
+-- gives day 32, but month 12 of BS 2085
 unfoldable pub dateText : Rule → List ℕ
-dateText r = labelled (bytes " gives day ") (r .day) ++ (labelled (bytes " of month ") (r .month) ++ labelled (bytes " of BS ") (r .year))
+dateText r = labelled (bytes " gives day ") (r .day) ++ (labelled (bytes ", but month ") (r .month) ++ labelled (bytes " of BS ") (r .year))
 
--- gives day 32 of month 12 of BS 2085, which has 31 days: it shows nothing and still silences its name
+-- gives day 32, but month 12 of BS 2085 has 31 days: it shows nothing and still silences its name
 unfoldable pub dayText : Rule → ℕ → List ℕ
 dayText r n =
-    dateText r ++ (labelled (bytes ", which has ") n ++ bytes " days: it shows nothing and still silences its name")
+    dateText r ++ (labelled (bytes " has ") n ++ bytes " days: it shows nothing and still silences its name")
 
 -- what is said behind the rule's number and lines
 unfoldable pub whatText : Warning → List ℕ

@@ -38,12 +38,12 @@ fn put_name(out: &mut [u8], at: usize, name: u16) -> usize
     text::put(out, a, b", which ")
 }
 
-// Writes which day the rule gives.
+// Writes which day of which month the rule gives.
 fn put_date(out: &mut [u8], at: usize, rule: Rule) -> usize
     ensures { λ r. ⌜ Wrote (now (out .entry)) at (dateText rule) (now (out .exit)) r ⌝ }
 {
     let a = put_labelled(out, at, b" gives day ", rule.day);
-    let b = put_labelled(out, a, b" of month ", rule.month);
+    let b = put_labelled(out, a, b", but month ", rule.month);
     put_labelled(out, b, b" of BS ", rule.year)
 }
 
@@ -52,7 +52,7 @@ fn put_day(out: &mut [u8], at: usize, rule: Rule, n: u16) -> usize
     ensures { λ r. ⌜ Wrote (now (out .entry)) at (dayText rule «n») (now (out .exit)) r ⌝ }
 {
     let a = put_date(out, at, rule);
-    let b = put_labelled(out, a, b", which has ", n);
+    let b = put_labelled(out, a, b" has ", n);
     text::put(
         out,
         b,
