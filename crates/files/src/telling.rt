@@ -6,7 +6,7 @@ ghost use lib.ListN.{length};
 ghost use Rattle.text.specs.Reading.{wholeSays};
 ghost use Rattle.text.specs.Written.{Wrote};
 ghost use Rattle.files.specs.Told.{tableLine, yearOf, otherYear, yearIn, meets, nowhere, lookedAt, placeText, yearsText, warningText};
-ghost use Rattle.files.specs.Texts.{nameFaultText};
+ghost use Rattle.files.specs.Texts.{controlText, nameFaultText};
 ghost use Rattle.files.specs.Inner.{Looks};
 use crate::TableRead;
 use crate::problems::Problem;
@@ -280,6 +280,20 @@ pub fn tell_refused(path: &[u8], s: &[u8]) {
     report_rules(path, faults::first_fault(&numbers[..n]));
 }
 
+// Writes which control character stands in a text.
+fn put_control(out: &mut [u8], at: usize, b: u8) -> usize
+    ensures { λ r. ⌜ Wrote (now (out .entry)) at (controlText «b») (now (out .exit)) r ⌝ }
+{
+    if b == 13 {
+        return text::put(out, at, b"a carriage return: a line ends in LF alone");
+    }
+    if b == 9 {
+        return text::put(out, at, b"a tab");
+    }
+    let a = text::put(out, at, b"byte ");
+    text::put_decimal(out, a, b as u64)
+}
+
 // Writes what is wrong with a line of names.
 fn put_name_fault(out: &mut [u8], at: usize, fault: naming::Fault) -> usize
     ensures { λ r. ⌜ Wrote (now (out .entry)) at (nameFaultText fault) (now (out .exit)) r ⌝ }
@@ -302,9 +316,9 @@ fn put_name_fault(out: &mut [u8], at: usize, fault: naming::Fault) -> usize
             let a = text::put(
                 out,
                 at,
-                b"expected a text without control characters, found byte ",
+                b"expected a text without control characters, found ",
             );
-            let c = text::put_decimal(out, a, b as u64);
+            let c = put_control(out, a, b);
             text::put(out, c, b"\n")
         }
         naming::Fault::NoFeed => text::put(
