@@ -33,8 +33,8 @@
  * What C cannot tell apart and a caller must not mix up; a call that gets the wrong one may well answer:
  *
  *  - A UT day and a TT day: both are double, and each instant is in the range of tt too. panel_sun_longitude and panel_moon_longitude take tt; panel_delta_t
- *    takes a year; all other calls take ut. TT less UT is from -1,160 to 356 seconds in range and goes through zero: on 30 December 1901 both are the same
- *    number for some 16 minutes. So no test on a number tells which of the two it is.
+ *    takes a year; all other calls on a moment take ut. TT less UT is from -1,160 to 356 seconds in range and goes through zero: on 30 December 1901 both are
+ *    the same number for some 16 minutes. So no test on a number tells which of the two it is.
  *  - A BS date and a Gregorian date: both are a year, a month and a day, and years of 1900 to 2149 can be either. Each comment says which is taken.
  *    panel_month_grid takes today as a Gregorian date and the month it shows as a BS year and month.
  *  - Year, month and day among themselves: always in this order. 5 June and 6 May are both dates.
@@ -187,7 +187,7 @@ uint16_t panel_reading(uint16_t year, uint16_t month, uint16_t day, uint16_t *ti
 /* Whether rules are accepted: 0 if they are. Every other call that takes rules tests them too. Refusal: 2. */
 uint16_t panel_check_rules(const uint16_t *rules, size_t rules_len);
 
-/* The rules of a text file at the front of rules, eight numbers each; count gets how many rules there are. The text is eight lines for each rule, in this order:
+/* The rules of a text file at the front of rules, eight numbers each; count gets how many rules there are. The text is eight lines a rule, in this order:
    kind=, year=, month=, day=, half=, kala=, name=, holiday=, each with a decimal number of at most 65,535 without leading zeros and a line feed, and nothing
    else; it may be empty and of any length, and needs no byte 0 behind it. With 12 line gets the number of the first line that is out of form, from 1, or of
    the line after the last where the text ends inside a rule; an answer and every other refusal leave it. rules_len 2,560 serves every file: more than 320

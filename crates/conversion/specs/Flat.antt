@@ -35,7 +35,7 @@ firstDay t = record { year = t .year; month = t .month; day = t .day }
 abbrev pub date : ℕ → ℕ → ℕ → Date
 date y m d = record { year = y; month = m; day = d }
 
--- the paragraph "Year table": the first year, the length, the number of rows, the rows, the first day and the last
+-- a year table is accepted (docs/RULES.md, What is lent): the first year, the length, the number of rows, the rows, the first day and the last
 unfoldable pub accepted : Table → List ℕ → Bool
 accepted t rows =
     leb 1 (t .«first_year»)

@@ -144,7 +144,7 @@ pub fn month_days(table: Table, rows: &[u16], year: u16, month: u16) -> MonthDay
 }
 
 // Whether a date is one of an accepted table.
-pub fn date_check(table: Table, rows: &[u16], date: BsDate) -> Validity
+fn date_check(table: Table, rows: &[u16], date: BsDate) -> Validity
     requires { ⌜ accepted table (now rows) ≡ true ⌝ }
     ensures { λ r. ⌜ validSays r ≡ validBs (flat table (now (rows .entry))) (date .year) (date .month) (date .day) ⌝ }
 {

@@ -1,4 +1,4 @@
--- Document 01's example of `convert`: the replies to `bs=100-12-30` and `ad=1952-01-02`, byte for byte. Assumes nothing.
+-- Two lines of `convert` (docs/RULES.md, The program `convert`): the replies to `bs=100-12-30` and `ad=1952-01-02`, byte for byte. Assumes nothing.
 use mathlib.Core.Path.{_≡_, refl}
 use Rattle.paper.specs.Answers.{given}
 use Rattle.paper.specs.Sums.{sum, all}

@@ -80,12 +80,20 @@ fieldLine field.Half = 5
 fieldLine field.Kala = 6
 fieldLine field.Holiday = 8
 
+-- , line 36
+unfoldable pub atText : ℕ → List ℕ
+atText n = bytes ", line " ++ digits n
+
+-- data/nepal.rules, line 36: and a space
+unfoldable pub lineText : List ℕ → ℕ → List ℕ
+lineText path n = path ++ (atText n ++ bytes ": ")
+
 -- the line in which a rule is broken: the field's own, or the first of a rule that is one too many
 unfoldable pub placeText : Fault → List ℕ
 placeText fault.Nothing = []
 placeText fault.Uneven = []
-placeText (fault.At i f r) = bytes ", line " ++ digits (lineOf i (fieldLine f))
-placeText (fault.Many i kind) = bytes ", line " ++ digits (lineOf i 1)
+placeText (fault.At i f r) = atText (lineOf i (fieldLine f))
+placeText (fault.Many i kind) = atText (lineOf i 1)
 
 -- the refusal behind the name of the file
 unfoldable pub refusalText : Fault → List ℕ

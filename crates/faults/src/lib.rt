@@ -8,4 +8,7 @@ pub use first::Fault;
 pub use first::Field;
 pub use first::first_fault;
 pub use lines::put_line_fault;
+pub use words::line_of;
+pub use words::put_line;
 pub use words::put_refusal;
+pub use words::put_rule_lines;

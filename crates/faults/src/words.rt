@@ -2,7 +2,7 @@
 ghost use mathlib.Core.Path.{_≡_};
 ghost use Rattle.text.specs.Written.{Wrote};
 ghost use Rattle.faults.specs.Words.{nameText, rangeText, lineOf, numberText, linesText, ruleText, fieldText, manyText, faultText};
-ghost use Rattle.faults.specs.Words.{fieldLine, placeText, refusalText};
+ghost use Rattle.faults.specs.Words.{fieldLine, atText, lineText, placeText, refusalText};
 use crate::first::Fault;
 use crate::first::Field;
 use crate::first::least;
@@ -40,7 +40,7 @@ fn put_range(out: &mut [u8], at: usize, low: u16, high: u16) -> usize
 }
 
 // The number of a line of the file: k lines behind the eight of each rule before.
-fn line_of(i: usize, k: u64) -> u64
+pub fn line_of(i: usize, k: u64) -> u64
     ensures { λ n. ⌜ n ≡ lineOf i k ⌝ }
 {
     let two = wrapping_add_u64(i as u64, i as u64);
@@ -57,7 +57,7 @@ fn put_number(out: &mut [u8], at: usize, i: usize) -> usize
 }
 
 // Writes a rule's number and its lines.
-fn put_rule_lines(out: &mut [u8], at: usize, i: usize) -> usize
+pub fn put_rule_lines(out: &mut [u8], at: usize, i: usize) -> usize
     ensures { λ r. ⌜ Wrote (now (out .entry)) at (linesText i) (now (out .exit)) r ⌝ }
 {
     let a = put_number(out, at, i);
@@ -132,6 +132,23 @@ fn field_line(f: Field) -> u64
     }
 }
 
+// Writes a line of a file, behind the file's name.
+fn put_at(out: &mut [u8], at: usize, n: u64) -> usize
+    ensures { λ r. ⌜ Wrote (now (out .entry)) at (atText «n») (now (out .exit)) r ⌝ }
+{
+    let a = text::put(out, at, b", line ");
+    text::put_decimal(out, a, n)
+}
+
+// Writes the name of a file and a line of it, before what is said of that line.
+pub fn put_line(out: &mut [u8], at: usize, path: &[u8], n: u64) -> usize
+    ensures { λ r. ⌜ Wrote (now (out .entry)) at (lineText (now (path .entry)) «n») (now (out .exit)) r ⌝ }
+{
+    let a = text::put(out, at, path);
+    let b = put_at(out, a, n);
+    text::put(out, b, b": ")
+}
+
 // Writes the line in which a rule is broken: the field's own, or the first of a rule that is one too many.
 fn put_place(out: &mut [u8], at: usize, fault: Fault) -> usize
     ensures { λ r. ⌜ Wrote (now (out .entry)) at (placeText fault) (now (out .exit)) r ⌝ }
@@ -139,14 +156,8 @@ fn put_place(out: &mut [u8], at: usize, fault: Fault) -> usize
     match fault {
         Fault::Nothing => at,
         Fault::Uneven => at,
-        Fault::At(i, f, _) => {
-            let a = text::put(out, at, b", line ");
-            text::put_decimal(out, a, line_of(i, field_line(f)))
-        }
-        Fault::Many(i, _) => {
-            let a = text::put(out, at, b", line ");
-            text::put_decimal(out, a, line_of(i, 1))
-        }
+        Fault::At(i, f, _) => put_at(out, at, line_of(i, field_line(f))),
+        Fault::Many(i, _) => put_at(out, at, line_of(i, 1)),
     }
 }
 

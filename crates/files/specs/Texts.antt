@@ -76,9 +76,9 @@ pub data ReadsNames (answer : NamesRead) (left : List ℕ) : Type 0 where
 
 -- ---- what is wrong with a line
 
--- data/nepal.names, line 3: and a space
-unfoldable pub lineText : List ℕ → ℕ → List ℕ
-lineText path n = path ++ (bytes ", line " ++ (digits n ++ bytes ": "))
+-- a control character by its name, or by its number
+unfoldable pub controlText : ℕ → List ℕ
+controlText b = cond (eqb b 13) (bytes "a carriage return: a line ends in LF alone") (cond (eqb b 9) (bytes "a tab") (bytes "byte " ++ digits b))
 
 unfoldable pub nameFaultText : Fault → List ℕ
 nameFaultText fault.Mark = bytes "expected NUMBER=TEXT: the file begins with a byte order mark\n"
@@ -86,5 +86,5 @@ nameFaultText fault.Form = bytes "expected NUMBER=TEXT\n"
 nameFaultText fault.NotGreater = bytes "expected a number greater than the one before\n"
 nameFaultText fault.NoText = bytes "expected NUMBER=TEXT: the text is empty\n"
 nameFaultText fault.NotUtf8 = bytes "expected a text in UTF-8\n"
-nameFaultText (fault.Control b) = bytes "expected a text without control characters, found byte " ++ (digits b ++ bytes "\n")
+nameFaultText (fault.Control b) = bytes "expected a text without control characters, found " ++ (controlText b ++ bytes "\n")
 nameFaultText fault.NoFeed = bytes "expected NUMBER=TEXT: the file's last line has no line feed\n"

@@ -6,7 +6,7 @@ ghost use lib.ListN.{length};
 ghost use Rattle.text.specs.Reading.{wholeSays};
 ghost use Rattle.text.specs.Written.{Wrote};
 ghost use Rattle.files.specs.Told.{tableLine, yearOf, otherYear, yearIn, meets, nowhere, lookedAt, placeText, yearsText, warningText};
-ghost use Rattle.files.specs.Texts.{lineText, nameFaultText};
+ghost use Rattle.files.specs.Texts.{controlText, nameFaultText};
 ghost use Rattle.files.specs.Inner.{Looks};
 use crate::TableRead;
 use crate::problems::Problem;
@@ -246,20 +246,10 @@ fn walk(s: &[u8], numbers: &mut [u16]) -> Walked
     Walked { count: i, at }
 }
 
-// Writes the name of a file and a line of it.
-fn put_line(out: &mut [u8], at: usize, path: &[u8], n: u64) -> usize
-    ensures { λ r. ⌜ Wrote (now (out .entry)) at (lineText (now (path .entry)) «n») (now (out .exit)) r ⌝ }
-{
-    let a = text::put(out, at, path);
-    let b = text::put(out, a, b", line ");
-    let c = text::put_decimal(out, b, n);
-    text::put(out, c, b": ")
-}
-
 // Says what was expected in the line that i come before, with which this text begins.
 fn report_line(path: &[u8], i: usize, rest: &[u8]) {
     let mut out = [0u8; 4608];
-    let a = put_line(&mut out, 0, path, wrapping_add_u64(i as u64, 1));
+    let a = faults::put_line(&mut out, 0, path, wrapping_add_u64(i as u64, 1));
     let n = faults::put_line_fault(&mut out, a, i, rest);
     io::write_all(STDERR_FILENO, &out[..n]);
 }
@@ -290,6 +280,20 @@ pub fn tell_refused(path: &[u8], s: &[u8]) {
     report_rules(path, faults::first_fault(&numbers[..n]));
 }
 
+// Writes which control character stands in a text.
+fn put_control(out: &mut [u8], at: usize, b: u8) -> usize
+    ensures { λ r. ⌜ Wrote (now (out .entry)) at (controlText «b») (now (out .exit)) r ⌝ }
+{
+    if b == 13 {
+        return text::put(out, at, b"a carriage return: a line ends in LF alone");
+    }
+    if b == 9 {
+        return text::put(out, at, b"a tab");
+    }
+    let a = text::put(out, at, b"byte ");
+    text::put_decimal(out, a, b as u64)
+}
+
 // Writes what is wrong with a line of names.
 fn put_name_fault(out: &mut [u8], at: usize, fault: naming::Fault) -> usize
     ensures { λ r. ⌜ Wrote (now (out .entry)) at (nameFaultText fault) (now (out .exit)) r ⌝ }
@@ -312,9 +316,9 @@ fn put_name_fault(out: &mut [u8], at: usize, fault: naming::Fault) -> usize
             let a = text::put(
                 out,
                 at,
-                b"expected a text without control characters, found byte ",
+                b"expected a text without control characters, found ",
             );
-            let c = text::put_decimal(out, a, b as u64);
+            let c = put_control(out, a, b);
             text::put(out, c, b"\n")
         }
         naming::Fault::NoFeed => text::put(
@@ -328,7 +332,7 @@ fn put_name_fault(out: &mut [u8], at: usize, fault: naming::Fault) -> usize
 // Says which line of a file of names is out of form, and why.
 pub fn tell_name(path: &[u8], line: usize, fault: naming::Fault) {
     let mut out = [0u8; 4608];
-    let a = put_line(&mut out, 0, path, line as u64);
+    let a = faults::put_line(&mut out, 0, path, line as u64);
     let n = put_name_fault(&mut out, a, fault);
     io::write_all(STDERR_FILENO, &out[..n]);
 }

@@ -5,16 +5,18 @@ use Prim.Native.Nat.{ℕ, _*_, _^_}
 use lib.Dec.{T}
 use lib.Ieee.{Float, neg, div, le, ofBits}
 use lib.Ieee.Fits.{and-l, and-r}
-use Rattle.paper.specs.Floats.{_⊗_, _⊘_, near, dec}
+use Rattle.paper.specs.Floats.{_⊗_, near, dec}
 use Rattle.gregorian.specs.Instants.{zeroOf}
-use Rattle.trig.specs.Trig.{one, limit, inRange, withinOne, sine}
+use Rattle.trig.specs.Trig.{one, limit, inRange, sine}
 use Rattle.sky.specs.Angles.{deg}
 use Rattle.sky.specs.Sun.{meanLongitude, anomaly, sunLongitude}
 use Rattle.sky.proofs.Norms.{upto-within}
 use Rattle.sky.proofs.Numbers.{sine-number, tt-between, centuries-number, sun-upto}
-use Rattle.sky.proofs.Served as Sky
+use Rattle.sky.specs.Claims as Sky
+use Rattle.sky.proofs.Served.{instant-angles}
 use Rattle.panchanga.specs.declared.Place.{Place}
 use Rattle.panchanga.specs.Noaa.{centuriesAt, obliquity, declination, kathmandu}
+use Rattle.panchanga.specs.Claims.{Served}
 use Rattle.paper.proofs.Within.{Within, refined, clamped, inside, lit, got, _⊞_, _⊟_, _⊠_, by, _⧄_, within}
 use Rattle.panchanga.proofs.Small.{tilt-sine, small-arc}
 use Rattle.panchanga.proofs.Noon.{Dated, noon-instant}
@@ -26,20 +28,6 @@ far = 100000 * 2 ^ 20
 served : {x : Float} → Within 20 far x → T (inRange x)
 unfolding ofBits
 served p = inside limit p tt
-
--- all of them at t centuries and a latitude
-pub record Served (t lat : Float) : Type 0 where
-  pub obliquity-angle : T (inRange (obliquity t ⊗ deg))
-  pub longitude-angle : T (inRange (sunLongitude t ⊗ deg))
-  pub declination-arc : T (withinOne (sine (obliquity t ⊗ deg) ⊗ sine (sunLongitude t ⊗ deg)))
-  pub half-obliquity : T (inRange (obliquity t ⊗ deg ⊘ dec 2 0))
-  pub twice-mean : T (inRange (dec 2 0 ⊗ (meanLongitude t ⊗ deg)))
-  pub four-mean : T (inRange (dec 4 0 ⊗ (meanLongitude t ⊗ deg)))
-  pub anomaly-angle : T (inRange (anomaly t ⊗ deg))
-  pub twice-anomaly : T (inRange (dec 2 0 ⊗ (anomaly t ⊗ deg)))
-  pub horizon : T (inRange (dec 90833 3 ⊗ deg))
-  pub latitude-angle : T (inRange (lat ⊗ deg))
-  pub declination-angle : T (inRange (declination t (sunLongitude t)))
 
 module _ {t : Float} (p : Within 20 1680000 t) where
   obliquity-number : Within 20 24600000 (obliquity t)
@@ -97,7 +85,7 @@ events-served p n l t h = all-served (centuries-number (tt-between _ (noon-insta
 -- those of the sun's longitude are sky's
 pub sun-served : (lon : Float) (n : ℕ) → T (upTo 180 lon) → Dated n → Sky.Served (centuriesAt lon (zeroOf n))
 unfolding centuriesAt
-sun-served lon n t h = Sky.instant-angles _ (noon-instant lon n t h)
+sun-served lon n t h = instant-angles _ (noon-instant lon n t h)
 
 -- over Kathmandu
 pub kathmandu-served : (n : ℕ) → Dated n → Served (centuriesAt (kathmandu .longitude) (zeroOf n)) (kathmandu .latitude)

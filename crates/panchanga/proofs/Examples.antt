@@ -1,4 +1,4 @@
--- The paper's examples of the clock, and the half that a sum with 0.5 would round up. Assumes nothing.
+-- Examples of the clock (docs/RULES.md, Sun events, kalas, clock and reading), and the half that a sum with 0.5 would round up. Assumes nothing.
 use mathlib.Core.Path.{_≡_, refl}
 use lib.Ieee.{le, mul, rem, sub, ofInt, ofBits}
 use Rattle.paper.specs.Floats.{near, dec, bits, floorOf}

@@ -97,7 +97,7 @@ fn events_around(noon: f64, half: f64) -> Span
 }
 
 // Sunrise and sunset at a place on the day that begins at `zero`.
-pub fn events_at(place: Place, zero: f64) -> Span
+fn events_at(place: Place, zero: f64) -> Span
     ensures { λ r. ⌜ spanIs r ≡ sunEvents place zero ⌝ }
 {
     let t = centuries_at(place.longitude, zero);

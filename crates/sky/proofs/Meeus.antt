@@ -2,11 +2,9 @@
 -- computation. Assumes nothing.
 -- An f64 is held to the printed decimals as a fraction, exactly. Each number is the printed one when it is rounded to as many digits, but for the sun's longitude, where one unit of the last
 -- digit is left. The moon needs no more room: the engine's sixty rows are all that the book sums for the longitude.
-use Prim.Native.Nat.{ℕ, _+_, _*_, _^_}
-use mathlib.Core.Bool.{Bool, false, not, _&&_}
-use lib.Dec.{T, leb}
-use lib.Ieee.{Float, nan, inf, fin, up, down, neg, add, sub, mul, div, rem, le, lt, eq, ofInt, ofBits}
-use Rattle.paper.specs.Answers.{Answer, answered, refused, given}
+use lib.Dec.{T}
+use lib.Ieee.{Float, neg, add, sub, mul, div, rem, le, lt, eq, ofInt, ofBits}
+use Rattle.paper.specs.Answers.{given}
 use Rattle.paper.specs.Floats.{_⊕_, near, dec}
 use Rattle.gregorian.specs.Calendar.{isDate, meeusDay}
 use Rattle.gregorian.specs.Instants.{instant, zeroHour, julianAnswer}
@@ -16,22 +14,7 @@ use Rattle.sky.specs.Time.{ttDay, julianCenturies}
 use Rattle.sky.specs.Sun.{meanLongitude, anomaly, center, sunLongitude}
 use Rattle.sky.specs.Moon.{meanPlace, meanElongation, sunAnomaly, moonAnomaly, argumentOfLatitude, eccentricityFactor, moonArgs, factorPower, zeroOr, series, moonSum, venus, jupiter, additive, moonLongitude}
 use Rattle.sky.specs.Answers.{sunAnswer, moonAnswer}
-
--- x is not negative and lies within h halves of the last digit of n / 10 ^ k
-abbrev within : ℕ → ℕ → ℕ → Float → Bool
-within h n k nan = false
-within h n k (inf s) = false
-within h n k (fin s m e) =
-    not s && (leb (2 * (m * up e) * 10 ^ k) ((2 * n + h) * down e) && leb (2 * n * down e) (2 * (m * up e) * 10 ^ k + h * down e))
-
--- x, rounded to k decimals, is n / 10 ^ k
-abbrev prints : ℕ → ℕ → Float → Bool
-prints n k x = within 1 n k x
-
--- what is answered passes a test
-abbrev answers : (Float → Bool) → Answer Float → Bool
-answers p (answered x) = p x
-answers p (refused k) = false
+use Rattle.sky.specs.Claims.{within, prints, answers}
 
 -- ---- 7.a: 1957 October 4.81 is JD 2436116.31, of which the answer is the nearest f64
 

@@ -17,8 +17,8 @@ use Rattle.sky.specs.Time.{ttOf, ttDay, julianCenturies}
 use Rattle.sky.specs.Angles.{deg}
 use Rattle.sky.specs.Sun.{anomaly}
 use Rattle.sky.specs.MoonTable.{moonTerms}
-use Rattle.sky.specs.Moon as Terms
 use Rattle.sky.specs.Moon.{meanPlace, meanElongation, sunAnomaly, moonAnomaly, argumentOfLatitude, venus, jupiter, moonArgs, angle, termAt}
+use Rattle.sky.specs.Claims.{Served}
 use Rattle.sky.proofs.Numbers.{cubed, fourthed, entry-small, place-number, tt-served, day-between, centuries-number}
 
 abbrev far : ℕ
@@ -95,15 +95,6 @@ module _ {t : Float} (p : Within 20 1680000 t) where
   sun-thrice = served (within far (by _ (got anomaly-number) ⊠ lit _) tt)
 
 -- all of them
-pub record Served (t : Float) : Type 0 where
-  pub rows : (n : ℕ) → n < 60 → T (inRange (angle (moonArgs t) (termAt moonTerms n)))
-  pub venus : T (inRange (Terms.venus t ⊗ deg))
-  pub flattening : T (inRange ((meanPlace t ⊖ argumentOfLatitude t) ⊗ deg))
-  pub jupiter : T (inRange (Terms.jupiter t ⊗ deg))
-  pub sun1 : T (inRange (anomaly t ⊗ deg))
-  pub sun2 : T (inRange (dec 2 0 ⊗ anomaly t ⊗ deg))
-  pub sun3 : T (inRange (dec 3 0 ⊗ anomaly t ⊗ deg))
-
 pub day-angles : (tt : Float) → T (ttDay tt) → Served (julianCenturies tt)
 day-angles tt h =
     let p = centuries-number (day-between tt h) in

@@ -1,4 +1,4 @@
--- The definitions that the contracts of `sky` cite.
+-- The definitions that the contracts of `sky` cite, and what is claimed of them.
 pub mod Time
 pub mod Angles
 pub mod Sun
@@ -8,3 +8,4 @@ pub mod Tithi
 pub mod Search
 pub mod Inner
 pub mod Answers
+pub mod Claims

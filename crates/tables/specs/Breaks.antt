@@ -1,4 +1,4 @@
--- Where a table first breaks a rule: the lines of the paragraph "Year table" one by one. Assumes nothing.
+-- Where a table first breaks a rule: the lines of the year table (docs/RULES.md, What is lent) one by one. Assumes nothing.
 use Prim.Native.Nat.{ℕ, zero, suc, _+_}
 use mathlib.Core.Bool.{cond}
 use mathlib.Core.List.{List}

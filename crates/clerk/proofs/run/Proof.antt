@@ -12,10 +12,15 @@ slice-reshare-prefix-show c = rules-fits (c .before .before .before .before .bef
 slice-aggregate-show : tie.Need-slice-aggregate-show
 slice-aggregate-show c = sym (length-take-le _ _ (slice-reshare-prefix-show (c .before)))
 
+slice-reshare-prefix-warn-by : tie.Need-slice-reshare-prefix-warn-by
+slice-reshare-prefix-warn-by c = rules-fits (c .before .before .before .before .before .before .before .rules-at .ensures) (c .before .before .before .k .given .1)
+
+slice-aggregate-warn-by : tie.Need-slice-aggregate-warn-by
+slice-aggregate-warn-by c = sym (length-take-le _ _ (slice-reshare-prefix-warn-by (c .before)))
+
 pub run-spec : {M : Type 1} → statement M
 run-spec =
-    tie.close
-    (tie.spec
-    (λ c κs. search needs) (λ c. search needs) (λ c κs. search needs) (λ c. search needs) (λ c κs. search needs) (λ c. search needs)
-    (λ c. search needs) (λ c. search needs) slice-reshare-prefix-show slice-aggregate-show (λ c κs. search needs) (λ c. search needs)
+    tie.close (tie.spec (λ c κs. search needs) (λ c. search needs) (λ c κs. search needs) (λ c. search needs) (λ c κs. search needs)
+    (λ c. search needs) (λ c. search needs) (λ c. search needs) slice-reshare-prefix-show slice-aggregate-show (λ c κs. search needs)
+    slice-reshare-prefix-warn-by slice-aggregate-warn-by (λ c κs. search needs) (λ c. search needs) (λ c. search needs) (λ c. search needs)
     (λ c. search needs))

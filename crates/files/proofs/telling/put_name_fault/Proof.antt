@@ -27,7 +27,7 @@ returns-5 c = rw (c .before .before .before .before .before .enum-told5 .given .
 
 returns-6 : tie.Need-returns-6
 unfolding nameFaultText
-returns-6 c = rw (c .before .before .before .before .before .before .before .before .before .before .before .before .before .before .before .fault .given .1) (then (c .before .before .before .before .before .before .before .before .before .before .before .put6 .ensures) (then (c .before .before .before .before .before .before .before .put-decimal .ensures) (c .before .before .put7 .ensures)))
+returns-6 c = rw (c .before .before .before .before .before .before .before .before .before .before .before .before .before .before .before .fault .given .1) (then (c .before .before .before .before .before .before .before .before .before .before .before .put6 .ensures) (then (c .before .before .before .before .before .before .before .put-control .ensures) (c .before .before .put7 .ensures)))
 
 returns-7 : tie.Need-returns-7
 unfolding nameFaultText
@@ -40,6 +40,6 @@ put-name-fault-spec =
     (λ c. search needs) (λ c. search needs) (λ c κs. search needs) (λ c. search needs) (λ c. search needs) (λ c κs. search needs)
     (λ c. search needs) (λ c. search needs) (λ c κs. search needs) (λ c. search needs) (λ c. search needs) (λ c κs. search needs)
     (λ c. search needs) (λ c. search needs) (λ c κs. search needs) (λ c. search needs) (λ c. search needs) (λ c κs. search needs)
-    (λ c. search needs) (λ c κs. search needs) (λ c. search needs) (λ c κs. search needs) (λ c. search needs) (λ c. search needs)
+    (λ c κs. search needs) (λ c. search needs) (λ c κs. search needs) (λ c. search needs) (λ c. search needs)
     (λ c κs. search needs) (λ c. search needs) returns (λ c. search needs) returns-2 (λ c. search needs) returns-3 (λ c. search needs)
     returns-4 (λ c. search needs) returns-5 (λ c. search needs) returns-6 (λ c. search needs) returns-7)
