@@ -258,16 +258,25 @@ static void ask_writerules(const struct question *q)
 }
 
 static uint16_t number, numbers[4], list[MOST];
+static uint32_t outside[2];
 static uint8_t byte;
 static double real, reals[2];
 static size_t count;
+
+#define OUTSIDE &outside[0], &outside[1]
+
+/* Refusal 7 has behind it the days after the last table day, or those before the first with a minus sign. */
+static void put_outside(uint16_t refusal)
+{
+    if (refusal == 7) printf(" %" PRId64, (int64_t)outside[1] - (int64_t)outside[0]);
+}
 
 /* What is asked by a tag: the letters of its words, the call, what is printed where it answers, and what is printed after either. */
 #define QUESTIONS(f) \
     f(check, "", panel_check_table(TABLE), , ) \
     f(checkrules, "", panel_check_rules(RULES), , ) \
     f(bs, "nnn", panel_bs_to_ad(TABLE, DATE, PLACES(numbers)), put_date(numbers), ) \
-    f(ad, "nnn", panel_ad_to_bs(TABLE, DATE, PLACES(numbers)), put_date(numbers), ) \
+    f(ad, "nnn", panel_ad_to_bs(TABLE, DATE, PLACES(numbers), OUTSIDE), put_date(numbers), put_outside(refusal)) \
     f(len, "nn", panel_bs_month_len(TABLE, N(0), N(1), &number), put_number(number), ) \
     f(valid, "nnn", panel_validate_bs_date(TABLE, DATE), , ) \
     f(step, "nbs", panel_step_month(TABLE, N(0), (uint8_t)N(1), q->step, &number, &byte), put_number(number); put_number(byte), ) \
@@ -291,7 +300,8 @@ static size_t count;
     f(minutes, "f", panel_minutes_of(q->real[0], &number), put_number(number), ) \
     f(read, "nnn", panel_reading(DATE, PLACES(numbers), &numbers[3]), put_date(numbers); put_number(numbers[3]), ) \
     f(listbs, "nnnn", (fill(list, N(3)), panel_festivals_on(TABLE, RULES, DATE, list, N(3), &count)), put_number(count), put_buffer(list, N(3))) \
-    f(listad, "nnnn", (fill(list, N(3)), panel_festivals_on_ad(TABLE, RULES, DATE, list, N(3), &count)), put_number(count), put_buffer(list, N(3))) \
+    f(listad, "nnnn", (fill(list, N(3)), panel_festivals_on_ad(TABLE, RULES, DATE, list, N(3), &count, OUTSIDE)), put_number(count), \
+      put_outside(refusal); put_buffer(list, N(3))) \
     f(sin, "f", panel_sine(q->real[0], &real), put_real(real), ) \
     f(cos, "f", panel_cosine(q->real[0], &real), put_real(real), ) \
     f(asin, "f", panel_arcsine(q->real[0], &real), put_real(real), ) \
@@ -301,8 +311,9 @@ static size_t count;
 #define DEFINED(tag, letters, call, answer, after) \
     static void ask_##tag(const struct question *q) \
     { \
+        uint16_t refusal = call; \
         (void)q; \
-        if (told(call)) { answer; } \
+        if (told(refusal)) { answer; } \
         after; \
     }
 #define LISTED(tag, letters, call, answer, after) { #tag, letters, ask_##tag },

@@ -348,10 +348,21 @@ static const struct table *draw_table(struct places *to, int odd, int tame)
     return table;
 }
 
-/* A date after a table's first month. Each year of a table has at least 348 days. */
+static void draw_date(struct places *to)
+{
+    draw_number(to, 0, 1900, 2149, 65535);
+    draw_number(to, 0, 1, 12, 65535);
+    draw_number(to, 0, 1, month_days(to->number[-2], to->number[-1]), 65535);
+}
+
+/* A date after a table's first month, or of a hostile call perhaps any date. Each year of a table has at least 348 days. */
 static void draw_in_table(struct places *to, const struct table *table, int tame)
 {
     uint32_t wholes = table->years * 348 / 366, year = table->year + table->month / 12;
+    if (!tame && below(4) == 0) {
+        draw_date(to);
+        return;
+    }
     draw_number(to, !tame && below(2), year, year + (wholes > 1 ? wholes - 1 : 0), 65535);
     draw_number(to, !tame && below(2), table->month % 12 + 1, table->month % 12 + 1, 65535);
     draw_number(to, !tame && below(2), 1, 28, 65535);

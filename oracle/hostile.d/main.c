@@ -41,8 +41,8 @@ static const struct buffer no_buffer[2], starts[2] = { { sizeof(double), 40, 0, 
                            grids[2] = { { sizeof(uint16_t), 504, 7, 12 }, { sizeof(uint16_t), 768, 8, 2 } };
 
 /* The name; the letters of its arguments (arguments.h); the letters of its places: c a u8, h a u16, w a u32, z a size_t, f a double, o a u16 that is 1 where the
-   places behind it are written and 0 where they stay, l a size_t that refusal 12 alone writes; its buffers; the refusals that docs/RULES.md allows; one in how many
-   calls is tame; the call. */
+   places behind it are written and 0 where they stay, l a size_t that refusal 12 alone writes, d a u32 that refusal 7 alone writes: there are two, one of which it
+   makes 0 and the other not; its buffers; the refusals that docs/RULES.md allows; one in how many calls is tame; the call. */
 #define FUNCTIONS(f) \
     f(panel_date_new, "ymd", "hhh", no_buffer, "3", 2, (N(0), N(1), N(2), H(0), H(1), H(2))) \
     f(panel_date_day_number, "ymd", "w", no_buffer, "3", 2, (N(0), N(1), N(2), W(0))) \
@@ -55,7 +55,7 @@ static const struct buffer no_buffer[2], starts[2] = { { sizeof(double), 40, 0, 
     f(panel_bs_month_len, "TYM", "h", no_buffer, "1 4 5", 4, (TABLE, N(4), N(5), H(0))) \
     f(panel_validate_bs_date, "TYMD", "", no_buffer, "1 4 5 6", 4, (TABLE, N(4), N(5), N(6))) \
     f(panel_bs_to_ad, "TYMD", "hhh", no_buffer, "1 4 5 6", 4, (TABLE, N(4), N(5), N(6), H(0), H(1), H(2))) \
-    f(panel_ad_to_bs, "Tg", "hhh", no_buffer, "1 3 7", 4, (TABLE, N(4), N(5), N(6), H(0), H(1), H(2))) \
+    f(panel_ad_to_bs, "Tg", "hhhdd", no_buffer, "1 3 7", 4, (TABLE, N(4), N(5), N(6), H(0), H(1), H(2), W(3), W(4))) \
     f(panel_sine, "r", "f", no_buffer, "", 2, (X(0), F(0))) \
     f(panel_cosine, "r", "f", no_buffer, "", 2, (X(0), F(0))) \
     f(panel_tangent, "r", "f", no_buffer, "", 2, (X(0), F(0))) \
@@ -82,7 +82,7 @@ static const struct buffer no_buffer[2], starts[2] = { { sizeof(double), 40, 0, 
     f(panel_read_rules, "xB", "zl", rules, "12 2 9", 4, (S(0), HB(0), Z(0), Z(1))) \
     f(panel_write_rules, "RB", "z", texts, "2 9", 4, (S(0), CB(0), Z(0))) \
     f(panel_festivals_on, "TRYMDB", "z", lists, "1 2 4 5 6 9", 200, (TABLE, S(1), N(4), N(5), N(6), HB(0), Z(0))) \
-    f(panel_festivals_on_ad, "TRgB", "z", lists, "1 2 3 7 9", 200, (TABLE, S(1), N(4), N(5), N(6), HB(0), Z(0))) \
+    f(panel_festivals_on_ad, "TRgB", "zdd", lists, "1 2 3 7 9", 200, (TABLE, S(1), N(4), N(5), N(6), HB(0), Z(0), W(1), W(2))) \
     f(panel_step_month, "TYbs", "hc", no_buffer, "1 10", 4, (TABLE, N(4), (uint8_t)a.number[5], a.step, H(0), C(1))) \
     f(panel_month_grid, "TRymdYMBB", "hhhhhhhzz", grids, "1 2 3 4 5 9", 500, \
       (TABLE, S(1), N(4), N(5), N(6), N(7), N(8), HB(0), HB(1), H(0), H(1), H(2), H(3), H(4), H(5), H(6), Z(7), Z(8)))
@@ -108,6 +108,10 @@ struct function {
     f(broken_payload, "kB", "z", starts, "8 9", 2, (FB(0))) \
     f(broken_line, "x", "l", no_buffer, "12 2 9", 2, (Z(0))) \
     f(broken_told, "x", "l", no_buffer, "12 2 9", 2, (Z(0))) \
+    f(broken_outside, "ymd", "dd", no_buffer, "3 7", 2, (W(0), W(1))) \
+    f(broken_distance, "ymd", "dd", no_buffer, "3 7", 2, (W(0), W(1))) \
+    f(broken_sides, "ymd", "dd", no_buffer, "3 7", 2, (W(0), W(1))) \
+    f(broken_zero, "ymd", "dd", no_buffer, "3 7", 2, (W(0), W(1))) \
     f(broken_sign, "i", "f", no_buffer, "8", 2, (F(0))) \
     f(broken_read, "TYM", "h", no_buffer, "1 4 5", 2, (S(0), H(0))) \
     f(broken_write, "TYM", "h", no_buffer, "1 4 5", 2, (S(0), H(0)))
@@ -194,6 +198,36 @@ static uint16_t broken_told(size_t *line)
     return 12;
 }
 
+/* refuses with another number than 7, and tells a distance */
+static uint16_t broken_outside(uint32_t *before, uint32_t *after)
+{
+    *before = 0;
+    *after = 1;
+    return 3;
+}
+
+/* refuses with 7, and tells no distance */
+static uint16_t broken_distance(uint32_t *before, uint32_t *after)
+{
+    (void)before;
+    (void)after;
+    return 7;
+}
+
+/* refuses with 7, and tells a distance on both sides */
+static uint16_t broken_sides(uint32_t *before, uint32_t *after)
+{
+    *before = *after = 1;
+    return 7;
+}
+
+/* refuses with 7, and tells a distance of 0 */
+static uint16_t broken_zero(uint32_t *before, uint32_t *after)
+{
+    *before = *after = 0;
+    return 7;
+}
+
 /* refuses, and turns the sign of a NaN */
 static uint16_t broken_sign(double *out)
 {
@@ -243,7 +277,11 @@ static void fault(int number)
 
 static size_t width_of(char place)
 {
-    return place == 'c' ? sizeof(uint8_t) : place == 'w' ? sizeof(uint32_t) : strchr("zl", place) ? sizeof(size_t) : place == 'f' ? sizeof(double) : sizeof(uint16_t);
+    return place == 'c'           ? sizeof(uint8_t)
+           : strchr("wd", place) ? sizeof(uint32_t)
+           : strchr("zl", place) ? sizeof(size_t)
+           : place == 'f'        ? sizeof(double)
+                                 : sizeof(uint16_t);
 }
 
 static unsigned long made; /* calls in all */
@@ -277,10 +315,20 @@ static int is_found(uint16_t code)
     return code == 0 && !(function->places[0] == 'o' && *H(0) == 0);
 }
 
-/* Whether a place is written: a line's with 12 alone, the one that says whether there is something with each answer, any other where there is. */
+/* Whether a place is written: a line's with 12 alone, a distance's with 7 alone, the one that says whether there is something with each answer, any other where
+   there is. */
 static int is_written(size_t i, uint16_t code)
 {
-    return function->places[i] == 'l' ? code == 12 : function->places[i] == 'o' ? code == 0 : is_found(code);
+    char place = function->places[i];
+    return place == 'l' ? code == 12 : place == 'd' ? code == 7 : place == 'o' ? code == 0 : is_found(code);
+}
+
+/* Whether one of the two distances is 0 and the other is not, or the call has none. */
+static int is_on_one_side(void)
+{
+    const char *first = strchr(function->places, 'd');
+    size_t i = first ? (size_t)(first - function->places) : 0;
+    return !first || (*W(i) == 0) != (*W(i + 1) == 0);
 }
 
 /* The bytes that an answer has written to a buffer. */
@@ -296,6 +344,7 @@ static void check(uint16_t code)
     for (size_t i = 0; function->places[i]; i++)
         if (!untouched(&places[i], is_written(i, code) ? places[i].bytes : 0)) failed("changes a place that it must leave");
     if (code == 0 && function->places[0] == 'o' && *H(0) > 1) failed("finds neither 0 nor 1");
+    if (code == 7 && !is_on_one_side()) failed("tells a distance on no side or on both");
     for (size_t i = 0; i < 2 && function->buffers[i].width > 0; i++) {
         if (code == 0 && written(i) > buffers[i].bytes) failed("answers more than there is room for");
         if (!untouched(&buffers[i], code == 0 ? written(i) : 0)) failed("changes a buffer past its answer");

@@ -52,6 +52,8 @@ extern "C" {
         bs_year: &mut u16,
         bs_month: &mut u16,
         bs_day: &mut u16,
+        before: &mut u32,
+        after: &mut u32,
     ) -> u16;
     fn panel_festivals_on(
         first_year: u16,
@@ -155,6 +157,7 @@ pub fn bs_to_ad(table: &Table, bs: BsDate) -> Answer<Date> {
 
 pub fn ad_to_bs(table: &Table, ad: Date) -> Answer<BsDate> {
     let mut bs = BsDate { year: 0, month: 0, day: 0 };
+    let (mut before, mut after) = (0, 0);
     let first = table.first_day;
     let code = unsafe {
         panel_ad_to_bs(
@@ -170,6 +173,8 @@ pub fn ad_to_bs(table: &Table, ad: Date) -> Answer<BsDate> {
             &mut bs.year,
             &mut bs.month,
             &mut bs.day,
+            &mut before,
+            &mut after,
         )
     };
     answered(code, bs)

@@ -1,6 +1,6 @@
 //! lib.rs: BS and Gregorian dates over a lent year table.
-use crate::Answer;
 use crate::gregorian::{Date, date};
+use crate::{Answer, Refusal};
 
 /// A lent year table: rows of twelve month lengths and their sum, in one flat list.
 #[derive(Debug, Clone, PartialEq, Eq)]
@@ -87,12 +87,12 @@ pub fn bs_to_ad(table: &Table, bs: BsDate) -> Answer<Date> {
     Date::from_day_number(number + bs.day as i64 - 1)
 }
 
-/// 1, 3, 7.
-pub fn ad_to_bs(table: &Table, ad: Date) -> Answer<BsDate> {
+/// 1, 3, 7 with the distance.
+pub fn ad_to_bs(table: &Table, ad: Date) -> Result<BsDate, Refusal> {
     table.check()?;
     let mut rest = ad.day_number()? - table.first_day.day_number()?;
     if rest < 0 {
-        return Err(7);
+        return Err(Refusal::Outside(rest));
     }
     for (i, row) in table.rows.chunks(13).enumerate() {
         if rest >= row[12] as i64 {
@@ -110,5 +110,6 @@ pub fn ad_to_bs(table: &Table, ad: Date) -> Answer<BsDate> {
             rest -= *length as i64;
         }
     }
-    Err(7)
+    // What is left counts from 0 on the day after the last.
+    Err(Refusal::Outside(rest + 1))
 }

@@ -1,5 +1,5 @@
 //! The program `convert`: document 01's own table, `bs=` and `ad=` lines.
-use crate::Answer;
+use crate::Refusal;
 use crate::conversion::{BsDate, Table, ad_to_bs, bs_to_ad};
 use crate::gregorian::{Date, date};
 
@@ -50,11 +50,14 @@ fn ad_text(ad: Date) -> String {
     format!("{:04}-{:02}-{:02}", ad.year, ad.month, ad.day)
 }
 
-fn told(answer: Answer<String>) -> (String, u16) {
-    match answer {
-        Ok(text) => (text, 0),
-        Err(refusal) => ("none".into(), refusal),
-    }
+/// The other date or `none`, and the lines of the refusal.
+fn told<R: Into<Refusal>>(answer: Result<String, R>) -> (String, String) {
+    let (date, number, outside) = match answer.map_err(Into::into) {
+        Ok(date) => (date, 0, 0),
+        Err(Refusal::Outside(days)) => ("none".into(), 7, days),
+        Err(refusal) => ("none".into(), refusal.number(), 0),
+    };
+    (date, format!("refusal={number}\noutside={outside}\n"))
 }
 
 /// What a line prints; nothing for a line of another form.
@@ -62,11 +65,11 @@ fn reply(table: &Table, line: &[u8]) -> Option<String> {
     if let Some(text) = line.strip_prefix(b"bs=") {
         let bs = bs_form(text)?;
         let (ad, refusal) = told(bs_to_ad(table, bs).map(ad_text));
-        Some(format!("bs={}\nad={ad}\nrefusal={refusal}\n", bs_text(bs)))
+        Some(format!("bs={}\nad={ad}\n{refusal}", bs_text(bs)))
     } else {
         let ad = ad_form(line.strip_prefix(b"ad=")?)?;
         let (bs, refusal) = told(ad_to_bs(table, ad).map(bs_text));
-        Some(format!("bs={bs}\nad={}\nrefusal={refusal}\n", ad_text(ad)))
+        Some(format!("bs={bs}\nad={}\n{refusal}", ad_text(ad)))
     }
 }
 

@@ -1,8 +1,8 @@
 //! festivals.rs over a lent rule list; every lunar year is resolved afresh.
-use crate::Answer;
 use crate::conversion::{BsDate, Table, ad_to_bs, bs_month_len, bs_to_ad, validate_bs_date};
 use crate::gregorian::Date;
 use crate::panchanga::{self, KALAS, Kala, Ut};
+use crate::{Answer, Refusal};
 
 /// One record of a rule list.
 #[derive(Debug, Clone, Copy)]
@@ -95,9 +95,10 @@ pub fn lunar_month_starts(table: &Table, year: u16) -> [Option<Ut>; 12] {
     let (moons, _) = panchanga::tithi_starts(1, Ut(first - 35.0), Ut(last + 5.0))
         .expect("a table year can be searched");
     for moon in moons {
-        let bs = match panchanga::npt_date(moon).and_then(|ad| ad_to_bs(table, ad)) {
-            Ok(bs) => bs,
-            Err(_) => continue,
+        let ad = panchanga::npt_date(moon).ok();
+        let bs = match ad.and_then(|ad| ad_to_bs(table, ad).ok()) {
+            Some(bs) => bs,
+            None => continue,
         };
         if bs.year == year {
             places[bs.month as usize - 1] = Some(moon);
@@ -216,9 +217,14 @@ pub fn day_list_bs(table: &Table, rules: &[u16], bs: BsDate, out: &mut [u16]) ->
     written(&list(table, rules, bs, bs_to_ad(table, bs)?), out)
 }
 
-/// A day's list by its Gregorian date. 1, 2, 3, 7, 9.
-pub fn day_list_ad(table: &Table, rules: &[u16], ad: Date, out: &mut [u16]) -> Answer<usize> {
+/// A day's list by its Gregorian date. 1, 2, 3, 7 with the distance, 9.
+pub fn day_list_ad(
+    table: &Table,
+    rules: &[u16],
+    ad: Date,
+    out: &mut [u16],
+) -> Result<usize, Refusal> {
     table.check()?;
     check_rules(rules)?;
-    written(&list(table, rules, ad_to_bs(table, ad)?, ad), out)
+    Ok(written(&list(table, rules, ad_to_bs(table, ad)?, ad), out)?)
 }

@@ -13,18 +13,30 @@ pub mod panchanga;
 pub mod rulefile;
 pub mod trig;
 
-/// The answer, or a refusal number of document 01 (1 to 11).
+/// The answer, or a refusal number that carries nothing.
 pub type Answer<T> = Result<T, u16>;
 
-/// Why a text is not read: 12 with the number of a line, or another refusal number.
+/// A refusal with what it carries: 7 the days after the last table day, or those before the first as
+/// a negative number; 12 the number of a line; any other number nothing.
 #[derive(Debug, Clone, Copy, PartialEq, Eq)]
-pub enum Unread {
+pub enum Refusal {
+    Outside(i64),
     OutOfForm(usize),
-    Refused(u16),
+    Bare(u16),
 }
 
-impl From<u16> for Unread {
+impl Refusal {
+    pub fn number(self) -> u16 {
+        match self {
+            Refusal::Outside(_) => 7,
+            Refusal::OutOfForm(_) => 12,
+            Refusal::Bare(number) => number,
+        }
+    }
+}
+
+impl From<u16> for Refusal {
     fn from(number: u16) -> Self {
-        Unread::Refused(number)
+        Refusal::Bare(number)
     }
 }

@@ -1,7 +1,7 @@
 //! The rule list as a text file (docs/RULES.md), by document 02.
 use crate::convert::number;
 use crate::festivals::check_rules;
-use crate::{Answer, Unread};
+use crate::{Answer, Refusal};
 
 /// The keys of a rule's lines, in their order.
 pub const KEYS: [&str; 8] = ["kind", "year", "month", "day", "half", "kala", "name", "holiday"];
@@ -33,8 +33,8 @@ fn put<T: Copy>(all: &[T], out: &mut [T]) -> Answer<()> {
 }
 
 /// Reads a rule file; the number of rules. 12 with a line, 2, 9.
-pub fn read_rules(text: &[u8], out: &mut [u16]) -> Result<usize, Unread> {
-    let rules = numbers(text).map_err(Unread::OutOfForm)?;
+pub fn read_rules(text: &[u8], out: &mut [u16]) -> Result<usize, Refusal> {
+    let rules = numbers(text).map_err(Refusal::OutOfForm)?;
     check_rules(&rules)?;
     put(&rules, out)?;
     Ok(rules.len() / 8)

@@ -3,17 +3,19 @@ use crate::lines::{Lent, Query, float_word, hex_word};
 use parameterised::conversion::{self, BsDate};
 use parameterised::gregorian::Date;
 use parameterised::panchanga::{self, KALAS, Tt, Ut};
-use parameterised::{Answer, Unread, festivals, grid, rulefile, trig};
+use parameterised::{Answer, Refusal, festivals, grid, rulefile, trig};
 
 /// What every element of a buffer is before the call.
 pub const FILL: u16 = 7;
 
-/// The refusal number alone, or `0` and the values.
-pub fn told(answer: Answer<String>) -> String {
-    match answer {
+/// The refusal number and what it carries, or `0` and the values.
+fn told<R: Into<Refusal>>(answer: Result<String, R>) -> String {
+    match answer.map_err(Into::into) {
         Ok(values) if values.is_empty() => "0".into(),
         Ok(values) => format!("0 {values}"),
-        Err(refusal) => refusal.to_string(),
+        Err(Refusal::Outside(days)) => format!("7 {days}"),
+        Err(Refusal::OutOfForm(line)) => format!("12 {line}"),
+        Err(Refusal::Bare(number)) => number.to_string(),
     }
 }
 
@@ -55,19 +57,13 @@ fn starts_line(tithi: u16, from: f64, to: f64, length: u16) -> String {
     with_buffer(answer, buffer.into_iter().map(float_word))
 }
 
-fn list_line(length: u16, list: impl FnOnce(&mut [u16]) -> Answer<usize>) -> String {
+/// A call that fills a buffer and answers a count.
+fn count_line<R: Into<Refusal>>(
+    length: u16,
+    list: impl FnOnce(&mut [u16]) -> Result<usize, R>,
+) -> String {
     let mut buffer = vec![FILL; length as usize];
     let answer = told(list(&mut buffer).map(|count| count.to_string()));
-    with_buffer(answer, buffer.into_iter().map(|word| word.to_string()))
-}
-
-fn read_rules_line(text: &[u8], length: u16) -> String {
-    let mut buffer = vec![FILL; length as usize];
-    let answer = match rulefile::read_rules(text, &mut buffer) {
-        Ok(count) => format!("0 {count}"),
-        Err(Unread::OutOfForm(line)) => format!("12 {line}"),
-        Err(Unread::Refused(refusal)) => refusal.to_string(),
-    };
     with_buffer(answer, buffer.into_iter().map(|word| word.to_string()))
 }
 
@@ -96,7 +92,7 @@ pub fn answer(lent: &Lent, query: Query) -> String {
         Query::Check => table.check().map(|()| String::new()),
         Query::CheckRules => festivals::check_rules(rules).map(|()| String::new()),
         Query::Bs(bs) => conversion::bs_to_ad(table, bs).map(date_words),
-        Query::Ad(ad) => conversion::ad_to_bs(table, ad).map(bs_words),
+        Query::Ad(ad) => return told(conversion::ad_to_bs(table, ad).map(bs_words)),
         Query::Len(year, month) => {
             conversion::bs_month_len(table, year, month).map(|days| days.to_string())
         }
@@ -133,14 +129,16 @@ pub fn answer(lent: &Lent, query: Query) -> String {
         Query::Asin(x) => Ok(float_word(trig::asin(x))),
         Query::Acos(x) => Ok(float_word(trig::acos(x))),
         Query::Tan(x) => Ok(float_word(trig::tan(x))),
-        Query::ReadRules(length) => return read_rules_line(&lent.text, length),
+        Query::ReadRules(length) => {
+            return count_line(length, |out| rulefile::read_rules(&lent.text, out));
+        }
         Query::WriteRules(length) => return write_rules_line(rules, length),
         Query::Starts(tithi, from, to, length) => return starts_line(tithi, from, to, length),
         Query::ListBs(bs, length) => {
-            return list_line(length, |out| festivals::day_list_bs(table, rules, bs, out));
+            return count_line(length, |out| festivals::day_list_bs(table, rules, bs, out));
         }
         Query::ListAd(ad, length) => {
-            return list_line(length, |out| festivals::day_list_ad(table, rules, ad, out));
+            return count_line(length, |out| festivals::day_list_ad(table, rules, ad, out));
         }
         Query::Grid { today, year, month, cells, festivals } => {
             return grid_line(lent, today, (year, month), [cells, festivals]);

@@ -32,16 +32,15 @@ fn wide(bs: rust::BsDate) -> BsDate {
     BsDate { year: bs.year, month: bs.month as u16, day: bs.day as u16 }
 }
 
-/// The refusal number that an error stands for.
+/// The refusal number that an error stands for; the Rust does not tell how far outside a date is.
 fn refusal(error: rust::NcalError) -> String {
     match error {
-        rust::NcalError::InvalidYearRange { .. } => "4",
-        rust::NcalError::InvalidMonth => "5",
-        rust::NcalError::InvalidDay => "6",
-        rust::NcalError::UnsupportedAdDate => "7",
-        _ => "an error of the command line",
+        rust::NcalError::InvalidYearRange { .. } => "4".into(),
+        rust::NcalError::InvalidMonth => "5".into(),
+        rust::NcalError::InvalidDay => "6".into(),
+        rust::NcalError::UnsupportedAdDate => format!("7 {UNTOLD}"),
+        _ => "an error of the command line".into(),
     }
-    .into()
 }
 
 fn told(answer: Result<String, rust::NcalError>) -> String {

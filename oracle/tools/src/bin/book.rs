@@ -10,8 +10,9 @@ use std::process::ExitCode;
 use tools::answers;
 use tools::lines::{self, Lent, bits_word, hex_word};
 
-/// Lines over document 01's own table, and what the paper says; the control lines answer nothing.
-const PAPER: [(&str, &str); 30] = [
+/// Lines over document 01's own table, and what the papers say; the control lines answer nothing.
+/// The longest ways to its first day and from its last are counted by hand.
+const PAPER: [(&str, &str); 38] = [
     ("table 100 1950 1 1", ""),
     ("cells 31 31 32 31 31 31 30 29 30 29 30 30 365", ""),
     ("cells 31 31 32 32 31 30 30 29 30 29 30 31 366", ""),
@@ -25,8 +26,16 @@ const PAPER: [(&str, &str); 30] = [
     ("bs 100 12 31", "6"),
     ("bs 100 13 40", "5"),
     ("bs 102 13 1", "4"),
-    ("ad 1952 1 2", "7"),
-    ("ad 1949 12 31", "7"),
+    ("ad 1952 1 2", "7 1"),
+    ("ad 1949 12 31", "7 -1"),
+    ("ad 1900 1 1", "7 -18262"),
+    ("ad 1950 1 1", "0 100 1 1"),
+    ("ad 1952 1 1", "0 101 12 31"),
+    ("ad 2149 12 31", "7 72318"),
+    ("ad 2150 1 1", "3"),
+    ("listad 1952 1 3 1", "7 2 | 7"),
+    ("listad 1949 12 30 0", "7 -2 |"),
+    ("listad 1952 1 1 1", "0 0 | 7"),
     ("ad 1950 3 1", "0 100 2 29"),
     ("step 100 12 1", "0 101 1"),
     ("step 100 1 -1", "10"),
@@ -122,7 +131,8 @@ fn month_differs() -> bool {
 }
 
 fn convert_differs() -> bool {
-    let printed = "bs=100-12-30\nad=1950-12-31\nrefusal=0\nbs=none\nad=1952-01-02\nrefusal=7\n";
+    let printed = "bs=100-12-30\nad=1950-12-31\nrefusal=0\noutside=0\n\
+                   bs=none\nad=1952-01-02\nrefusal=7\noutside=1\n";
     convert::run(b"bs=100-12-30\nad=1952-01-02\n") != printed
 }
 

@@ -151,6 +151,66 @@ fn day_of(table: &Table, days: i64) -> Option<Date> {
     Date::from_day_number(table.first_day.day_number().ok()? + days).ok()
 }
 
+/// A table's days.
+fn total(table: &Table) -> i64 {
+    table.rows.chunks(13).map(|row| row[12] as i64).sum()
+}
+
+/// How far outside a table dates are asked: a day inside, the first or the last itself, then outside.
+const DISTANCES: [i64; 14] =
+    [-1, 0, 1, 2, 3, 31, 366, 10_000, 32_767, 32_768, 65_534, 65_535, 65_536, 65_537];
+
+/// The dates so far before a table's first day and after its last, and the ends of all dates.
+pub fn outside(table: &Table) -> Vec<Date> {
+    let last = total(table) - 1;
+    let near =
+        DISTANCES.into_iter().flat_map(|days| [day_of(table, -days), day_of(table, last + days)]);
+    let ends = [FIRST, FIRST + 1, LAST - 1, LAST].map(|number| Date::from_day_number(number).ok());
+    near.chain(ends).flatten().collect()
+}
+
+/// The shortest and the longest year at both bounds of the days.
+pub fn far_tables(maker: &mut Maker) -> Vec<Table> {
+    let mut tables = Vec::new();
+    for place in [Place::First, Place::Last] {
+        for length in [29, 32] {
+            tables.push(random_table(&mut maker.random, 1, Months::All(length), place));
+        }
+    }
+    tables
+}
+
+/// A table of so many years with the shorter ones that it begins with.
+pub fn growing(maker: &mut Maker, years: usize) -> Vec<Table> {
+    let whole = random_table(&mut maker.random, years, Months::Any, Place::Anywhere);
+    (1..=years)
+        .map(|rows| Table { rows: whole.rows[..13 * rows].to_vec(), ..whole.clone() })
+        .collect()
+}
+
+/// How far outside: over tables at the bounds, over one that grows, and behind 3 and 1.
+fn distances(maker: &mut Maker) {
+    for table in far_tables(maker) {
+        maker.table(&table);
+        for ad in outside(&table).into_iter().chain(BAD_DATES) {
+            maker.on("ad", ad);
+        }
+    }
+    let tables = growing(maker, 6);
+    for table in &tables {
+        maker.table(table);
+        for ad in outside(table).into_iter().chain(outside(&tables[5])) {
+            maker.on("ad", ad);
+        }
+    }
+    let mut broken = own_table();
+    broken.rows[25] -= 1;
+    maker.table(&broken);
+    for ad in outside(&own_table()).into_iter().chain(BAD_DATES) {
+        maker.on("ad", ad);
+    }
+}
+
 /// The numbers on both sides of each refusal.
 fn refusals(maker: &mut Maker, table: &Table) {
     let last = table.last_year();
@@ -168,7 +228,7 @@ fn refusals(maker: &mut Maker, table: &Table) {
         maker.on_bs("bs", bs(last, 12, day));
         maker.on_bs("valid", bs(table.first_year, 1, day));
     }
-    let total: i64 = table.rows.chunks(13).map(|row| row[12] as i64).sum();
+    let total = total(table);
     for days in [-400, -2, -1, 0, 1, total - 2, total - 1, total, total + 1, total + 365] {
         if let Some(ad) = day_of(table, days) {
             maker.on("ad", ad);
@@ -290,18 +350,24 @@ pub fn sample(maker: &mut Maker) {
     }
     portions(maker);
     out_of_form(maker);
+    distances(maker);
 }
 
-/// Every day, and every y/m/d around every month's end.
+/// Every day, every y/m/d around every month's end, and days outside to the ends of all dates.
 pub fn whole_table(maker: &mut Maker, table: &Table) {
     maker.table(table);
     any_table(maker, table);
     refusals(maker, table);
-    let total: i64 = table.rows.chunks(13).map(|row| row[12] as i64).sum();
-    for days in -3..total + 3 {
+    for days in -3..total(table) + 3 {
         if let Some(ad) = day_of(table, days) {
             maker.on("ad", ad);
         }
+    }
+    for ad in outside(table) {
+        maker.on("ad", ad);
+    }
+    for number in (FIRST..=LAST).step_by(37) {
+        maker.on("ad", Date::from_day_number(number).expect("a day number in range"));
     }
     for year in table.first_year..=table.last_year() {
         for month in 0..=13 {

@@ -1,4 +1,5 @@
 //! The input of the program `convert`: lines of every form and of every malformed shape.
+use super::conversion::outside;
 use super::{BAD_DATES, Maker};
 use parameterised::conversion::BsDate;
 use parameterised::conversion::bs_to_ad;
@@ -216,6 +217,9 @@ pub fn sample(maker: &mut Maker) {
         if bad.year <= 9999 && bad.month <= 99 && bad.day <= 99 {
             maker.line(format_args!("ad={:04}-{:02}-{:02}", bad.year, bad.month, bad.day));
         }
+    }
+    for ad in outside(&own_table()) {
+        maker.line(format_args!("ad={:04}-{:02}-{:02}", ad.year, ad.month, ad.day));
     }
     for line in OUT_OF_FORM {
         maker.bytes(line);

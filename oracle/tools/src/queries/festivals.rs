@@ -1,4 +1,5 @@
 //! Rule lists and day lists.
+use super::conversion::{far_tables, growing, outside};
 use super::{BAD_DATES, Maker};
 use crate::tables::{Months, Place, nepal_rules, owner_table, random_table, stress_rules};
 use parameterised::conversion::{BsDate, Table, ad_to_bs, bs_month_len, bs_to_ad};
@@ -433,6 +434,46 @@ fn refusals(maker: &mut Maker) {
     }
 }
 
+/// The lists of days outside a table, into buffers of several lengths.
+pub fn days_outside(maker: &mut Maker, table: &Table) {
+    for (at, ad) in outside(table).into_iter().enumerate() {
+        list_ad(maker, ad, [3, 0, 8, 1][at % 4]);
+    }
+}
+
+/// How far outside: over tables at the bounds and over one that grows, where a list would not fit,
+/// and behind 3, 2 and 1.
+fn distances(maker: &mut Maker) {
+    for table in far_tables(maker) {
+        maker.table(&table);
+        // Rules that name every month and day that is asked.
+        let asked = outside(&table).into_iter().zip(0..);
+        let rules: Vec<_> =
+            asked.map(|(ad, at)| rule(2, 0, ad.month, ad.day, 0, 0, 700 + at)).collect();
+        maker.rules(&rules.concat());
+        maker.line("checkrules");
+        days_outside(maker, &table);
+        for bad in BAD_DATES {
+            list_ad(maker, bad, 2);
+        }
+        maker.rules(&[9; 8]);
+        days_outside(maker, &table);
+    }
+    let rules =
+        [rule(3, 0, 12, 15, 0, 3, 21), rule(3, 0, 1, 1, 0, 5, 22), rule(1, 0, 1, 1, 0, 0, 23)];
+    maker.rules(&rules.concat());
+    let tables = growing(maker, 3);
+    for table in &tables {
+        maker.table(table);
+        days_outside(maker, table);
+        days_outside(maker, &tables[2]);
+    }
+    let mut broken = own_table();
+    broken.rows[0] = 33;
+    maker.table(&broken);
+    days_outside(maker, &own_table());
+}
+
 fn out_of_form(maker: &mut Maker) {
     maker.table(&own_table());
     maker.rules(&[]);
@@ -467,4 +508,5 @@ pub fn sample(maker: &mut Maker) {
     rule_lists(maker);
     refusals(maker);
     out_of_form(maker);
+    distances(maker);
 }

@@ -92,7 +92,8 @@ pub fn searches(maker: &mut Maker) {
     panchanga::search_refusals(maker);
 }
 
-/// Every day and every y/m/d around every month's end of 40 tables; broken and damaged tables.
+/// Every day, every y/m/d around every month's end and days outside of 40 tables; broken and damaged
+/// tables.
 pub fn conversions(maker: &mut Maker) {
     for table in conversion::full_tables(maker) {
         conversion::whole_table(maker, &table);
@@ -159,12 +160,14 @@ pub fn days(maker: &mut Maker) {
     }
 }
 
-/// 2,400 day lists over random tables, and every rule list at the edge of the paper's lines.
+/// 2,400 day lists over random tables, days outside each, and every rule list at the edge of the
+/// paper's lines.
 pub fn lists(maker: &mut Maker) {
     for _ in 0..80 {
         let mut almanac = random_almanac(maker, 12);
         festivals::lend(maker, &almanac);
         festivals::random_days(maker, &mut almanac, 30);
+        festivals::days_outside(maker, &almanac.table);
     }
     for rules in festivals::edge_rules() {
         maker.rules(&rules);
