@@ -115,10 +115,13 @@ static void read_clock(uint16_t ad[3])
 int main(int count, char **words)
 {
     uint16_t ad[3], bs[3];
+    uint32_t before, after;
     if (count == 4)
         for (int i = 0; i < 3; i++) ad[i] = (uint16_t)atoi(words[i + 1]);
     else read_clock(ad);
-    expect("conversion", panel_ad_to_bs(TABLE, ad[0], ad[1], ad[2], &bs[0], &bs[1], &bs[2]));
+    uint16_t refusal = panel_ad_to_bs(TABLE, ad[0], ad[1], ad[2], &bs[0], &bs[1], &bs[2], &before, &after);
+    if (refusal == 7) printf("%lu days %s the table\n", (unsigned long)(before + after), before > 0 ? "before" : "after");
+    expect("conversion", refusal);
     print_date(ad);
     printf(" is BS ");
     print_date(bs);

@@ -4,7 +4,8 @@
  * Link target/staticlib/libpanel.a, which `rt staticlib panel` writes (x86-64), and the C library's mathematics, -lm: of other code the engine calls
  * fmod, memcpy and memset alone. It has no heap, no state and no threads, and each call ends.
  *
- * Every call answers 0 and writes what was asked for, or answers the number of a refusal and writes nothing at all (12 alone writes the number of a line):
+ * Every call answers 0 and writes what was asked for, or answers the number of a refusal and writes nothing; but 7 writes by how many days a date lies outside
+ * the table, and 12 the number of a line, each to places of its own, which every other number leaves as they were, 0 too:
  *
  *    1  the year table breaks a rule             7  a Gregorian day before the first or after the last day of the table
  *    2  a festival rule breaks a rule            8  an instant out of range or no number; a tithi not 1 to 30
@@ -100,9 +101,11 @@ uint16_t panel_validate_bs_date(uint16_t first_year, uint16_t first_ad_year, uin
 uint16_t panel_bs_to_ad(uint16_t first_year, uint16_t first_ad_year, uint16_t first_ad_month, uint16_t first_ad_day, const uint16_t *rows,
                         size_t rows_len, uint16_t year, uint16_t month, uint16_t day, uint16_t *ad_year, uint16_t *ad_month, uint16_t *ad_day);
 
-/* The BS date of a Gregorian date. Refusals: 1, 3, 7. */
+/* The BS date of a Gregorian date. With 7, and only then, days_before gets how many days the date lies before the first day of the table and days_after 0, or
+   days_before 0 and days_after how many days it lies after the last: one of the two is 1 or more. Refusals: 1, 3, 7. */
 uint16_t panel_ad_to_bs(uint16_t first_year, uint16_t first_ad_year, uint16_t first_ad_month, uint16_t first_ad_day, const uint16_t *rows,
-                        size_t rows_len, uint16_t year, uint16_t month, uint16_t day, uint16_t *bs_year, uint16_t *bs_month, uint16_t *bs_day);
+                        size_t rows_len, uint16_t year, uint16_t month, uint16_t day, uint16_t *bs_year, uint16_t *bs_month, uint16_t *bs_day,
+                        uint32_t *days_before, uint32_t *days_after);
 
 /* ---- Trigonometry, in radians, on every number; none of these refuses */
 
@@ -205,10 +208,10 @@ uint16_t panel_festivals_on(uint16_t first_year, uint16_t first_ad_year, uint16_
                             size_t rows_len, const uint16_t *rules, size_t rules_len, uint16_t year, uint16_t month, uint16_t day, uint16_t *festivals,
                             size_t festivals_len, size_t *count);
 
-/* The festivals of a Gregorian date, likewise. Refusals: 1, 2, 3, 7, 9. */
+/* The festivals of a Gregorian date, likewise; with 7 days_before and days_after as in panel_ad_to_bs. Refusals: 1, 2, 3, 7, 9. */
 uint16_t panel_festivals_on_ad(uint16_t first_year, uint16_t first_ad_year, uint16_t first_ad_month, uint16_t first_ad_day, const uint16_t *rows,
                                size_t rows_len, const uint16_t *rules, size_t rules_len, uint16_t year, uint16_t month, uint16_t day, uint16_t *festivals,
-                               size_t festivals_len, size_t *count);
+                               size_t festivals_len, size_t *count, uint32_t *days_before, uint32_t *days_after);
 
 /* ---- Months, over a lent year table and, for the cells, lent rules */
 
