@@ -1,4 +1,3 @@
 pub mod Drawing
 pub mod Parts
-pub mod Readings
 pub mod Unique

@@ -18,8 +18,8 @@ use Rattle.wall.specs.declared.Page.{Page}
 use Rattle.wall.specs.Places.{placeFrom}
 use Rattle.wall.specs.Cells.{num}
 use Rattle.wall.specs.Pages.{monthPage, dayPage}
-use Rattle.patro.specs.declared.words.Asked.{Asked}
-use Rattle.patro.specs.declared.words.Asked.the-variants as A
+use Rattle.commands.specs.declared.words.Asked.{Asked}
+use Rattle.commands.specs.declared.words.Asked.the-variants as A
 use Rattle.patro.specs.declared.pages.Part.{Part}
 use Rattle.patro.specs.declared.pages.Part.the-variants as P
 use Rattle.patro.specs.declared.pages.Laid.{Laid}

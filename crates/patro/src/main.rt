@@ -1,9 +1,11 @@
 // Writes a BS month as a wall calendar, or a day in full. Its arguments: the files of the year table, of the rules and of the names, today's
 // Gregorian date, and then a BS year and month, a BS date or a Gregorian date.
 mod pages;
-mod refusals;
-mod words;
 
+use commands::refusals;
+use commands::words;
+use commands::words::Asked;
+use commands::words::Words;
 use conversion::Table;
 use files::NamesRead;
 use files::RulesRead;
@@ -13,8 +15,6 @@ use libc::STDERR_FILENO;
 use libc::STDOUT_FILENO;
 use pages::Laid;
 use paper::Refusal;
-use words::Asked;
-use words::Words;
 
 // Today by the fourth argument.
 fn today() -> Date {

@@ -5,7 +5,7 @@ ghost use lib.ListN.{length, take};
 ghost use Rattle.paper.specs.Answers.{answered};
 ghost use Rattle.patro.specs.Pages.{cellOf, titled, partPage, pageBs, pageAsked, laid, Lays};
 ghost use Rattle.patro.specs.Inner.{drawn};
-use crate::words::Asked;
+use commands::words::Asked;
 use conversion::BsAnswer;
 use conversion::Table;
 use gregorian::Date;

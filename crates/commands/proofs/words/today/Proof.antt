@@ -1,7 +1,7 @@
 -- `patro::words::today` meets its contract. Assumes nothing.
 use borrow.Author.Needs.{needs}
-use Rattle.patro.proofs.words.today.Statement.{statement}
-use Rattle.patro.proofs.words.today.Tie as tie
+use Rattle.commands.proofs.words.today.Statement.{statement}
+use Rattle.commands.proofs.words.today.Tie as tie
 
 returns : tie.Need-returns
 returns c = rw (← c .before .before .date-of .ensures, c .enum-told .given .1)

@@ -1,6 +1,6 @@
 // Why there is no page, in words.
 ghost use Rattle.text.specs.Written.{Wrote};
-ghost use Rattle.patro.specs.Refusals.{formText, reasonText, refusalText};
+ghost use Rattle.commands.specs.Refusals.{formText, reasonText, refusalText};
 use paper::Refusal;
 
 // Writes which line is out of form.

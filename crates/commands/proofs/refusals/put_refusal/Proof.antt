@@ -1,9 +1,9 @@
 -- `patro::refusals::put_refusal` meets its contract. Assumes nothing.
 use Rattle.text.proofs.Writes.{then}
-use Rattle.patro.specs.Refusals.{refusalText}
+use Rattle.commands.specs.Refusals.{refusalText}
 use borrow.Author.Needs.{needs}
-use Rattle.patro.proofs.refusals.put_refusal.Statement.{statement}
-use Rattle.patro.proofs.refusals.put_refusal.Tie as tie
+use Rattle.commands.proofs.refusals.put_refusal.Statement.{statement}
+use Rattle.commands.proofs.refusals.put_refusal.Tie as tie
 
 returns : tie.Need-returns
 unfolding refusalText

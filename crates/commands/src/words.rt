@@ -1,6 +1,6 @@
 // What is asked: the words of the command line, read.
 ghost use mathlib.Core.Path.{_≡_};
-ghost use Rattle.patro.specs.Words.{dateIn, numberIn, pairIn, orFirst, askedDate, askedMonth, askedDay, askedBy};
+ghost use Rattle.commands.specs.Words.{dateIn, numberIn, pairIn, orFirst, askedDate, askedMonth, askedDay, askedBy};
 use gregorian::Date;
 use text::Numbers;
 use text::Whole;

@@ -1,8 +1,8 @@
 -- `patro::refusals::put_out_of_form` meets its contract. Assumes nothing.
 use Rattle.text.proofs.Writes.{then}
 use borrow.Author.Needs.{needs}
-use Rattle.patro.proofs.refusals.put_out_of_form.Statement.{statement}
-use Rattle.patro.proofs.refusals.put_out_of_form.Tie as tie
+use Rattle.commands.proofs.refusals.put_out_of_form.Statement.{statement}
+use Rattle.commands.proofs.refusals.put_out_of_form.Tie as tie
 
 returns : tie.Need-returns
 returns c =

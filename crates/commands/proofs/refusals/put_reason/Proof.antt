@@ -1,7 +1,7 @@
 -- `patro::refusals::put_reason` meets its contract: each variant's text is put. Assumes nothing.
 use borrow.Author.Needs.{needs}
-use Rattle.patro.proofs.refusals.put_reason.Statement.{statement}
-use Rattle.patro.proofs.refusals.put_reason.Tie as tie
+use Rattle.commands.proofs.refusals.put_reason.Statement.{statement}
+use Rattle.commands.proofs.refusals.put_reason.Tie as tie
 
 pub put-reason-spec : {M : Type 1} → statement M
 put-reason-spec =

@@ -2,8 +2,8 @@
 use Rattle.paper.proofs.Answers.{said}
 use Rattle.text.specs.Reading.{wholeSays}
 use borrow.Author.Needs.{needs}
-use Rattle.patro.proofs.words.pair_of.Statement.{statement}
-use Rattle.patro.proofs.words.pair_of.Tie as tie
+use Rattle.commands.proofs.words.pair_of.Statement.{statement}
+use Rattle.commands.proofs.words.pair_of.Tie as tie
 
 returns : tie.Need-returns
 returns c = rw (← said wholeSays (c .enum-told .given .1) (c .before .before .whole-number .ensures))

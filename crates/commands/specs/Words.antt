@@ -9,13 +9,13 @@ use Rattle.text.specs.Dashed.{numbers, ended}
 use Rattle.text.specs.declared.triples.Numbers.{Numbers}
 use Rattle.text.specs.declared.triples.Numbers.the-variants as N
 use Rattle.gregorian.specs.declared.Date.{Date}
-use Rattle.patro.specs.declared.words.Asked.the-variants as A
-use Rattle.patro.specs.declared.words.Words.{Words}
-use Rattle.patro.specs.declared.words.Words.the-variants as W
-use Rattle.patro.specs.declared.words.InForm.{InForm}
-use Rattle.patro.specs.declared.words.InForm.the-variants as F
-use Rattle.patro.specs.declared.words.Pair.{Pair}
-use Rattle.patro.specs.declared.words.Pair.the-variants as T
+use Rattle.commands.specs.declared.words.Asked.the-variants as A
+use Rattle.commands.specs.declared.words.Words.{Words}
+use Rattle.commands.specs.declared.words.Words.the-variants as W
+use Rattle.commands.specs.declared.words.InForm.{InForm}
+use Rattle.commands.specs.declared.words.InForm.the-variants as F
+use Rattle.commands.specs.declared.words.Pair.{Pair}
+use Rattle.commands.specs.declared.words.Pair.the-variants as T
 
 -- ---- a word
 

@@ -2,8 +2,8 @@
 use Rattle.paper.proofs.Answers.{said}
 use Rattle.text.specs.Reading.{wholeSays}
 use borrow.Author.Needs.{needs}
-use Rattle.patro.proofs.words.three_words.Statement.{statement}
-use Rattle.patro.proofs.words.three_words.Tie as tie
+use Rattle.commands.proofs.words.three_words.Statement.{statement}
+use Rattle.commands.proofs.words.three_words.Tie as tie
 
 returns : tie.Need-returns
 returns c = rw (← c .before .before .pair-of .ensures, c .enum-told .given .1)

@@ -1,7 +1,7 @@
 -- `patro::words::one_word` meets its contract. Assumes nothing.
 use borrow.Author.Needs.{needs}
-use Rattle.patro.proofs.words.one_word.Statement.{statement}
-use Rattle.patro.proofs.words.one_word.Tie as tie
+use Rattle.commands.proofs.words.one_word.Statement.{statement}
+use Rattle.commands.proofs.words.one_word.Tie as tie
 
 returns : tie.Need-returns
 returns c = rw (← c .before .before .date-of .ensures, c .enum-told .given .1)

@@ -1,8 +1,8 @@
 -- `patro::words::date_of` meets its contract. Assumes nothing.
-use Rattle.patro.proofs.Readings.{date-none, date-some}
+use Rattle.commands.proofs.Readings.{date-none, date-some}
 use borrow.Author.Needs.{needs}
-use Rattle.patro.proofs.words.date_of.Statement.{statement}
-use Rattle.patro.proofs.words.date_of.Tie as tie
+use Rattle.commands.proofs.words.date_of.Statement.{statement}
+use Rattle.commands.proofs.words.date_of.Tie as tie
 
 returns : tie.Need-returns
 returns c = date-none (c .before .before .before .before .before .args .s .now) (c .before .before .before .start .result .at) (c .before .before .before .start .ensures) (c .before .before .dashed .ensures) (c .enum-told .given .1)

@@ -1,7 +1,7 @@
 -- `patro::words::two_words` meets its contract. Assumes nothing.
 use borrow.Author.Needs.{needs}
-use Rattle.patro.proofs.words.two_words.Statement.{statement}
-use Rattle.patro.proofs.words.two_words.Tie as tie
+use Rattle.commands.proofs.words.two_words.Statement.{statement}
+use Rattle.commands.proofs.words.two_words.Tie as tie
 
 returns : tie.Need-returns
 returns c = rw (← c .before .before .pair-of .ensures, c .enum-told .given .1)

@@ -1,9 +1,9 @@
 -- `patro::words::asked_by` meets its contract. Assumes nothing.
 use borrow.Author.Tests.{eq-eqb, ne-eqb}
-use Rattle.patro.specs.Words.{askedBy}
+use Rattle.commands.specs.Words.{askedBy}
 use borrow.Author.Needs.{needs}
-use Rattle.patro.proofs.words.asked_by.Statement.{statement}
-use Rattle.patro.proofs.words.asked_by.Tie as tie
+use Rattle.commands.proofs.words.asked_by.Statement.{statement}
+use Rattle.commands.proofs.words.asked_by.Tie as tie
 
 returns : tie.Need-returns
 unfolding askedBy

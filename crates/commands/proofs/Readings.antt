@@ -6,8 +6,8 @@ use lib.ListN.{drop}
 use Rattle.text.specs.Dashed.{numbers, ended}
 use Rattle.text.specs.declared.triples.Numbers.{Numbers}
 use Rattle.text.specs.declared.triples.Numbers.the-variants as N
-use Rattle.patro.specs.declared.words.InForm.the-variants as F
-use Rattle.patro.specs.Words.{asDate, dateIn}
+use Rattle.commands.specs.declared.words.InForm.the-variants as F
+use Rattle.commands.specs.Words.{asDate, dateIn}
 
 module _ (s : List ℕ) (at : ℕ) (z : at ≡ 0) {r : Numbers} (p : r ≡ ended (numbers 4 2 (drop at s))) where
   read-at : r ≡ ended (numbers 4 2 s)

@@ -1,0 +1,3 @@
+-- What the words of a command ask, and why it is refused.
+pub mod Refusals
+pub mod Words
