@@ -1,4 +1,4 @@
--- `patro::refusals::put_reason` meets its contract: each variant's text is put. Assumes nothing.
+-- `commands::refusals::put_reason` meets its contract: each variant's text is put. Assumes nothing.
 use borrow.Author.Needs.{needs}
 use Rattle.commands.proofs.refusals.put_reason.Statement.{statement}
 use Rattle.commands.proofs.refusals.put_reason.Tie as tie
