@@ -213,6 +213,11 @@ uint16_t panel_festivals_on_ad(uint16_t first_year, uint16_t first_ad_year, uint
                                size_t rows_len, const uint16_t *rules, size_t rules_len, uint16_t year, uint16_t month, uint16_t day, uint16_t *festivals,
                                size_t festivals_len, size_t *count, uint32_t *days_before, uint32_t *days_after);
 
+/* Whether a BS date is a holiday: holiday gets 1 for yes, 0 for no, as panel_month_grid has it in the cell of that date: a Saturday, or a day with a festival
+   in its list that is one. A Saturday is answered without working out any festival. Refusals: 1, 2, 4, 5, 6. */
+uint16_t panel_is_holiday(uint16_t first_year, uint16_t first_ad_year, uint16_t first_ad_month, uint16_t first_ad_day, const uint16_t *rows,
+                          size_t rows_len, const uint16_t *rules, size_t rules_len, uint16_t year, uint16_t month, uint16_t day, uint16_t *holiday);
+
 /* ---- Months, over a lent year table and, for the cells, lent rules */
 
 /* The month that is step months after a month, or before it where step is negative. Month 0 is the one before 1, 13 the one after 12, and so on to 255.

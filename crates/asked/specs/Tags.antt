@@ -126,6 +126,9 @@ LISTAD = tag "listad"
 abbrev pub GRID : ℕ
 GRID = tag "grid"
 
+abbrev pub HOLIDAY : ℕ
+HOLIDAY = tag "holiday"
+
 abbrev pub SIN : ℕ
 SIN = tag "sin"
 

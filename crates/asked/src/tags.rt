@@ -75,6 +75,8 @@ pub const LISTAD: u64 = 0o14_11_23_24_01_04;
 
 pub const GRID: u64 = 0o07_22_11_04;
 
+pub const HOLIDAY: u64 = 0o10_17_14_11_04_01_31;
+
 pub const SIN: u64 = 0o23_11_16;
 
 pub const COS: u64 = 0o03_17_23;

@@ -43,14 +43,14 @@ fn is_same(a: Date, b: Date) -> bool
 }
 
 // A mark as a number.
-fn mark(b: bool) -> u16
+pub fn mark(b: bool) -> u16
     ensures { λ r. ⌜ r ≡ one b ⌝ }
 {
     if b { 1 } else { 0 }
 }
 
 // Whether one of the pairs from at to before end is a holiday.
-fn any_holiday(lists: &[u16], at: usize, end: usize) -> bool
+pub fn any_holiday(lists: &[u16], at: usize, end: usize) -> bool
     requires { ⌜ (at ≤ end) × (end * 2 ≤ length (now lists)) ⌝ }
     ensures { λ r. ⌜ r ≡ anyMark (now (lists .entry)) at (end - at) ⌝ }
 {

@@ -1,5 +1,5 @@
 // Months: stepping from one to another, and the cells of one laid out in weeks.
-mod cells;
+pub mod cells;
 mod page;
 mod plan;
 mod step;

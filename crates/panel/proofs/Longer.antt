@@ -17,6 +17,7 @@ use Rattle.conversion.specs.Claims.{Added}
 use Rattle.conversion.proofs.Days.{outside-number}
 use Rattle.rules.specs.Longer.{AddedDay}
 use Rattle.rules.specs.Festivals.{Listed}
+use Rattle.grid.specs.Cells as Cells
 use Rattle.grid.specs.Month.{Shown}
 use Rattle.steady.specs.Composed.{Place, ref}
 use Rattle.steady.specs.Steady.{Stays, Steady}
@@ -34,6 +35,7 @@ use Rattle.panel.proofs.conversions.panel_ad_to_bs.Reads as AdToBs
 use Rattle.panel.proofs.months.panel_step_month.Reads as StepMonth
 use Rattle.panel.proofs.day_lists.panel_festivals_on.Reads as FestivalsOn
 use Rattle.panel.proofs.day_lists.panel_festivals_on_ad.Reads as FestivalsOnAd
+use Rattle.panel.proofs.holidays.panel_is_holiday.Reads as IsHoliday
 use Rattle.panel.proofs.months.panel_month_grid.Reads as MonthGrid
 
 -- ---- THE LAW. `answer` reads the answer of all that the definition tells, `told` the number and what is then lent.
@@ -126,6 +128,12 @@ module _ (t : Table) (rows more : List ℕ) (good : accepted t rows ≡ true) (l
     festivals-on-ad y m d old =
         grows {W = Listed} (λ w. w .answer) (λ w. toldListAd w (old .0)) (λ w. told-code daysIn (λ n. n) (w .answer) (old .0)) (outside-number _ _) _ (steady t rows more rules any good longer .list-ad y m d (old .1)) (λ z h. Iff·rfl)
         (λ k x s c. beside c) (λ k x s c. beside c)
+
+    pub is-holiday : (y m d : ℕ) (old : ℕ) → Grows IsHoliday.Learnt (λ k s. one (s .1 .1 .1 .1 .1 .1 .1 .1 .1))
+        (λ k. lendTable t p rows (ref a rules, (y, (m, (d, lendOne e old))))) (λ k. lendTable t q (rows ++ more) (ref b rules, (y, (m, (d, lendOne f old))))) 4 (λ b. Added (flat t rows) y)
+    is-holiday y m d old =
+        grows (λ z. z) (λ z. gives z Cells.one old) (λ z. gives-code z Cells.one old) _ (steady t rows more rules any good longer .holiday y m d) (λ z h. Iff·rfl)
+        (λ k x s c. c) (λ k x s c. c)
 
     pub month-grid : (today : Date) (y m : ℕ) (old : MonthState) → Grows MonthGrid.Learnt (λ k s. month (s .1 .1 .1 .1 .1 .1 .1 .1 .1 .1 .1))
         (λ k. lendTable t p rows (ref a rules, (today .year, (today .month, (today .day, (y, (m, lendMonth e old)))))))

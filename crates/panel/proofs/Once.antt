@@ -16,8 +16,10 @@ use Rattle.panchanga.specs.Answers.{eventsAnswer, riseAnswer, setAnswer, nishit
 use Rattle.rules.specs.Rules.{rulesOf, acceptedRules}
 use Rattle.rules.specs.Festivals.{listOnBs, listOnAd}
 use Rattle.festivals.specs.Kathmandu.{kathmandu}
+use Rattle.grid.specs.Cells as Cells
 use Rattle.grid.specs.Step.{stepMonth}
 use Rattle.grid.specs.Kathmandu.{monthUnder}
+use Rattle.holiday.specs.Holiday.{holidayUnder}
 use Rattle.steady.specs.Once.{OneAnswer}
 use Rattle.panel.specs.Boundary.{numbers, bsNumbers, readings, monthOf, lent, kalaBy}
 use Rattle.panel.specs.Lent.{one, two, three, four, span, walked, dated, listed, listedAd, month}
@@ -60,6 +62,7 @@ use Rattle.panel.proofs.almanac.panel_reading.Reads as Reading
 use Rattle.panel.proofs.day_lists.panel_check_rules.Reads as CheckRules
 use Rattle.panel.proofs.day_lists.panel_festivals_on.Reads as FestivalsOn
 use Rattle.panel.proofs.day_lists.panel_festivals_on_ad.Reads as FestivalsOnAd
+use Rattle.panel.proofs.holidays.panel_is_holiday.Reads as IsHoliday
 use Rattle.panel.proofs.rule_files.panel_read_rules.Reads as ReadRules
 use Rattle.panel.proofs.rule_files.panel_write_rules.Reads as WriteRules
 use Rattle.panel.proofs.months.panel_step_month.Reads as StepMonth
@@ -194,6 +197,11 @@ festivals-on = by-list (λ k a. let rules = now (a .1 .1 .1 .1 .1 .0) in let x =
 
 pub festivals-on-ad : CrossesTelling 7 FestivalsOnAd.Learnt (λ k a. listedAd (a .1 .1 .1 .1 .1 .1 .1 .1 .1)) (λ k s. listedAd (s .1 .1 .1 .1 .1 .1 .1 .1 .1))
 festivals-on-ad = by-list-ad (λ k a. let rules = now (a .1 .1 .1 .1 .1 .0) in let x = a .1 .1 .1 .1 .1 .1 in listOnAd kathmandu (tableIn a) (rulesOf rules) (acceptedRules rules) (x .0) (x .1 .0) (x .1 .1 .0)) (λ k a x s p. p)
+
+-- ---- holidays
+
+pub is-holiday : Crosses IsHoliday.Learnt (λ k a. one (a .1 .1 .1 .1 .1 .1 .1 .1 .1)) (λ k s. one (s .1 .1 .1 .1 .1 .1 .1 .1 .1))
+is-holiday = by-gives (λ k a. let x = a .1 .1 .1 .1 .1 .1 in holidayUnder (tableIn a) (now (a .1 .1 .1 .1 .1 .0)) (x .0) (x .1 .0) (x .1 .1 .0)) Cells.one (λ k a x s p. p)
 
 -- ---- rule files
 

@@ -11,6 +11,7 @@ mod conversions;
 mod dates;
 mod day_lists;
 mod heavens;
+mod holidays;
 mod months;
 mod rule_files;
 mod trigonometry;

@@ -8,7 +8,7 @@ use Rattle.conversion.specs.declared.Table.{Table}
 use Rattle.conversion.specs.Calendar.{Calendar}
 use Rattle.conversion.specs.Flat.{flat}
 use Rattle.asked.specs.Tags.{CHECK, CHECKRULES, READRULES, WRITERULES, BS, AD, LEN, VALID, STEP, STARTS, LISTBS, LISTAD, GRID, DAY, DATE}
-use Rattle.asked.specs.Tags.{JD, NPT, EVENTS, RISE, SET, KALA, NISHITA, READ, SIN, COS, ASIN, ACOS, TAN}
+use Rattle.asked.specs.Tags.{JD, NPT, EVENTS, RISE, SET, KALA, NISHITA, READ, HOLIDAY, SIN, COS, ASIN, ACOS, TAN}
 use Rattle.asked.specs.declared.bytes.Octets.{Octets}
 use Rattle.asked.specs.declared.words.Words.{Words}
 use Rattle.replies.specs.declared.Reply.{Reply}
@@ -20,6 +20,7 @@ use Rattle.answers.specs.Trigonometry.{trigonometryReply}
 use Rattle.answers.specs.Almanac.{almanacReply}
 use Rattle.answers.specs.Heavens.{heavensReply}
 use Rattle.lending.specs.Lending.{Loan, lendingOf, lends}
+use Rattle.questions.specs.Holidays.{holidayReply}
 use Rattle.questions.specs.Lists.{rulesReply, listWords}
 use Rattle.questions.specs.Months.{stepReply, gridWords}
 use Rattle.questions.specs.Texts.{readRulesWords, writeRulesWords}
@@ -38,7 +39,8 @@ replyBy tag c rules w =
     (cond (oneOf (SET ∷ KALA ∷ READ ∷ RISE ∷ EVENTS ∷ NISHITA ∷ []) tag) (almanacReply w)
     (cond (oneOf (CHECKRULES ∷ []) tag) (rulesReply rules w)
     (cond (oneOf (STEP ∷ []) tag) (stepReply c w)
-    (heavensReply w))))))
+    (cond (oneOf (HOLIDAY ∷ []) tag) (holidayReply c rules w)
+    (heavensReply w)))))))
 
 abbrev pub replyTo : Calendar → List ℕ → Words → Reply
 replyTo c rules w = replyBy (w .tag) c rules w

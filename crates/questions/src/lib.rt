@@ -9,6 +9,7 @@ ghost use Rattle.lending.specs.Lending.{loanOf};
 ghost use Rattle.questions.specs.Runs.{answering, Lends, Answers};
 ghost use Rattle.asked.specs.Runs.{TurnDone};
 
+mod holidays;
 mod lists;
 mod months;
 mod texts;
@@ -46,6 +47,7 @@ fn reply_to(w: Words, table: Table, rows: &[u16], rules: &[u16]) -> Reply
         }
         tags::CHECKRULES => lists::check(w, rules),
         tags::STEP => months::step(w, table, rows),
+        tags::HOLIDAY => holidays::reply(w, table, rows, rules),
         _ => answers::heavens::reply(w),
     }
 }

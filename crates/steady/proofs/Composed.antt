@@ -26,6 +26,8 @@ use Rattle.grid.specs.Step.{stepSays}
 use Rattle.grid.specs.Month.{Shown, gridSays}
 use Rattle.grid.proofs.step_month.Reads as StepMonth
 use Rattle.grid.proofs.month_grid.Reads as MonthGrid
+use Rattle.holiday.specs.Holiday.{holidaySays}
+use Rattle.holiday.proofs.is_holiday.Reads as IsHoliday
 use Rattle.steady.specs.Steady.{Stays, AnswerStays, Steady}
 use Rattle.steady.specs.Composed.{Place, ref, AnswerCarries, Carries}
 use Rattle.steady.proofs.Steady.{steady}
@@ -93,6 +95,11 @@ module _ (t : Table) (rows more : List ℕ) (good : accepted t rows ≡ true) (l
         (λ k. (t, (ref q (rows ++ more), (ref b rules, (y, (m, (n, (ref f out, tt))))))))
     festivals-on-ad y m n out e f k l x z s u v c d h =
         carried {W = Listed} (λ w. w .answer) (λ w. w .buffer) (steady t rows more rules any good longer .list-ad y m n out) v (c .0) (d .0) (c .1) (d .1) h
+
+    pub is-holiday : (y m n : ℕ) → AnswerCarries IsHoliday.Learnt (λ k x. holidaySays x)
+        (λ k. (t, (ref p rows, (ref a rules, (y, (m, (n, tt)))))))
+        (λ k. (t, (ref q (rows ++ more), (ref b rules, (y, (m, (n, tt)))))))
+    is-holiday y m n k l x z s u v c d h = told (steady t rows more rules any good longer .holiday y m n) v c d h
 
     -- cells and festivals are the seventh and eighth parameters
     pub month-grid : (today : Date) (y m : ℕ) (cells festivals : List ℕ) (e f g i : Place) → Carries {B = List ℕ × List ℕ} MonthGrid.Learnt (λ k x. gridSays x)

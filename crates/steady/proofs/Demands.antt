@@ -41,6 +41,7 @@ pub use Rattle.festivals.proofs.festivals_on.Met.{met as festivals-on}
 pub use Rattle.festivals.proofs.festivals_on_ad.Met.{met as festivals-on-ad}
 pub use Rattle.grid.proofs.step_month.Met.{met as step-month}
 pub use Rattle.grid.proofs.month_grid.Met.{met as month-grid}
+pub use Rattle.holiday.proofs.is_holiday.Met.{met as is-holiday}
 pub use Rattle.steady.proofs.Refusals.{list-left, month-left, starts-left}
 -- DEMAND 2: for every accepted table the BS dates and the table days match one to one, in order, and all else is refused with its number; a table that
 -- is not accepted answers nothing
@@ -50,6 +51,8 @@ pub use Rattle.conversion.proofs.Theorems.{one-to-one, no-table}
 pub use Rattle.steady.proofs.Steady.{steady}
 -- and so of two results that meet a call's contract, under the table and under the longer one
 pub use Rattle.steady.proofs.Composed as Composed
+-- what is answered of a date is the holiday number of its cell, and each date that is answered has one
+pub use Rattle.holiday.proofs.Theorems.{in-cells, has-cell}
 -- the checked examples
 pub use Rattle.steady.proofs.Examples.{checked}
 -- the festival rules over a sky of a few numbers

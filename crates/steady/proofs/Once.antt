@@ -50,6 +50,8 @@ use Rattle.festivals.proofs.Unique.{list-only}
 use Rattle.grid.proofs.step_month.Reads as StepMonth
 use Rattle.grid.proofs.month_grid.Reads as MonthGrid
 use Rattle.grid.proofs.Unique.{step-only, grid-only}
+use Rattle.holiday.proofs.is_holiday.Reads as IsHoliday
+use Rattle.holiday.proofs.Unique.{holiday-only}
 use Rattle.steady.specs.Once.{OneAnswer, OneOutcome}
 
 pub both : {A B : Type 0} {x y : A} {u v : B} → x ≡ y → u ≡ v → _≡_ {A = A × B} (x, u) (y, v)
@@ -194,3 +196,8 @@ step-month k a x y s t p q = step-only x y (p ∙ sym q)
 -- cells and festivals are the seventh and eighth parameters
 pub month-grid : OneOutcome {B = List ℕ × List ℕ} MonthGrid.Learnt (λ k s. (now (s .1 .1 .1 .1 .1 .1 .0), now (s .1 .1 .1 .1 .1 .1 .1 .0)))
 month-grid k a x y s t p q = (grid-only x y (p .0 ∙ sym (q .0)), both (p .1 .0 ∙ sym (q .1 .0)) (p .1 .1 ∙ sym (q .1 .1)))
+
+-- ---- holiday
+
+pub is-holiday : OneAnswer IsHoliday.Learnt
+is-holiday k a x y s t p q = holiday-only x y (p ∙ sym q)

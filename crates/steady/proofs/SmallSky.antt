@@ -1,14 +1,16 @@
 -- The festival rules over the small sky hold, each by computation. Assumes nothing.
 use mathlib.Core.Path.{refl}
-use Rattle.paper.specs.Answers.{given}
+use Rattle.paper.specs.Answers.{given, then}
 use Rattle.paper.specs.Sums.{sum}
-use Rattle.conversion.specs.Calendar.{last, fromDay}
+use Rattle.conversion.specs.Calendar.{last, toDay, fromDay}
 use Rattle.rules.specs.Days.{next, holds, orElse, firstFrom, rank, claims, claimed, askedDay, festivalDay}
 use Rattle.rules.specs.Festivals.{dated, lastOf, inTable, beginning, moons, inMonth, opening, ruleDay, entry, entryOn, picked, any, keptAfter, kept, silenced, isComputed, dayPairs, dayList}
+use Rattle.grid.specs.Cells.{anyHoliday}
+use Rattle.holiday.specs.Holiday.{holidayBy}
 use Rattle.steady.specs.SmallSky.{SmallSky}
 
 pub small-sky : SmallSky
-unfolding given sum last fromDay next holds orElse firstFrom rank claims claimed askedDay festivalDay dated lastOf inTable beginning moons inMonth opening ruleDay entry entryOn picked any keptAfter kept silenced isComputed dayPairs dayList
+unfolding given then sum last toDay fromDay next holds orElse firstFrom rank claims claimed askedDay festivalDay dated lastOf inTable beginning moons inMonth opening ruleDay entry entryOn picked any keptAfter kept silenced isComputed dayPairs dayList anyHoliday holidayBy
 small-sky =
     record {
       first-inside = refl;
@@ -35,4 +37,10 @@ small-sky =
       before-removal = refl;
       removed = refl;
       apart = refl;
+      holiday-marked = refl;
+      holiday-removed = refl;
+      holiday-apart = refl;
+      holiday-saturday = refl;
+      holiday-friday = refl;
+      holiday-sunday = refl;
     }

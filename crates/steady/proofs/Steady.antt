@@ -24,6 +24,7 @@ use Rattle.rules.proofs.Theorems as Lists
 use Rattle.festivals.specs.Kathmandu.{kathmandu}
 use Rattle.grid.specs.Month.{Grid, shown}
 use Rattle.grid.proofs.Longer as Grids
+use Rattle.holiday.proofs.Longer.{holiday-longer, holiday-added}
 use Rattle.steady.specs.Steady.{Stays, AnswerStays, Steady}
 use Rattle.steady.proofs.Stepping.{step-longer, step-added}
 
@@ -84,6 +85,7 @@ steady t rows more rules today a b =
       step = λ y m s. stays (step-longer _ _ x y m s) (step-added _ _ x y m s);
       list = λ y m d out. let s = l out t rows more a b in told-stays (λ (z : Answer (List Pair)). listed z out) (λ w. w .answer) (listed-refused out) (λ v h. s .on-bs y m d v h .answer) (s .on-bs-added y m d);
       list-ad = λ y m d out. let s = l out t rows more a b in told-stays (λ (z : Answer (List Pair)). listed z out) (λ w. w .answer) (listed-refused out) (λ v h. s .on-ad y m d v h .answer) (s .on-ad-added y m d);
+      holiday = λ y m d. stays (holiday-longer t rows more rules a b y m d) (holiday-added t rows more rules a b y m d);
       bs-outside = λ y m d. record { before = c .from-before y m d; after = c .from-after y m d; reached = c .from-reached y m d };
       list-outside = λ y m d out.
           let s = l out t rows more a b in

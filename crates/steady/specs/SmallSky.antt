@@ -8,11 +8,13 @@ use mathlib.Core.List.{[], _∷_}
 use mathlib.Core.Option.{some, none}
 use lib.Dec.{leb, ltb}
 use lib.ListN.{getD}
+use Rattle.paper.specs.Answers.{answered}
 use Rattle.conversion.specs.Calendar.{Calendar, bs}
 use Rattle.rules.specs.declared.Rule.{Rule}
 use Rattle.rules.specs.Sky.{Sky}
 use Rattle.rules.specs.Days.{udaya, nishita, begins, claims, claimed, festivalDay}
 use Rattle.rules.specs.Festivals.{inMonth, opening, entry, dayPairs, dayList}
+use Rattle.holiday.specs.Holiday.{holidayBy}
 
 -- ---- the calendar and the sky
 
@@ -96,3 +98,11 @@ pub record SmallSky : Type 0 where
   pub before-removal : dayPairs sky calendar (late ∷ fixedOn 7 0 ∷ []) (bs 2 1 2) 121 ≡ (7, 0) ∷ (7, 1) ∷ []
   pub removed : dayList sky calendar (late ∷ fixedOn 7 0 ∷ []) (bs 2 1 2) 121 ≡ (7, 0) ∷ []
   pub apart : dayList sky calendar (late ∷ fixedOn 7 0 ∷ fixedOn 8 0 ∷ []) (bs 2 1 2) 121 ≡ (7, 0) ∷ (8, 0) ∷ (7, 1) ∷ []
+  -- day 121 is a Wednesday, and a holiday by the late rule; with the removed mark it is none, with the mark apart it is one again
+  pub holiday-marked : holidayBy sky calendar (late ∷ []) true 2 1 2 ≡ answered true
+  pub holiday-removed : holidayBy sky calendar (late ∷ fixedOn 7 0 ∷ []) true 2 1 2 ≡ answered false
+  pub holiday-apart : holidayBy sky calendar (late ∷ fixedOn 7 0 ∷ fixedOn 8 0 ∷ []) true 2 1 2 ≡ answered true
+  -- day 5 is a Saturday, and a holiday without any rule; days 4 and 6 are none
+  pub holiday-saturday : holidayBy sky calendar [] true 1 1 6 ≡ answered true
+  pub holiday-friday : holidayBy sky calendar [] true 1 1 5 ≡ answered false
+  pub holiday-sunday : holidayBy sky calendar [] true 1 1 7 ≡ answered false

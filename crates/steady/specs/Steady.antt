@@ -18,6 +18,7 @@ use Rattle.rules.specs.Longer.{AddedDay}
 use Rattle.festivals.specs.Answers.{onBs, onAd}
 use Rattle.grid.specs.Step.{stepMonth}
 use Rattle.grid.specs.Kathmandu.{monthShown}
+use Rattle.holiday.specs.Holiday.{holidayOn}
 
 -- One question under the shorter and under the longer. `answer` reads the answer of all that is told, which may hold lent buffers as they then stand.
 -- P says of an answer of the longer that it lies in an added year; k is the refusal that the shorter then gives.
@@ -57,6 +58,8 @@ module _ (t : Table) (rows more rules : List ℕ) (today : Date) where
         (λ n. Added short y)
     pub list-ad : (y m d : ℕ) (out : List ℕ) → Stays (λ w. w .answer) (onAd t rows rules y m d out) (onAd t (rows ++ more) rules y m d out)
         (outside short (dayNumber (date y m d))) (λ n. AddedDay short long (dayNumber (date y m d)))
+    -- `is_holiday`
+    pub holiday : (y m d : ℕ) → AnswerStays (holidayOn t rows rules y m d) (holidayOn t (rows ++ more) rules y m d) NoYear (λ b. Added short y)
     -- `month_grid`: the answer and both buffers
     pub month : (y m : ℕ) (cells festivals : List ℕ) → Stays (λ w. w .answer) (monthShown t rows rules today y m cells festivals)
         (monthShown t (rows ++ more) rules today y m cells festivals) NoYear (λ n. Added short y)

@@ -1,4 +1,4 @@
--- `patro::refusals::put_out_of_form` meets its contract. Assumes nothing.
+-- `commands::refusals::put_out_of_form` meets its contract. Assumes nothing.
 use Rattle.text.proofs.Writes.{then}
 use borrow.Author.Needs.{needs}
 use Rattle.commands.proofs.refusals.put_out_of_form.Statement.{statement}

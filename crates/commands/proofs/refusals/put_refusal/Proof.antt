@@ -1,4 +1,4 @@
--- `patro::refusals::put_refusal` meets its contract. Assumes nothing.
+-- `commands::refusals::put_refusal` meets its contract. Assumes nothing.
 use Rattle.text.proofs.Writes.{then}
 use Rattle.commands.specs.Refusals.{refusalText}
 use borrow.Author.Needs.{needs}

@@ -1,4 +1,4 @@
--- `patro::words::asked_by` meets its contract. Assumes nothing.
+-- `commands::words::asked_by` meets its contract. Assumes nothing.
 use borrow.Author.Tests.{eq-eqb, ne-eqb}
 use Rattle.commands.specs.Words.{askedBy}
 use borrow.Author.Needs.{needs}

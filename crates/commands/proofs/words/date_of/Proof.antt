@@ -1,4 +1,4 @@
--- `patro::words::date_of` meets its contract. Assumes nothing.
+-- `commands::words::date_of` meets its contract. Assumes nothing.
 use Rattle.commands.proofs.Readings.{date-none, date-some}
 use borrow.Author.Needs.{needs}
 use Rattle.commands.proofs.words.date_of.Statement.{statement}

@@ -1,4 +1,4 @@
--- `patro::words::one_word` meets its contract. Assumes nothing.
+-- `commands::words::one_word` meets its contract. Assumes nothing.
 use borrow.Author.Needs.{needs}
 use Rattle.commands.proofs.words.one_word.Statement.{statement}
 use Rattle.commands.proofs.words.one_word.Tie as tie

@@ -1,4 +1,4 @@
--- `patro::words::pair_of` meets its contract. Assumes nothing.
+-- `commands::words::pair_of` meets its contract. Assumes nothing.
 use Rattle.paper.proofs.Answers.{said}
 use Rattle.text.specs.Reading.{wholeSays}
 use borrow.Author.Needs.{needs}

@@ -1,4 +1,4 @@
--- `patro::words::three_words` meets its contract. Assumes nothing.
+-- `commands::words::three_words` meets its contract. Assumes nothing.
 use Rattle.paper.proofs.Answers.{said}
 use Rattle.text.specs.Reading.{wholeSays}
 use borrow.Author.Needs.{needs}

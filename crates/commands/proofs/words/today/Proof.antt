@@ -1,4 +1,4 @@
--- `patro::words::today` meets its contract. Assumes nothing.
+-- `commands::words::today` meets its contract. Assumes nothing.
 use borrow.Author.Needs.{needs}
 use Rattle.commands.proofs.words.today.Statement.{statement}
 use Rattle.commands.proofs.words.today.Tie as tie

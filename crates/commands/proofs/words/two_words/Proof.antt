@@ -1,4 +1,4 @@
--- `patro::words::two_words` meets its contract. Assumes nothing.
+-- `commands::words::two_words` meets its contract. Assumes nothing.
 use borrow.Author.Needs.{needs}
 use Rattle.commands.proofs.words.two_words.Statement.{statement}
 use Rattle.commands.proofs.words.two_words.Tie as tie
