@@ -40,9 +40,9 @@ static const struct buffer no_buffer[2], starts[2] = { { sizeof(double), 40, 0, 
                            rules[2] = { { sizeof(uint16_t), 2560, 0, 8 } }, texts[2] = { { sizeof(uint8_t), 29120, 0, 1 } },
                            grids[2] = { { sizeof(uint16_t), 504, 7, 12 }, { sizeof(uint16_t), 768, 8, 2 } };
 
-/* The name; the letters of its arguments (arguments.h); the letters of its places: c a u8, h a u16, w a u32, z a size_t, f a double, y a u16 that is 0 or 1, o one
-   that is 1 where the places behind it are written and 0 where they stay, l a size_t that refusal 12 alone writes, d a u32 that refusal 7 alone writes (there are
-   two, one of which it makes 0 and the other not); its buffers; the refusals that docs/RULES.md allows; one in how many calls is tame; the call. */
+/* The name; the letters of its arguments (arguments.h); the letters of its places: c a u8, h a u16, w a u32, z a size_t, f a double, y a u16 that is 0 or 1,
+   o one that is 1 where the places behind it are written and 0 where they stay, l a size_t that refusal 12 alone writes, d a u32 that refusal 7 alone writes
+   (there are two, one of which it makes 0 and the other not); its buffers; the refusals that docs/RULES.md allows; one in how many calls is tame; the call. */
 #define FUNCTIONS(f) \
     f(panel_date_new, "ymd", "hhh", no_buffer, "3", 2, (N(0), N(1), N(2), H(0), H(1), H(2))) \
     f(panel_date_day_number, "ymd", "w", no_buffer, "3", 2, (N(0), N(1), N(2), W(0))) \
@@ -324,8 +324,8 @@ static int is_found(uint16_t code)
     return code == 0 && !(function->places[0] == 'o' && *H(0) == 0);
 }
 
-/* Whether a place is written: a line's with 12 alone, a distance's with 7 alone, the one that says whether there is something with each answer, any other where
-   there is. */
+/* Whether a place is written: a line's with 12 alone, a distance's with 7 alone, the one that says whether there is something with each answer, any other
+   where there is. */
 static int is_written(size_t i, uint16_t code)
 {
     char place = function->places[i];
