@@ -302,6 +302,7 @@ static void put_outside(uint16_t refusal)
     f(listbs, "nnnn", (fill(list, N(3)), panel_festivals_on(TABLE, RULES, DATE, list, N(3), &count)), put_number(count), put_buffer(list, N(3))) \
     f(listad, "nnnn", (fill(list, N(3)), panel_festivals_on_ad(TABLE, RULES, DATE, list, N(3), &count, OUTSIDE)), put_number(count), \
       put_outside(refusal); put_buffer(list, N(3))) \
+    f(holiday, "nnn", panel_is_holiday(TABLE, RULES, DATE, &number), put_number(number), ) \
     f(sin, "f", panel_sine(q->real[0], &real), put_real(real), ) \
     f(cos, "f", panel_cosine(q->real[0], &real), put_real(real), ) \
     f(asin, "f", panel_arcsine(q->real[0], &real), put_real(real), ) \

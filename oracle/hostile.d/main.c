@@ -40,9 +40,9 @@ static const struct buffer no_buffer[2], starts[2] = { { sizeof(double), 40, 0, 
                            rules[2] = { { sizeof(uint16_t), 2560, 0, 8 } }, texts[2] = { { sizeof(uint8_t), 29120, 0, 1 } },
                            grids[2] = { { sizeof(uint16_t), 504, 7, 12 }, { sizeof(uint16_t), 768, 8, 2 } };
 
-/* The name; the letters of its arguments (arguments.h); the letters of its places: c a u8, h a u16, w a u32, z a size_t, f a double, o a u16 that is 1 where the
-   places behind it are written and 0 where they stay, l a size_t that refusal 12 alone writes, d a u32 that refusal 7 alone writes: there are two, one of which it
-   makes 0 and the other not; its buffers; the refusals that docs/RULES.md allows; one in how many calls is tame; the call. */
+/* The name; the letters of its arguments (arguments.h); the letters of its places: c a u8, h a u16, w a u32, z a size_t, f a double, y a u16 that is 0 or 1,
+   o one that is 1 where the places behind it are written and 0 where they stay, l a size_t that refusal 12 alone writes, d a u32 that refusal 7 alone writes
+   (there are two, one of which it makes 0 and the other not); its buffers; the refusals that docs/RULES.md allows; one in how many calls is tame; the call. */
 #define FUNCTIONS(f) \
     f(panel_date_new, "ymd", "hhh", no_buffer, "3", 2, (N(0), N(1), N(2), H(0), H(1), H(2))) \
     f(panel_date_day_number, "ymd", "w", no_buffer, "3", 2, (N(0), N(1), N(2), W(0))) \
@@ -83,6 +83,7 @@ static const struct buffer no_buffer[2], starts[2] = { { sizeof(double), 40, 0, 
     f(panel_write_rules, "RB", "z", texts, "2 9", 4, (S(0), CB(0), Z(0))) \
     f(panel_festivals_on, "TRYMDB", "z", lists, "1 2 4 5 6 9", 200, (TABLE, S(1), N(4), N(5), N(6), HB(0), Z(0))) \
     f(panel_festivals_on_ad, "TRgB", "zdd", lists, "1 2 3 7 9", 200, (TABLE, S(1), N(4), N(5), N(6), HB(0), Z(0), W(1), W(2))) \
+    f(panel_is_holiday, "TRYMD", "y", no_buffer, "1 2 4 5 6", 200, (TABLE, S(1), N(4), N(5), N(6), H(0))) \
     f(panel_step_month, "TYbs", "hc", no_buffer, "1 10", 4, (TABLE, N(4), (uint8_t)a.number[5], a.step, H(0), C(1))) \
     f(panel_month_grid, "TRymdYMBB", "hhhhhhhzz", grids, "1 2 3 4 5 9", 500, \
       (TABLE, S(1), N(4), N(5), N(6), N(7), N(8), HB(0), HB(1), H(0), H(1), H(2), H(3), H(4), H(5), H(6), Z(7), Z(8)))
@@ -101,6 +102,7 @@ struct function {
     f(broken_place, "ymd", "h", no_buffer, "3", 2, (N(0), H(0))) \
     f(broken_none, "ymd", "oh", no_buffer, "3", 2, (H(0), H(1))) \
     f(broken_answer, "ymd", "h", no_buffer, "3", 2, (H(0))) \
+    f(broken_yes, "ymd", "y", no_buffer, "3", 2, (H(0))) \
     f(broken_guard, "kB", "z", starts, "8 9", 2, (FB(0), Z(0))) \
     f(broken_room, "kB", "z", starts, "8 9", 2, (FB(0), Z(0))) \
     f(broken_rest, "kB", "z", starts, "8 9", 2, (FB(0), Z(0))) \
@@ -142,6 +144,13 @@ static uint16_t broken_none(uint16_t *found, uint16_t *out)
 static uint16_t broken_answer(uint16_t *out)
 {
     (void)out;
+    return 0;
+}
+
+/* says neither yes nor no */
+static uint16_t broken_yes(uint16_t *out)
+{
+    *out = 2;
     return 0;
 }
 
@@ -315,8 +324,8 @@ static int is_found(uint16_t code)
     return code == 0 && !(function->places[0] == 'o' && *H(0) == 0);
 }
 
-/* Whether a place is written: a line's with 12 alone, a distance's with 7 alone, the one that says whether there is something with each answer, any other where
-   there is. */
+/* Whether a place is written: a line's with 12 alone, a distance's with 7 alone, the one that says whether there is something with each answer, any other
+   where there is. */
 static int is_written(size_t i, uint16_t code)
 {
     char place = function->places[i];
@@ -341,9 +350,10 @@ static size_t written(size_t i)
 static void check(uint16_t code)
 {
     if (code != 0 && !allowed(code)) failed("refuses with a number that is not allowed");
-    for (size_t i = 0; function->places[i]; i++)
+    for (size_t i = 0; function->places[i]; i++) {
         if (!untouched(&places[i], is_written(i, code) ? places[i].bytes : 0)) failed("changes a place that it must leave");
-    if (code == 0 && function->places[0] == 'o' && *H(0) > 1) failed("finds neither 0 nor 1");
+        if (code == 0 && strchr("oy", function->places[i]) && *H(i) > 1) failed("says neither 0 nor 1");
+    }
     if (code == 7 && !is_on_one_side()) failed("tells a distance on no side or on both");
     for (size_t i = 0; i < 2 && function->buffers[i].width > 0; i++) {
         if (code == 0 && written(i) > buffers[i].bytes) failed("answers more than there is room for");

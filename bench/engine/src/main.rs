@@ -285,6 +285,41 @@ fn month_grids(report: &mut Report, dice: &mut Dice, table: &Table) {
     );
 }
 
+/// Whether it is a holiday: on Saturdays, with what that needs below it, the date's conversion and the rules' acceptance; and on other days.
+fn holidays(report: &mut Report, dice: &mut Dice, table: &Table) {
+    let rules = nepal_rules();
+    let is_saturday = |bs: &BsDate| conversion::bs_to_ad(table, *bs).and_then(|ad| ad.weekday()) == Ok(6);
+    let (saturdays, others): (Vec<BsDate>, Vec<BsDate>) =
+        (0..40).flat_map(|_| days_of_years(dice, table, 0)).partition(is_saturday);
+    report.compared(
+        "holiday on a Saturday",
+        saturdays.len(),
+        Box::new(|i| port::is_holiday(table, &rules, saturdays[i]).expect("a day").into()),
+        Box::new(|i| festivals::is_holiday(table, &rules, saturdays[i]).expect("a day").into()),
+        None,
+    );
+    report.compared(
+        "the same dates converted, the rules accepted",
+        saturdays.len(),
+        Box::new(|i| {
+            port::check_rules(&rules).expect("rules");
+            of_date(port::bs_to_ad(table, saturdays[i]).expect("a date"))
+        }),
+        Box::new(|i| {
+            festivals::check_rules(&rules).expect("rules");
+            of_date(conversion::bs_to_ad(table, saturdays[i]).expect("a date"))
+        }),
+        None,
+    );
+    report.cold(
+        "holiday on another day, the same rules",
+        40,
+        Box::new(|i| port::is_holiday(table, &rules, others[i]).expect("a day").into()),
+        Box::new(|i| festivals::is_holiday(table, &rules, others[i]).expect("a day").into()),
+        None,
+    );
+}
+
 fn main() {
     let mut dice = Dice(88172645463325252);
     let mut report = Report { good: true };
@@ -298,5 +333,6 @@ fn main() {
     searches(&mut report, &mut dice);
     day_lists(&mut report, &mut dice, &table);
     month_grids(&mut report, &mut dice, &table);
+    holidays(&mut report, &mut dice, &table);
     std::process::exit(!report.good as i32);
 }

@@ -71,6 +71,21 @@ extern "C" {
         festivals_len: usize,
         count: &mut usize,
     ) -> u16;
+    fn panel_check_rules(rules: *const u16, rules_len: usize) -> u16;
+    fn panel_is_holiday(
+        first_year: u16,
+        first_ad_year: u16,
+        first_ad_month: u16,
+        first_ad_day: u16,
+        rows: *const u16,
+        rows_len: usize,
+        rules: *const u16,
+        rules_len: usize,
+        year: u16,
+        month: u16,
+        day: u16,
+        holiday: &mut u16,
+    ) -> u16;
     fn panel_month_grid(
         first_year: u16,
         first_ad_year: u16,
@@ -202,6 +217,33 @@ pub fn festivals_on(table: &Table, rules: &[u16], bs: BsDate, out: &mut [u16]) -
         )
     };
     answered(code, count)
+}
+
+pub fn check_rules(rules: &[u16]) -> Answer<()> {
+    let code = unsafe { panel_check_rules(rules.as_ptr(), rules.len()) };
+    answered(code, ())
+}
+
+pub fn is_holiday(table: &Table, rules: &[u16], bs: BsDate) -> Answer<bool> {
+    let mut holiday = 0;
+    let first = table.first_day;
+    let code = unsafe {
+        panel_is_holiday(
+            table.first_year,
+            first.year,
+            first.month,
+            first.day,
+            table.rows.as_ptr(),
+            table.rows.len(),
+            rules.as_ptr(),
+            rules.len(),
+            bs.year,
+            bs.month,
+            bs.day,
+            &mut holiday,
+        )
+    };
+    answered(code, holiday == 1)
 }
 
 pub fn month_grid(

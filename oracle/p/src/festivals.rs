@@ -1,6 +1,6 @@
 //! festivals.rs over a lent rule list; every lunar year is resolved afresh.
 use crate::conversion::{BsDate, Table, ad_to_bs, bs_month_len, bs_to_ad, validate_bs_date};
-use crate::gregorian::Date;
+use crate::gregorian::{Date, SATURDAY};
 use crate::panchanga::{self, KALAS, Kala, Ut};
 use crate::{Answer, Refusal};
 
@@ -215,6 +215,16 @@ pub fn day_list_bs(table: &Table, rules: &[u16], bs: BsDate, out: &mut [u16]) ->
     check_rules(rules)?;
     validate_bs_date(table, bs)?;
     written(&list(table, rules, bs, bs_to_ad(table, bs)?), out)
+}
+
+/// Whether a BS date is a holiday: a Saturday, for which no lunar year is resolved, or a day whose list
+/// shows an entry that has the mark. 1, 2, 4, 5, 6.
+pub fn is_holiday(table: &Table, rules: &[u16], bs: BsDate) -> Answer<bool> {
+    table.check()?;
+    check_rules(rules)?;
+    let ad = bs_to_ad(table, bs)?;
+    let marked = |entry: &Entry| entry.holiday == 1;
+    Ok(ad.weekday()? == SATURDAY || list(table, rules, bs, ad).iter().any(marked))
 }
 
 /// A day's list by its Gregorian date. 1, 2, 3, 7 with the distance, 9.

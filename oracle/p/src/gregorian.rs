@@ -13,6 +13,8 @@ pub struct Date {
 pub const FIRST: i64 = 2_415_021;
 /// The day number of 2149-12-31.
 pub const LAST: i64 = 2_506_331;
+/// The weekday of rest.
+pub const SATURDAY: u16 = 6;
 
 pub fn is_leap(year: u16) -> bool {
     year % 4 == 0 && (year % 100 != 0 || year % 400 == 0)

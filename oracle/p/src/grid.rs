@@ -2,11 +2,10 @@
 use crate::Answer;
 use crate::conversion::{BsDate, Table, bs_month_len, bs_to_ad};
 use crate::festivals::{Entry, check_rules, computed_for_year, festivals_on};
-use crate::gregorian::Date;
+use crate::gregorian::{Date, SATURDAY};
 use crate::panchanga;
 
 const CELL: usize = 12;
-const SATURDAY: u16 = 6;
 
 /// What the grid call answers beside its two buffers.
 #[derive(Debug, Clone, Copy, PartialEq, Eq)]

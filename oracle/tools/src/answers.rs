@@ -93,6 +93,9 @@ pub fn answer(lent: &Lent, query: Query) -> String {
         Query::CheckRules => festivals::check_rules(rules).map(|()| String::new()),
         Query::Bs(bs) => conversion::bs_to_ad(table, bs).map(date_words),
         Query::Ad(ad) => return told(conversion::ad_to_bs(table, ad).map(bs_words)),
+        Query::Holiday(bs) => {
+            festivals::is_holiday(table, rules, bs).map(|yes| (yes as u16).to_string())
+        }
         Query::Len(year, month) => {
             conversion::bs_month_len(table, year, month).map(|days| days.to_string())
         }

@@ -53,6 +53,7 @@ pub enum Query {
     Read(Date),
     ListBs(BsDate, u16),
     ListAd(Date, u16),
+    Holiday(BsDate),
     Grid { today: Date, year: u16, month: u16, cells: u16, festivals: u16 },
     Sin(f64),
     Cos(f64),
@@ -189,6 +190,7 @@ fn query(tag: &str, w: &mut Words) -> Option<Query> {
         "read" => Query::Read(w.date()?),
         "listbs" => Query::ListBs(w.bs()?, w.number()?),
         "listad" => Query::ListAd(w.date()?, w.number()?),
+        "holiday" => Query::Holiday(w.bs()?),
         "grid" => Query::Grid {
             today: w.date()?,
             year: w.number()?,

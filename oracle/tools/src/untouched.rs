@@ -198,16 +198,28 @@ impl Untouched {
         in_buffer(format!("0 {}", list.len() / 2), list, length)
     }
 
+    fn month(&self, lent: &Lent, year: u16, month: u16, today: NaiveDate) -> Option<nepal::Month> {
+        let month = month.try_into().ok()?;
+        match &lent.rules {
+            rules if *rules == self.nepal => nepal::month(year, month, today),
+            rules if *rules == self.stress => stress::month(year, month, today),
+            _ => None,
+        }
+    }
+
+    /// The holiday field of a day's cell in its month's grid.
+    fn holiday_line(&self, lent: &Lent, bs: BsDate) -> Option<String> {
+        let today = rust::bs_to_ad(narrow(bs)?).ok()?;
+        let (_, _, _, cells, _) = self.month(lent, bs.year, bs.month, today)?;
+        let cell = cells.chunks(12).find(|cell| cell[0] == bs.day)?;
+        Some(format!("0 {}", cell[6]))
+    }
+
     fn grid_line(&self, lent: &Lent, query: Query) -> Option<String> {
         let Query::Grid { today, year, month, cells, festivals } = query else {
             return None;
         };
-        let month = month.try_into().ok()?;
-        let (days, first, last, in_cells, names) = match &lent.rules {
-            rules if *rules == self.nepal => nepal::month(year, month, naive(today)?)?,
-            rules if *rules == self.stress => stress::month(year, month, naive(today)?)?,
-            _ => return None,
-        };
+        let (days, first, last, in_cells, names) = self.month(lent, year, month, naive(today)?)?;
         let counts = format!("{} {}", in_cells.len() / 12, names.len() / 2);
         let answer = format!("0 {days} {} {} {counts}", date_words(first), date_words(last));
         in_buffer(in_buffer(answer, in_cells, cells)?, names, festivals)
@@ -243,6 +255,7 @@ impl Untouched {
                 let bs = wide(rust::ad_to_bs(naive(ad)?).ok()?);
                 self.list_line(lent, bs, naive(ad)?, length)
             }
+            Query::Holiday(bs) => self.holiday_line(lent, bs),
             grid => self.grid_line(lent, grid),
         }
     }

@@ -1,5 +1,5 @@
 //! Asks oracle P document 01's checked examples and Meeus's 7.a, 25.a and 47.a, whose answers stand
-//! here as the paper and the book print them, and rule files read by hand.
+//! here as the paper and the book print them, and rule files and holidays read by hand.
 //!
 //!   book [recipe|host]
 use parameterised::convert;
@@ -51,6 +51,32 @@ const PAPER: [(&str, &str); 38] = [
     ("table 100 1950 1 1", ""),
     ("cells 31 31 32 31 31 31 30 29 30 29 30 30 364", ""),
     ("bs 100 1 1", "1"),
+];
+
+/// Holidays over the same table, whose first day is a Sunday, read by hand: the mark of two equal
+/// neighbours is the first's.
+const HOLIDAYS: [(&str, &str); 21] = [
+    ("table 100 1950 1 1", ""),
+    ("cells 31 31 32 31 31 31 30 29 30 29 30 30 365", ""),
+    ("holiday 100 1 6", "0 0"),
+    ("holiday 100 1 7", "0 1"),
+    ("holiday 100 1 8", "0 0"),
+    ("holiday 101 13 32", "4"),
+    ("holiday 100 13 32", "5"),
+    ("holiday 100 1 32", "6"),
+    ("rule 1 0 1 6 0 0 9 0", ""),
+    ("rule 2 0 1 6 0 0 9 1", ""),
+    ("holiday 100 1 6", "0 0"),
+    ("holiday 100 1 7", "0 1"),
+    ("rules", ""),
+    ("rule 1 0 1 6 0 0 9 1", ""),
+    ("rule 2 0 1 6 0 0 9 0", ""),
+    ("holiday 100 1 6", "0 1"),
+    ("holiday 100 1 8", "0 0"),
+    ("rule 5", ""),
+    ("holiday 100 1 7", "2"),
+    ("cells 31", ""),
+    ("holiday 100 1 7", "1"),
 ];
 
 /// Questions on floats, which the paper writes as decimals.
@@ -145,7 +171,8 @@ fn meeus_differs(name: &str, answer: f64, book: f64, last_digit: f64) -> bool {
 fn main() -> ExitCode {
     let host = std::env::args().nth(1).as_deref() == Some("host") || !trig::has_recipe();
     trig::set_mode(if host { Mode::Host } else { Mode::Recipe });
-    let paper = PAPER.iter().map(|(line, answer)| (line.to_string(), answer.to_string()));
+    let paper = PAPER.iter().chain(&HOLIDAYS);
+    let paper = paper.map(|(line, answer)| (line.to_string(), answer.to_string()));
     let julian_day = panchanga::julian_day(date(1957, 10, 4), 0.81).expect("an instant").0;
     let sun = panchanga::sun_longitude(Tt(2448908.5)).expect("a longitude");
     let moon = panchanga::moon_longitude(Tt(2448724.5)).expect("a longitude");

@@ -51,6 +51,7 @@ fn month(maker: &mut Maker, almanac: &mut Almanac, year: u16, month: u16) {
     maker.line(format_args!("len {year} {month}"));
     for bs in almanac.month(year, month) {
         maker.on_bs("bs", bs);
+        maker.on_bs("holiday", bs);
         let length = 2 * almanac.count(bs);
         maker.line(format_args!("listbs {} {} {} {length}", bs.year, bs.month, bs.day));
         let ad = bs_to_ad(&almanac.table, bs).expect("a day of the table");

@@ -51,7 +51,7 @@ impl Almanac {
         maker.random.whole(self.table.first_year as i64, self.table.last_year() as i64) as u16
     }
 
-    fn random_day(&self, maker: &mut Maker) -> BsDate {
+    pub fn random_day(&self, maker: &mut Maker) -> BsDate {
         let (year, month) = (self.random_year(maker), maker.random.whole(1, 12) as u16);
         let days = self.month(year, month);
         days[maker.random.below(days.len())]

@@ -1,6 +1,6 @@
 //! The sets at full scale, which `oracle/run` sends to the port and to both oracles.
 use super::festivals::{self, Almanac};
-use super::{Maker, conversion, grid, panchanga};
+use super::{Maker, conversion, grid, holidays, panchanga};
 use crate::lines::bits_word;
 use crate::random::neighbour;
 use crate::tables::{Months, Place, nepal_rules, owner_table, random_table, stress_rules};
@@ -151,13 +151,14 @@ pub fn grids(maker: &mut Maker) {
 }
 
 /// Every day's list of the owner's table with both rule lists: each day by its BS date with one list
-/// and by its Gregorian date with the other.
+/// and by its Gregorian date with the other; and whether each day is a holiday, with both.
 pub fn days(maker: &mut Maker) {
     for (rules, by_bs) in [(nepal_rules(), true), (stress_rules(), false)] {
         let mut almanac = Almanac::new(owner_table(), rules);
         festivals::lend(maker, &almanac);
         festivals::every_day(maker, &mut almanac, by_bs);
     }
+    holidays::every_day(maker);
 }
 
 /// 2,400 day lists over random tables, days outside each, and every rule list at the edge of the
@@ -175,11 +176,11 @@ pub fn lists(maker: &mut Maker) {
     }
 }
 
-const TAGS: [&str; 44] = [
+const TAGS: [&str; 45] = [
     "check", "checkrules", "bs", "ad", "len", "valid", "step", "day", "date", "jd", "npt", "deltat", "tt",
     "sun", "moon", "elong", "tithi", "tithiof", "end", "starts", "events", "rise", "set", "kala", "nishita",
     "clock", "minutes", "read", "listbs", "listad", "grid", "sin", "cos", "asin", "acos", "tan", "table",
-    "cells", "rules", "rule", "text", "octets", "readrules", "writerules",
+    "cells", "rules", "rule", "text", "octets", "readrules", "writerules", "holiday",
 ];
 
 /// Words that no line takes, or few do.

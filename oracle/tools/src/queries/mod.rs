@@ -14,6 +14,7 @@ mod festivals;
 mod full;
 mod gregorian;
 mod grid;
+mod holidays;
 mod panchanga;
 mod texts;
 mod trig;
@@ -27,7 +28,7 @@ pub struct Maker<'a> {
 type Set = (&'static str, fn(&mut Maker));
 
 /// The samples: of `convert`, and the parts of the sample of `ask`, its own questions first.
-pub const SAMPLES: [Set; 9] = [
+pub const SAMPLES: [Set; 10] = [
     ("ask", ask::sample),
     ("gregorian", gregorian::sample),
     ("conversion", conversion::sample),
@@ -37,10 +38,11 @@ pub const SAMPLES: [Set; 9] = [
     ("festivals", festivals::sample),
     ("grid", grid::sample),
     ("texts", texts::sample),
+    ("holidays", holidays::sample),
 ];
 
 /// The sets at full scale.
-pub const FULL: [Set; 11] = [
+pub const FULL: [Set; 12] = [
     ("dates", full::dates),
     ("instants", full::instants),
     ("angles", full::angles),
@@ -50,6 +52,7 @@ pub const FULL: [Set; 11] = [
     ("grids", full::grids),
     ("days", full::days),
     ("lists", full::lists),
+    ("holidays", holidays::full),
     ("texts", texts::full),
     ("words", full::words),
 ];
