@@ -2,7 +2,7 @@
 use mathlib.Core.Path.{sym, ap, _∙_}
 use Rattle.conversion.specs.Flat.{flat}
 use Rattle.festivals.specs.Answers.{dayIs}
-use Rattle.festivals.proofs.Placed.{inside, outside}
+use Rattle.festivals.proofs.Placed.{inside, not-inside}
 use Rattle.notes.proofs.Nears.{moon-undated, moon-inside, moon-outside}
 use borrow.Author.Needs.{needs}
 use Rattle.notes.proofs.moons.date_of.Statement.{statement}
@@ -18,7 +18,7 @@ returns-2 c = let p = c .before in
     let d = n .before .before in
     let a = d .before .before in
     let k = flat (a .args .table) (a .args .rows .now) in
-    moon-outside k (a .args .x .0) (n .n .given .0 .0) (sym (ap dayIs (n .n .given .1)) ∙ d .nepal-day .ensures) (outside k (a .pre) _ (p .place .result) (p .place .ensures) (c .match2 .keys2))
+    moon-outside k (a .args .x .0) (n .n .given .0 .0) (sym (ap dayIs (n .n .given .1)) ∙ d .nepal-day .ensures) (not-inside k (a .pre) _ (p .place .result) (p .place .ensures) (c .match2 .keys2) .1)
 
 returns-3 : tie.Need-returns-3
 returns-3 c = let t = c .before in
