@@ -62,7 +62,7 @@ tablesPieces old new =
 
 unfoldable pub samePieces : List Text
 samePieces =
-    bytes "What OLD answers NEW answers with the same numbers: dates, month lengths, month steps, day lists, month grids.\n"
+    bytes "What OLD answers NEW answers with the same numbers: dates, month lengths, month steps, day lists, holidays, month grids.\n"
     ∷ bytes "  theorem `steady`, crates/steady/proofs/Steady.antt"
     ∷ bytes "; for dates `steady`, crates/conversion/proofs/Theorems.antt\n"
     ∷ []

@@ -116,7 +116,7 @@ fn put_what_stays(o: Out, out: &mut [u8]) -> Out
     let a = output::put_text(
         o,
         out,
-        b"What OLD answers NEW answers with the same numbers: dates, month lengths, month steps, day lists, month grids.\n",
+        b"What OLD answers NEW answers with the same numbers: dates, month lengths, month steps, day lists, holidays, month grids.\n",
     );
     let b = output::put_text(
         a,
