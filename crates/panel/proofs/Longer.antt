@@ -132,7 +132,7 @@ module _ (t : Table) (rows more : List ℕ) (good : accepted t rows ≡ true) (l
     pub is-holiday : (y m d : ℕ) (old : ℕ) → Grows IsHoliday.Learnt (λ k s. one (s .1 .1 .1 .1 .1 .1 .1 .1 .1))
         (λ k. lendTable t p rows (ref a rules, (y, (m, (d, lendOne e old))))) (λ k. lendTable t q (rows ++ more) (ref b rules, (y, (m, (d, lendOne f old))))) 4 (λ b. Added (flat t rows) y)
     is-holiday y m d old =
-        grows (λ z. z) (λ z. gives z Cells.one old) (λ z. gives-code z Cells.one old) _ (steady t rows more rules any good longer .holiday y m d) (λ z h. Iff·rfl)
+        grows (λ z. z) (λ z. gives z Cells.one old) (λ z. gives-code z Cells.one old) refl _ (steady t rows more rules any good longer .holiday y m d) (λ z h. Iff·rfl)
         (λ k x s c. c) (λ k x s c. c)
 
     pub month-grid : (today : Date) (y m : ℕ) (old : MonthState) → Grows MonthGrid.Learnt (λ k s. month (s .1 .1 .1 .1 .1 .1 .1 .1 .1 .1 .1))
