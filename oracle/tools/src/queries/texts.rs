@@ -467,8 +467,10 @@ fn longest(maker: &mut Maker) {
     }
 }
 
-/// The sample's texts, 10,000 random lists with five damages each, and the longest texts.
+/// The sample's texts, 10,000 random lists with five damages each, and the longest texts. The port
+/// begins with the rules of a file, the oracle with none: they are taken back first.
 pub fn full(maker: &mut Maker) {
+    maker.line("rules");
     sample(maker);
     random_texts(maker, 10_000, 5);
     longest(maker);
