@@ -1,5 +1,5 @@
 -- `commands::outside::put_day` meets its contract. Assumes nothing.
-use mathlib.Core.Path.{ap, _∙_}
+use mathlib.Core.Path.{ap}
 use Rattle.paper.proofs.Answers.{said}
 use Rattle.gregorian.specs.Answers.{dateSays}
 use Rattle.commands.specs.Outside.{datedText, dayText}

@@ -1,5 +1,4 @@
 -- `faults::lines::put_key` meets its contract. Assumes nothing.
-use mathlib.Core.Path.{sym}
 use Rattle.rulefile.proofs.Dues.{at-last}
 use Rattle.faults.proofs.Reasons.{key-at}
 use borrow.Author.Needs.{needs}
