@@ -13,7 +13,7 @@ use Rattle.text.specs.Quoted.{bytes}
 abbrev pub formText : ℕ → List ℕ
 formText line = bytes "line " ++ (digits line ++ bytes " is out of form")
 
--- what a refusal means for a page, of the Gregorian date that was asked where it tells how far outside that lies; 8, 10, 11 and 12 are none of a page's
+-- what a refusal means for a page, of the Gregorian date that was asked where it tells how far outside that lies; 8 and 10 to 13 are none of a page's
 abbrev pub reasonText : Date → Refusal → List ℕ
 reasonText d R.BadTable = bytes "the year table is not good"
 reasonText d R.BadRules = bytes "the rules are not good"
@@ -28,6 +28,7 @@ reasonText d R.NoRoom = bytes "the page is longer than this program can hold"
 reasonText d R.OffTable = bytes "the month is not in the year table"
 reasonText d R.NotEnded = bytes "a search did not end"
 reasonText d (R.OutOfForm line) = formText line
+reasonText d R.NoRow = bytes "no year row is held yet"
 
 -- patro: refused, 5: the BS month is not 1 to 12
 unfoldable pub refusalText : Date → Refusal → List ℕ

@@ -15,6 +15,8 @@ use Rattle.commands.specs.declared.words.Words.{Words}
 use Rattle.commands.specs.declared.words.Words.the-variants as W
 use Rattle.commands.specs.declared.words.InForm.{InForm}
 use Rattle.commands.specs.declared.words.InForm.the-variants as F
+use Rattle.commands.specs.declared.words.Year.{Year}
+use Rattle.commands.specs.declared.words.Year.the-variants as Y
 use Rattle.commands.specs.declared.words.Pair.{Pair}
 use Rattle.commands.specs.declared.words.Pair.the-variants as T
 
@@ -70,6 +72,14 @@ unfoldable pub askedBy : ℕ → List ℕ → List ℕ → List ℕ → Words
 askedBy count a b c =
     cond (eqb count 1) (askedDate (dateIn a))
     (cond (eqb count 2) (askedMonth (pairIn a b)) (cond (eqb count 3) (askedDay (pairIn a b) (numberIn c)) W.Other))
+
+-- one word that is a number is a BS year
+abbrev pub yearOf : Option ℕ → Year
+yearOf (some y) = Y.Is y
+yearOf none = Y.Not
+
+unfoldable pub yearBy : ℕ → List ℕ → Year
+yearBy count a = cond (eqb count 1) (yearOf (numberIn a)) Y.Not
 
 -- the Gregorian date that is asked; where it is a BS month or date, one that is before every table's first day
 abbrev pub dateAsked : Asked → Date

@@ -37,6 +37,7 @@ fn put_reason(out: &mut [u8], at: usize, why: Refusal, date: Date) -> usize
         Refusal::OffTable => text::put(out, at, b"the month is not in the year table"),
         Refusal::NotEnded => text::put(out, at, b"a search did not end"),
         Refusal::OutOfForm(line) => put_out_of_form(out, at, line),
+        Refusal::NoRow => text::put(out, at, b"no year row is held yet"),
     }
 }
 

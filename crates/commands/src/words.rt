@@ -1,6 +1,6 @@
 // What is asked: the words of the command line, read.
 ghost use mathlib.Core.Path.{_≡_};
-ghost use Rattle.commands.specs.Words.{dateIn, numberIn, pairIn, orFirst, askedDate, askedMonth, askedDay, askedBy, dateAsked};
+ghost use Rattle.commands.specs.Words.{dateIn, numberIn, pairIn, orFirst, askedDate, askedMonth, askedDay, askedBy, yearOf, yearBy, dateAsked};
 use gregorian::Date;
 use text::Numbers;
 use text::Whole;
@@ -21,6 +21,12 @@ pub enum Words {
 // A date in form, or none. Whether there is such a date is not asked here.
 pub enum InForm {
     Is(Date),
+    Not,
+}
+
+// A BS year, or none.
+pub enum Year {
+    Is(u16),
     Not,
 }
 
@@ -114,6 +120,26 @@ pub fn asked_by(count: usize, a: &[u8], b: &[u8], c: &[u8]) -> Words
         return three_words(a, b, c);
     }
     Words::Other
+}
+
+// The number that a word is, as a BS year.
+fn year_of(s: &[u8]) -> Year
+    ensures { λ r. ⌜ r ≡ yearOf (numberIn (now (s .entry))) ⌝ }
+{
+    let Whole::Is(y) = text::whole_number(s, 65535) else {
+        return Year::Not;
+    };
+    Year::Is(y)
+}
+
+// The BS year that is asked by one word.
+pub fn year_by(count: usize, a: &[u8]) -> Year
+    ensures { λ r. ⌜ r ≡ yearBy count (now (a .entry)) ⌝ }
+{
+    if count == 1 {
+        return year_of(a);
+    }
+    Year::Not
 }
 
 // The Gregorian date that is asked; where it is a BS month or date, one that is before every table's first day.

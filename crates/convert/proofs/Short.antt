@@ -68,6 +68,7 @@ refusal-small R.NoRoom = omega arith
 refusal-small R.OffTable = omega arith
 refusal-small R.NotEnded = omega arith
 refusal-small (R.OutOfForm line) = omega arith
+refusal-small R.NoRow = omega arith
 
 -- ---- their texts
 
@@ -140,6 +141,7 @@ outside-short y m d R.NoRoom e = omega arith
 outside-short y m d R.OffTable e = omega arith
 outside-short y m d R.NotEnded e = omega arith
 outside-short y m d (R.OutOfForm line) e = omega arith
+outside-short y m d R.NoRow e = omega arith
 
 text-short : (r : Reply) → length (shownText 0 0 (r .bs)) ≤ 17 → r .refusal < 65536 → length (outsideText (r .told)) ≤ 6 → length (replyText r) ≤ 80
 text-short r a c o = simp length-append (omega (arith, a, ad-shown (r .ad), digits-short (r .refusal) (omega arith), o))

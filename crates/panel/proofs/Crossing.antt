@@ -39,6 +39,7 @@ number-not-zero R.NoRoom h = omega arith
 number-not-zero R.OffTable h = omega arith
 number-not-zero R.NotEnded h = omega arith
 number-not-zero (R.OutOfForm j) h = omega arith
+number-not-zero R.NoRow h = omega arith
 
 -- what has the number 0 is answered
 pub zero-answered : {A : Type 0} (a : Answer A) → code a ≡ 0 → (x : A) × (a ≡ answered x)
@@ -172,6 +173,7 @@ no-line R.NoRoom old h = refl
 no-line R.OffTable old h = refl
 no-line R.NotEnded old h = refl
 no-line (R.OutOfForm j) old h = absurd (h refl)
+no-line R.NoRow old h = refl
 
 -- a refusal with another number than 7 tells no days
 no-days : (k : Refusal) (old : ℕ × ℕ) → (number k ≡ 7 → ⊥) → daysIn (told k) old ≡ old
@@ -188,6 +190,7 @@ no-days R.NoRoom old h = refl
 no-days R.OffTable old h = refl
 no-days R.NotEnded old h = refl
 no-days (R.OutOfForm j) old h = refl
+no-days R.NoRow old h = refl
 
 module _ {A P D : Type 0} (tell : Paper.Told → D → D) (parts : A → P) where
   -- the number that is given is the answer's

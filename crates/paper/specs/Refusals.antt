@@ -19,6 +19,7 @@ number R.NoRoom = 9
 number R.OffTable = 10
 number R.NotEnded = 11
 number (R.OutOfForm k) = 12
+number R.NoRow = 13
 
 -- 7 tells the days before the first day of the table or after its last, 12 the first line that is out of form; the others tell nothing
 abbrev pub told : Refusal → Told
@@ -35,3 +36,4 @@ told R.NoRoom = T.Nothing
 told R.OffTable = T.Nothing
 told R.NotEnded = T.Nothing
 told (R.OutOfForm k) = T.Line k
+told R.NoRow = T.Nothing
