@@ -15,11 +15,18 @@ use Rattle.gregorian.specs.declared.Date.{Date}
 use Rattle.gregorian.specs.Calendar.{firstNumber, dayNumber, dateOf}
 use Rattle.gregorian.specs.Answers.{real, numberAnswer, numbered, dateAnswer}
 use Rattle.gregorian.proofs.Laws.{real-of, number-above, number-below, in-range}
+use Rattle.conversion.specs.declared.BsDate.{BsDate}
 use Rattle.conversion.specs.declared.Table.{Table}
 use Rattle.conversion.specs.Calendar.{toDay}
 use Rattle.conversion.specs.Flat.{accepted, flat}
 use Rattle.conversion.proofs.Ad.{served, on-numbered}
 use Rattle.conversion.proofs.Days.{converts, converted, valid-on}
+use Rattle.rules.specs.declared.lists.Years.{Years}
+use Rattle.rules.specs.Rules.{rulesOf, acceptedRules}
+use Rattle.rules.specs.Resolved.{dayNumbered, listBy}
+use Rattle.rules.proofs.Accepted.{good-rules}
+use Rattle.rules.proofs.Used.{two-years}
+use Rattle.festivals.specs.Kathmandu.{yearsIn, dayListOf}
 use Rattle.festivals.proofs.Nepal.{real-told}
 
 -- ---- a day number that is a date's
@@ -46,3 +53,9 @@ to-numbered t rows y m d n g e =
     let v = converted c y m d n e in
     let q = answered-same (sym e ∙ converts c y m d v) in
     on-numbered c n (served t rows g) (rw q (valid-on c y m d v))
+
+-- ---- the list of a day from the two years of its month
+pub drawn-list : (t : Table) (rows rules : List ℕ) (bs : BsDate) (n : ℕ) → acceptedRules rules ≡ true → numbered n ≡ true → (ys : Years) → ys ≡ yearsIn (flat t rows) (rulesOf rules) (bs .year) (bs .month)
+    → dayListOf (flat t rows) (rulesOf rules) bs n ≡ listBy (rulesOf rules) (dayNumbered bs n) ys
+drawn-list t rows rules bs n o h ys e =
+    rw e (sym (two-years _ _ _ bs n (good-rules rules o .counts .computed-few) (numbered-from n h)))

@@ -6,9 +6,15 @@ use Rattle.conversion.specs.declared.BsDate.{BsDate}
 use Rattle.conversion.specs.declared.Table.{Table}
 use Rattle.conversion.specs.Calendar.{fromDay}
 use Rattle.conversion.specs.Flat.{flat}
+use Rattle.rules.specs.declared.lists.Years.{Years}
 use Rattle.rules.specs.Rules.{rulesOf}
 use Rattle.rules.specs.Festivals.{Listed, listed}
+use Rattle.rules.specs.Resolved.{dayNumbered, listBy}
 use Rattle.festivals.specs.Kathmandu.{dayListOf}
+
+-- the list of day number n, whose BS date is known, from two resolved years
+abbrev pub listedFrom : List ℕ → BsDate → ℕ → Years → List ℕ → Listed
+listedFrom rules bs n years out = listed (answered (listBy (rulesOf rules) (dayNumbered bs n) years)) out
 
 module _ (t : Table) (rows rules : List ℕ) (n : ℕ) (out : List ℕ) where
   -- the list of day number n, whose BS date is known

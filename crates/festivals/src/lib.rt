@@ -13,13 +13,14 @@ use gregorian::NumberAnswer;
 use paper::Refusal;
 use rules::lists;
 use rules::lists::Day;
+use rules::lists::Years;
 ghost use mathlib.Core.Path.{_≡_};
 ghost use mathlib.Core.Bool.{true};
 ghost use Rattle.gregorian.specs.Answers.{numbered};
 ghost use Rattle.conversion.specs.Flat.{accepted};
 ghost use Rattle.rules.specs.Rules.{acceptedRules};
 ghost use Rattle.rules.specs.Resolved.{dayNumbered};
-ghost use Rattle.festivals.specs.Inner.{listedOn, listedAt};
+ghost use Rattle.festivals.specs.Inner.{listedFrom, listedOn, listedAt};
 ghost use Rattle.festivals.specs.Answers.{listSays, onBs, onAd};
 
 // A day by its number, or nothing.
@@ -54,7 +55,28 @@ pub fn day_numbered(bs: BsDate, number: u32) -> Day
     }
 }
 
-// The list of a day of an accepted table: counted first, so that a buffer that is too short stays as it is.
+// A day's list from the two resolved years of its month: counted first, so that a buffer that is too short stays as it is.
+pub fn list_from(
+    rules: &[u16],
+    bs: BsDate,
+    number: u32,
+    years: Years,
+    out: &mut [u16],
+) -> ListAnswer
+    requires { ⌜ (acceptedRules (now rules) ≡ true) × (numbered number ≡ true) ⌝ }
+    ensures { λ r. ⌜ listSays r ≡ listedFrom (now (rules .entry)) bs number years (now (out .entry)) .answer ⌝ }
+    ensures { λ r. ⌜ now (out .exit) ≡ listedFrom (now (rules .entry)) bs number years (now (out .entry)) .buffer ⌝ }
+{
+    let day = day_numbered(bs, number);
+    let mut none = [0u16; 1];
+    let n = lists::put_day_list(rules, day, years, &mut none, 0);
+    if out.len() < n * 2 {
+        return ListAnswer::Refused(Refusal::NoRoom);
+    }
+    ListAnswer::Count(lists::put_day_list(rules, day, years, out, 0))
+}
+
+// The list of a day of an accepted table.
 fn list_day(
     table: Table,
     rows: &[u16],
@@ -67,14 +89,8 @@ fn list_day(
     ensures { λ r. ⌜ listSays r ≡ listedOn table (now (rows .entry)) (now (rules .entry)) number (now (out .entry)) bs .answer ⌝ }
     ensures { λ r. ⌜ now (out .exit) ≡ listedOn table (now (rows .entry)) (now (rules .entry)) number (now (out .entry)) bs .buffer ⌝ }
 {
-    let day = day_numbered(bs, number);
     let years = years::years_for(table, rows, rules, bs.year, bs.month);
-    let mut none = [0u16; 1];
-    let n = lists::put_day_list(rules, day, years, &mut none, 0);
-    if out.len() < n * 2 {
-        return ListAnswer::Refused(Refusal::NoRoom);
-    }
-    ListAnswer::Count(lists::put_day_list(rules, day, years, out, 0))
+    list_from(rules, bs, number, years, out)
 }
 
 // The list of a day by its number, if the accepted table has it.

@@ -78,7 +78,8 @@ pub fn resolve_year(table: Table, rows: &[u16], rules: &[u16], year: u16) -> Res
     out
 }
 
-fn year_before(year: u16) -> u16
+// The year before; 0 for year 0.
+pub fn year_before(year: u16) -> u16
     ensures { λ r. ⌜ r ≡ year - 1 ⌝ }
 {
     if 0 < year { year - 1 } else { 0 }

@@ -1,12 +1,13 @@
 -- A month of an accepted table: its first day, its plan, and that the plan shows what the rules themselves say. Assumes nothing.
 use Prim.Native.Nat.{ℕ, _+_, _-_}
-use mathlib.Core.Path.{_≡_, sym, _∙_}
+use mathlib.Core.Path.{_≡_, sym, ap, _∙_}
 use mathlib.Core.Bool.{true}
 use mathlib.Core.List.{List}
 use native.Mathlib.Omega.{arith}
 use Rattle.paper.specs.declared.Refusal.{Refusal}
 use Rattle.paper.specs.Answers.{answered, refused}
 use Rattle.paper.proofs.Answers.{answered-same, refused-answered}
+use Rattle.gregorian.specs.declared.Date.{Date}
 use Rattle.conversion.specs.declared.Table.{Table}
 use Rattle.conversion.specs.Calendar.{Calendar, bs, dayAt, monthLen, toDay}
 use Rattle.conversion.specs.Claims.{YearIn, MonthIn}
@@ -14,13 +15,14 @@ use Rattle.conversion.specs.Flat.{accepted, flat}
 use Rattle.conversion.proofs.Accepted.{facts}
 use Rattle.conversion.proofs.Rows.{row-lens}
 use Rattle.conversion.proofs.Days.{len-told, converts}
+use Rattle.rules.specs.declared.lists.Years.{Years}
 use Rattle.rules.specs.Rules.{rulesOf, acceptedRules}
 use Rattle.rules.proofs.Accepted.{good-rules}
 use Rattle.rules.proofs.Used.{two-years}
 use Rattle.festivals.specs.Kathmandu.{yearsIn}
 use Rattle.grid.specs.declared.page.Plan.{Plan}
 use Rattle.grid.specs.Kathmandu.{readingOn, listUnder, gridUnder}
-use Rattle.grid.specs.Inner.{Planned, listFor, gridBy}
+use Rattle.grid.specs.Inner.{Planned, planFor, listFor, gridBy}
 use Rattle.grid.proofs.Asked.{in-range, grid-ext}
 
 -- ---- the first day
@@ -47,17 +49,20 @@ module _ (t : Table) (rows : List ℕ) (e : accepted t rows ≡ true) (y m n : �
   pub in-year : YearIn (flat t rows) y × MonthIn m
   in-year = let k = len-told (flat t rows) y m n h .0 in ((k .year-from, k .year-to), (k .month-from, k .month-to))
 
-  module _ (p : Plan) (ey : p .year ≡ y) (em : p .month ≡ m) (en : p .days ≡ n) (ef : p .first ≡ dayAt (flat t rows) (y - t .«first_year») (m - 1) 0) where
-    pub planned : Planned p
-    planned =
-        let k = len-told (flat t rows) y m n h in
-        let r = in-range t rows e y m n (k .0) (k .1) in
-        record { some = omega (arith, r .some); few = omega (arith, r .few); from = omega (arith, r .from); to = omega (arith, r .to) }
+  -- so much for its plan, from any two years
+  pub planned : (today : Date) (years : Years) → Planned (planFor (flat t rows) today y m n years)
+  planned today years =
+      let k = len-told (flat t rows) y m n h in
+      let r = in-range t rows e y m n (k .0) (k .1) in
+      record { some = r .some; few = r .few; from = omega (arith, r .from); to = omega (arith, r .to) }
 
-    module _ (rules : List ℕ) (ok : acceptedRules rules ≡ true) (ez : p .years ≡ yearsIn (flat t rows) (rulesOf rules) y m) where
-      pub same-grid : gridBy rules p ≡ gridUnder (flat t rows) rules (p .today) y m n
-      same-grid =
-          let w = planned in
-          rw (ey, em, en, ← ef)
-          (grid-ext (listFor rules p) (listUnder (flat t rows) rules) readingOn (p .today) y m (p .first) n
-          (λ d l. rw ez (two-years _ (flat t rows) (rulesOf rules) (bs y m (d + 1)) (p .first + d) (good-rules rules ok .counts .computed-few) (omega (arith, w .from)))))
+  -- and from the two years that its lists come from
+  module _ (rules : List ℕ) (ok : acceptedRules rules ≡ true) (today : Date) (years : Years) (ey : years ≡ yearsIn (flat t rows) (rulesOf rules) y m) (p : Plan) (ep : p ≡ planFor (flat t rows) today y m n years) where
+    pub same-grid : gridUnder (flat t rows) rules today y m n ≡ gridBy rules p
+    same-grid =
+        let q = planFor (flat t rows) today y m n (yearsIn (flat t rows) (rulesOf rules) y m) in
+        let w = planned today (yearsIn (flat t rows) (rulesOf rules) y m) in
+        sym
+        (ap (gridBy rules) (ep ∙ ap (planFor (flat t rows) today y m n) ey)
+        ∙ grid-ext (listFor rules q) (listUnder (flat t rows) rules) readingOn today y m (q .first) n
+        (λ d l. two-years _ (flat t rows) (rulesOf rules) (bs y m (d + 1)) (q .first + d) (good-rules rules ok .counts .computed-few) (omega (arith, w .from))))

@@ -8,9 +8,10 @@ use Rattle.paper.specs.Answers.{then}
 use Rattle.gregorian.specs.declared.Date.{Date}
 use Rattle.gregorian.specs.Calendar.{dateOf, weekdayOf}
 use Rattle.conversion.specs.declared.Table.{Table}
-use Rattle.conversion.specs.Calendar.{monthLen}
+use Rattle.conversion.specs.Calendar.{Calendar, dayAt, monthLen}
 use Rattle.conversion.specs.Flat.{flat}
 use Rattle.rules.specs.declared.lists.Day.{Day}
+use Rattle.rules.specs.declared.lists.Years.{Years}
 use Rattle.rules.specs.Festivals.{Pair}
 use Rattle.rules.specs.Rules.{rulesOf}
 use Rattle.rules.specs.Resolved.{listBy}
@@ -41,6 +42,11 @@ pub record Roomy (page lists : List ℕ) : Type 0 where
 unfoldable pub anyMark : List ℕ → ℕ → ℕ → Bool
 anyMark xs i zero = false
 anyMark xs i (suc k) = eqb (getD xs (i * 2 + 1) 0) 1 || anyMark xs (i + 1) k
+
+-- the plan of month m of year y, which has so many days
+abbrev pub planFor : Calendar → Date → ℕ → ℕ → ℕ → Years → Plan
+planFor c today y m days years =
+    record { today = today; year = y; month = m; first = dayAt c (y - c .first) (m - 1) 0; days = days; years = years }
 
 -- ---- a month from two resolved years
 

@@ -1,7 +1,7 @@
 // Months: stepping from one to another, and the cells of one laid out in weeks.
 pub mod cells;
-mod page;
-mod plan;
+pub mod page;
+pub mod plan;
 mod step;
 
 ghost use mathlib.Core.Path.{_≡_};
@@ -20,6 +20,7 @@ use conversion::MonthDays;
 use conversion::Table;
 use conversion::Validity;
 use conversion::accepts;
+use festivals::years::years_for;
 use gregorian::Date;
 use gregorian::NumberAnswer;
 use paper::Refusal;
@@ -84,7 +85,8 @@ fn lay_month(
     match days {
         MonthDays::Refused(k) => GridAnswer::Refused(k),
         MonthDays::Days(n) => {
-            let plan = plan_of(table, rows, rules, today, year, month, n);
+            let years = years_for(table, rows, rules, year, month);
+            let plan = plan_of(table, rows, today, year, month, n, years);
             write_month(rules, plan, cells, festivals)
         }
     }

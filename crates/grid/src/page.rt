@@ -33,7 +33,7 @@ pub struct Plan {
 }
 
 // Stores src in out, from at on.
-fn put_at(out: &mut [u16], at: usize, src: &[u16])
+pub fn put_at(out: &mut [u16], at: usize, src: &[u16])
     requires { ⌜ at + length (now src) ≤ length (now out) ⌝ }
     ensures { λ _. ⌜ now (out .exit) ≡ sets (now (out .entry)) at (now (src .entry)) ⌝ }
 {

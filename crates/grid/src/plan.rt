@@ -1,4 +1,4 @@
-// The plan of a month of an accepted table: its first day, and the lunar years that its lists come from.
+// The plan of a month of an accepted table: its first day, and the resolved years that its lists come from.
 ghost use mathlib.Core.Path.{_≡_};
 ghost use mathlib.Core.Bool.{true};
 ghost use Prim.Native.Nat.{_-_};
@@ -6,15 +6,13 @@ ghost use Rattle.paper.specs.Answers.{answered};
 ghost use Rattle.conversion.specs.Calendar.{dayAt, monthLen};
 ghost use Rattle.conversion.specs.Claims.{YearIn, MonthIn};
 ghost use Rattle.conversion.specs.Flat.{accepted, flat};
-ghost use Rattle.rules.specs.Rules.{acceptedRules};
-ghost use Rattle.grid.specs.Kathmandu.{gridUnder};
-ghost use Rattle.grid.specs.Inner.{Planned, gridBy};
+ghost use Rattle.grid.specs.Inner.{planFor};
 use crate::page::Plan;
 use conversion::BsDate;
 use conversion::Table;
-use festivals::years::years_for;
 use gregorian::Date;
 use gregorian::NumberAnswer;
+use rules::lists::Years;
 
 // The number of a month's first day.
 fn first_of(table: Table, rows: &[u16], first: BsDate) -> u32
@@ -28,20 +26,19 @@ fn first_of(table: Table, rows: &[u16], first: BsDate) -> u32
     n
 }
 
-// The plan of a month of so many days.
+// The plan of a month of so many days, whose lists come from these two resolved years.
 pub fn plan_of(
     table: Table,
     rows: &[u16],
-    rules: &[u16],
     today: Date,
     year: u16,
     month: u16,
     days: u16,
+    years: Years,
 ) -> Plan
-    requires { ⌜ (accepted table (now rows) ≡ true) × (acceptedRules (now rules) ≡ true) ⌝ }
+    requires { ⌜ accepted table (now rows) ≡ true ⌝ }
     requires { ⌜ answered days ≡ monthLen (flat table (now rows)) year month ⌝ }
-    ensures { λ p. ⌜ Planned p ⌝ }
-    ensures { λ p. ⌜ gridBy (now (rules .entry)) p ≡ gridUnder (flat table (now (rows .entry))) (now (rules .entry)) today year month days ⌝ }
+    ensures { λ p. ⌜ p ≡ planFor (flat table (now (rows .entry))) today year month days years ⌝ }
 {
     let bs = BsDate {
         year,
@@ -49,7 +46,6 @@ pub fn plan_of(
         day: 1,
     };
     let first = first_of(table, rows, bs);
-    let years = years_for(table, rows, rules, year, month);
     Plan {
         today,
         year,

@@ -17,7 +17,7 @@ use Rattle.rules.specs.Rules.{acceptedRules}
 use Rattle.rulefile.specs.declared.reading.Seen.{Seen}
 use Rattle.rulefile.specs.Files.{fileLines, fileText, rulesRead, fileWritten, readInto, writeInto}
 use Rattle.rulefile.specs.Inner.{Sees}
-use Rattle.rulefile.proofs.Most.{too-many}
+use Rattle.rules.proofs.Few.{too-many}
 
 -- ---- reading
 

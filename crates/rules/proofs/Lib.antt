@@ -2,6 +2,7 @@ pub mod Walk
 pub mod Stores
 pub mod Accepted
 pub mod Most
+pub mod Few
 pub mod Used
 pub mod Listed
 pub mod Lent

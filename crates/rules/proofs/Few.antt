@@ -69,12 +69,12 @@ length-rules : (xs : List ℕ) (i k : ℕ) → length (rulesFrom xs i k) ≡ k
 length-rules xs i zero = refl
 length-rules xs i (suc k) = ap suc (length-rules xs (i + 1) k)
 
-most : (xs : List ℕ) → acceptedRules xs ≡ true → length xs ≤ 2560
-most xs e =
+pub few-rules : (xs : List ℕ) → acceptedRules xs ≡ true → length xs ≤ 2560
+few-rules xs e =
     let g = good-rules xs e in
     let n = g .counts in
     omega (arith, all-kinds (rulesOf xs) (g .good), length-rules xs 0 (length xs / 8), n .fixed-few, n .gregorian-few, n .computed-few, n .overrides-few, g .whole)
 
 -- so a longer list is refused
 pub too-many : (xs : List ℕ) → 2560 < length xs → acceptedRules xs ≡ false
-too-many xs h = never (acceptedRules xs) (λ e. omega (arith, most xs e))
+too-many xs h = never (acceptedRules xs) (λ e. omega (arith, few-rules xs e))
