@@ -36,7 +36,7 @@ fn over_rules(table: Table, cells: usize, rows: &mut [u16]) {
         numbers: lent_numbers(read),
         octets: 0,
     };
-    questions::answer_from(lent, rows, &mut rules, &mut text);
+    desk::answer_from(lent, rows, &mut rules, &mut text);
 }
 
 // Reads the table, then the rules, and answers; or says what is wrong with the first file that is out of form.

@@ -1,10 +1,9 @@
 -- How a line is taken apart: each turn of the loops over plain variables. Assumes nothing.
-use Prim.Native.Nat.{ℕ, zero, suc, _+_, _-_, _*_, _^_, _≤_, _<_}
+use Prim.Native.Nat.{ℕ, zero, suc, _+_, _-_, _*_, _≤_, _<_}
 use mathlib.Core.Path.{_≡_, refl, sym, ap, _∙_, subst}
 use mathlib.Core.Bool.{Bool, true, false, cond}
 use mathlib.Core.List.{List, []}
 use mathlib.Core.Logic.{⊎-elim}
-use native.Mathlib.Nat.{pow-suc, pow-le-pow-right}
 use native.Mathlib.Omega.{arith}
 use borrow.Author.Tests.{leb-true, le-leb, lt-leb}
 use lib.Dec.{leb}
@@ -18,7 +17,7 @@ use Rattle.text.specs.declared.reading.Cursor.{Cursor}
 use Rattle.text.specs.declared.reading.Read.{Read}
 use Rattle.text.specs.declared.reading.Read.the-variants.{Number, NotOne}
 use Rattle.text.proofs.Texts.{cut, over}
-use Rattle.asked.specs.Line.{letter, letters, kindOf, item, Item, word, cons, others, packed, unformed, wordsOf, zeros, kinded, foundSays, foundEnd, foundKind, fitting, wholeOf}
+use Rattle.asked.specs.Line.{letter, letters, kindOf, item, Item, word, withKind, cons, others, packed, unformed, wordsOf, zeros, kinded, foundSays, foundEnd, foundKind, fitting, wholeOf}
 use Rattle.asked.specs.declared.words.Found.{Found}
 use Rattle.asked.specs.declared.words.Found.the-variants.{Word, Not}
 use Rattle.asked.specs.declared.words.Whole.the-variants.{Is, TooLarge}
@@ -132,7 +131,7 @@ module _ (s : List ℕ) where
     others-word most t x r f w = rw (e, f, w)
 
 packed-cons : (tag before k : ℕ) (values : List ℕ) (x : Item) (g : Got (List Item))
-    → packed tag (before * 10 + x .kind) (set values k (x .value)) (suc k) g ≡ packed tag before values k (cons x g)
+    → packed tag (withKind before (x .kind)) (set values k (x .value)) (suc k) g ≡ packed tag before values k (cons x g)
 packed-cons tag before k values x (got ws t) = refl
 packed-cons tag before k values x no = refl
 
@@ -141,34 +140,34 @@ at-place s i h = rw (cut s i h)
 
 -- the loop of `split`: what stands so far, and what is to come
 abbrev pub Left : List ℕ → ℕ → ℕ → List ℕ → ℕ → ℕ → Words
-Left s tag before values k at = packed tag before values k (others (16 - k) (drop at s))
+Left s tag before values k at = packed tag before values k (others (4096 - k) (drop at s))
 
 module _ (s values : List ℕ) (tag before k at : ℕ) where
   pub left-over : length s ≤ at → record { tag = tag; form = before; values = values } ≡ Left s tag before values k at
-  left-over h = rw (over s at h, others-over [] (16 - k) refl)
+  left-over h = rw (over s at h, others-over [] (4096 - k) refl)
 
   module _ (h : at < length s) where
-    pub left-full : k ≡ 16 → unformed ≡ Left s tag before values k at
+    pub left-full : k ≡ 4096 → unformed ≡ Left s tag before values k at
     left-full e = rw (e, others-full (drop at s) (at-place s at h))
 
-    module _ (l : k < 16) where
+    module _ (l : k < 4096) where
       pub left-gap : past (bytes " ") (drop at s) ≡ no → unformed ≡ Left s tag before values k at
       left-gap f =
-          let m : 16 - k ≡ suc (15 - k) = omega arith in
-          rw (m, others-gap (drop at s) (at-place s at h) (15 - k) f)
+          let m : 4096 - k ≡ suc (4095 - k) = omega arith in
+          rw (m, others-gap (drop at s) (at-place s at h) (4095 - k) f)
 
       pub left-bad : {t : List ℕ} → past (bytes " ") (drop at s) ≡ got tt t → word t ≡ no → unformed ≡ Left s tag before values k at
       left-bad {t} f w =
-          let m : 16 - k ≡ suc (15 - k) = omega arith in
-          rw (m, others-bad (drop at s) (at-place s at h) (15 - k) t f w)
+          let m : 4096 - k ≡ suc (4095 - k) = omega arith in
+          rw (m, others-bad (drop at s) (at-place s at h) (4095 - k) t f w)
 
       pub left-turn : {t : List ℕ} (x : Item) (next : ℕ) → past (bytes " ") (drop at s) ≡ got tt t → word t ≡ got x (drop next s)
-          → Left s tag (before * 10 + x .kind) (set values k (x .value)) (k + 1) next ≡ Left s tag before values k at
+          → Left s tag (withKind before (x .kind)) (set values k (x .value)) (k + 1) next ≡ Left s tag before values k at
       left-turn {t} x next f w =
-          let m : 16 - k ≡ suc (15 - k) = omega arith in
-          let n : 16 - (k + 1) ≡ 15 - k = omega arith in
+          let m : 4096 - k ≡ suc (4095 - k) = omega arith in
+          let n : 4096 - (k + 1) ≡ 4095 - k = omega arith in
           let o : k + 1 ≡ suc k = omega arith in
-          rw (n, o, m, others-word (drop at s) (at-place s at h) (15 - k) t x (drop next s) f w) (packed-cons tag before k values x (others (15 - k) (drop next s)))
+          rw (n, o, m, others-word (drop at s) (at-place s at h) (4095 - k) t x (drop next s) f w) (packed-cons tag before k values x (others (4095 - k) (drop next s)))
 
 pub words-none : (s : List ℕ) → letters 0 s ≡ no → unformed ≡ wordsOf s
 unfolding wordsOf
@@ -178,18 +177,8 @@ pub words-tagged : (s : List ℕ) (tag at : ℕ) → letters 0 s ≡ got tag (dr
 unfolding wordsOf
 words-tagged s tag at e = rw e
 
-pub below-sixteen : (k : ℕ) → k ≤ 16 → (k ≡ 16 → ⊥) → k < 16
-below-sixteen k h n = ⊎-elim (λ l. absurd (n (omega arith))) (λ l. l) (split 16 k)
-
--- the kinds so far leave room for one more
-pub form-more : (k before kind : ℕ) → before < 10 ^ k → kind ≤ 9 → before * 10 + kind < 10 ^ (k + 1)
-form-more k before kind h l = let e : k + 1 ≡ suc k = omega arith in rw e (omega (arith, pow-suc 10 k))
-
-pub form-fits : (k : ℕ) → k ≤ 16 → 10 ^ k ≤ 10000000000000000
-form-fits k h =
-    let z : 0 < 10 = omega arith in
-    let p : 10 ^ k ≤ 10 ^ 16 = pow-le-pow-right z h in
-    omega arith
+pub below-most : (k : ℕ) → k ≤ 4096 → (k ≡ 4096 → ⊥) → k < 4096
+below-most k h n = ⊎-elim (λ l. absurd (n (omega arith))) (λ l. l) (split 4096 k)
 
 -- ---- a word's value
 

@@ -2,7 +2,7 @@
 use Prim.Native.Nat.{ℕ, zero, suc, _+_, _-_, _*_}
 use mathlib.Core.Bool.{Bool, true, false, cond, _&&_}
 use mathlib.Core.List.{List, [], _∷_}
-use lib.Dec.{leb, ltb}
+use lib.Dec.{leb, ltb, eqb}
 use lib.Ieee.{Float, binary64, ofBits}
 use lib.IntN.{pos, negsuc}
 use lib.ListN.{drop, replicate, getD}
@@ -63,10 +63,15 @@ others (suc most) s =
     cond (isEnd s) (got [] [])
     (found (past (bytes " ") s) (λ u t. found (word t) (λ w r. cons w (others most r)) no) no)
 
+-- a kind as one more decimal digit of a form, up to sixteen. Behind sixteen a number up to 65,535 leaves the form as it is, and any other word makes it one
+-- that no sixteen kinds are
+unfoldable pub withKind : ℕ → ℕ → ℕ
+withKind v kind = cond (ltb v 1000000000000000) (v * 10 + kind) (cond (eqb kind 1) v 1000000000000000)
+
 -- the kinds as decimal digits, the first first, after those before them
 abbrev pub form : ℕ → List Item → ℕ
 form v [] = v
-form v (w ∷ ws) = form (v * 10 + w .kind) ws
+form v (w ∷ ws) = form (withKind v (w .kind)) ws
 
 abbrev pub valuesOf : List Item → List ℕ
 valuesOf [] = []
@@ -79,13 +84,14 @@ zeros = replicate 16 0
 abbrev pub unformed : Words
 unformed = record { tag = 0; form = 0; values = zeros }
 
--- the words to come behind those that stand at the places below k
+-- the words to come behind those that stand at the places below k; what has no place is not stored
 abbrev pub packed : ℕ → ℕ → List ℕ → ℕ → Got (List Item) → Words
 packed tag before values k (got ws t) = record { tag = tag; form = form before ws; values = sets values k (valuesOf ws) }
 packed tag before values k no = unformed
 
+-- a tag and at most 4,095 words: a line that is heard has no more, since it has at most 4,096 bytes
 unfoldable pub wordsOf : List ℕ → Words
-wordsOf s = found (letters 0 s) (λ tag t. packed tag 0 zeros 1 (others 15 t)) unformed
+wordsOf s = found (letters 0 s) (λ tag t. packed tag 0 zeros 1 (others 4095 t)) unformed
 
 -- ---- what the code's answers say
 

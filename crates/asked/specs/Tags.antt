@@ -129,6 +129,30 @@ GRID = tag "grid"
 abbrev pub HOLIDAY : ℕ
 HOLIDAY = tag "holiday"
 
+abbrev pub START : ℕ
+START = tag "start"
+
+abbrev pub TAKE : ℕ
+TAKE = tag "take"
+
+abbrev pub APPEND : ℕ
+APPEND = tag "append"
+
+abbrev pub ASKBS : ℕ
+ASKBS = tag "askbs"
+
+abbrev pub ASKAD : ℕ
+ASKAD = tag "askad"
+
+abbrev pub ASKGRID : ℕ
+ASKGRID = tag "askgrid"
+
+abbrev pub FORGET : ℕ
+FORGET = tag "forget"
+
+abbrev pub STORED : ℕ
+STORED = tag "stored"
+
 abbrev pub SIN : ℕ
 SIN = tag "sin"
 

@@ -77,6 +77,22 @@ pub const GRID: u64 = 0o07_22_11_04;
 
 pub const HOLIDAY: u64 = 0o10_17_14_11_04_01_31;
 
+pub const START: u64 = 0o23_24_01_22_24;
+
+pub const TAKE: u64 = 0o24_01_13_05;
+
+pub const APPEND: u64 = 0o01_20_20_05_16_04;
+
+pub const ASKBS: u64 = 0o01_23_13_02_23;
+
+pub const ASKAD: u64 = 0o01_23_13_01_04;
+
+pub const ASKGRID: u64 = 0o01_23_13_07_22_11_04;
+
+pub const FORGET: u64 = 0o06_17_22_07_05_24;
+
+pub const STORED: u64 = 0o23_24_17_22_05_04;
+
 pub const SIN: u64 = 0o23_11_16;
 
 pub const COS: u64 = 0o03_17_23;

@@ -2,17 +2,18 @@
 ghost use mathlib.Core.Path.{_≡_};
 ghost use Prim.Native.Nat.{_≤_};
 ghost use mathlib.Core.Bool.{true, false};
-ghost use lib.ListN.{take, drop};
+ghost use lib.ListN.{take, drop, set};
 ghost use Rattle.text.specs.Reading.{Says, readSays, readEnd};
 ghost use Rattle.asked.specs.Line as Line;
-ghost use Rattle.asked.specs.Line.{letter, letters, kindOf, kinded, foundSays, foundEnd, foundKind, unformed, wordsOf, wholeOf};
+ghost use Rattle.asked.specs.Line.{letter, letters, kindOf, withKind, kinded, foundSays, foundEnd, foundKind, unformed, wordsOf, wholeOf};
 use crate::floats;
 use text::Cursor;
 use text::Passed;
 use text::Read;
 
-// The tag's code, the kinds of the words after it as decimal digits, the first first, and the value of each word at its place, from 1 on. The kinds are
-// 1 for a number up to 65,535, 2 for a larger one, 3 for one with a minus sign, 4 for the bits of a float. A line out of form has tag 0.
+// The tag's code, the kinds of the words after it as decimal digits, the first first, and the value of each of the first fifteen words at its place, from 1
+// on. The kinds are 1 for a number up to 65,535, 2 for a larger one, 3 for one with a minus sign, 4 for the bits of a float. Numbers up to 65,535 behind
+// sixteen words leave the form as it is. A line out of form has tag 0.
 pub struct Words {
     pub tag: u64,
     pub form: u64,
@@ -102,6 +103,29 @@ fn out_of_form() -> Words
     }
 }
 
+// The form with a word more, of this kind: sixteen digits at most.
+fn form_with(form: u64, kind: u64) -> u64
+    requires { ⌜ kind ≤ 9 ⌝ }
+    ensures { λ r. ⌜ r ≡ withKind form kind ⌝ }
+{
+    if form < 1000000000000000 {
+        return form * 10 + kind;
+    }
+    if kind == 1 {
+        return form;
+    }
+    1000000000000000
+}
+
+// Stores x at place i, if there is such a place.
+fn set_at(values: &mut [u64], i: usize, x: u64)
+    ensures { λ _. ⌜ now (values .exit) ≡ set (now (values .entry)) i x ⌝ }
+{
+    if i < values.len() {
+        values[i] = x;
+    }
+}
+
 // The words of a whole text.
 fn split_all(s: &[u8]) -> Words
     ensures { λ r. ⌜ r ≡ wordsOf (now (s .entry)) ⌝ }
@@ -114,7 +138,7 @@ fn split_all(s: &[u8]) -> Words
     let mut values = [0u64; 16];
     let mut k = 1;
     while at < s.len() {
-        if k == 16 {
+        if k == 4096 {
             return out_of_form();
         }
         let Passed::To(c) = (Cursor { at }).pass(s, b" ") else {
@@ -123,8 +147,8 @@ fn split_all(s: &[u8]) -> Words
         let Found::Word(kind, value, next) = read_word(s, c) else {
             return out_of_form();
         };
-        form = form * 10 + kind;
-        values[k] = value;
+        form = form_with(form, kind);
+        set_at(&mut values, k, value);
         at = next.at;
         k += 1;
     }

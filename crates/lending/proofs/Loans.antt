@@ -14,7 +14,7 @@ use Rattle.asked.specs.declared.words.Words.{Words}
 use Rattle.asked.specs.Line.{small}
 use Rattle.lending.specs.declared.Lending.{Lending}
 use Rattle.lending.specs.declared.Lending.the-variants as L
-use Rattle.lending.specs.Lending.{ones, lendingOf, numbersOf, longer}
+use Rattle.lending.specs.Lending.{ones, numbersIn, lendingOf, numbersOf, lineNumbers, longer}
 use Rattle.lending.proofs.Forms.{numbers-most}
 
 -- a word more at the end
@@ -60,3 +60,7 @@ few tag form bytes =
     either : (t : Bool) {a b : Lending} → Few a → Few b → Few (cond t a b)
     either true p q = p
     either false p q = q
+
+-- the numbers of a line are at most sixteen
+pub line-few : (w : Words) → length (lineNumbers w) ≤ 16
+line-few w = rw (length-numbers w (numbersIn (w .form) 16)) (numbers-most (w .form) 16)

@@ -3,7 +3,7 @@ use Prim.Native.Nat.{ℕ, zero, suc, _+_, _-_, _*_, min}
 use mathlib.Core.Bool.{Bool, true, false, cond}
 use mathlib.Core.List.{List, [], _∷_, _++_}
 use lib.Dec.{eqb, ltb}
-use lib.ListN.{length}
+use lib.ListN.{length, take}
 use lib.Seq.{sets}
 use Rattle.conversion.specs.declared.Table.{Table}
 use Rattle.asked.specs.Line.{small}
@@ -56,12 +56,20 @@ abbrev pub numbersOf : Words → ℕ → List ℕ
 numbersOf w zero = []
 numbersOf w (suc n) = numbersOf w n ++ (small w (suc n) ∷ [])
 
+-- the numbers of a line that has numbers up to 65,535 alone; of more than fifteen the first fifteen and a 0
+abbrev pub lineNumbers : Words → List ℕ
+lineNumbers w = numbersOf w (numbersIn (w .form) 16)
+
 -- what is lent, and the lists that its numbers and bytes stand in
 pub record Loan : Type 0 where
   pub lent : Lent
   pub rows : List ℕ
   pub rules : List ℕ
   pub text : List ℕ
+
+-- the lent rules
+abbrev pub lentRules : Loan → List ℕ
+lentRules x = take (x .lent .numbers) (x .rules)
 
 abbrev pub loanOf : Lent → List ℕ → List ℕ → List ℕ → Loan
 loanOf lent rows rules text = record { lent = lent; rows = rows; rules = rules; text = text }

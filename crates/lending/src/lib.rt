@@ -4,7 +4,7 @@ ghost use mathlib.Core.Path.{_≡_};
 ghost use Prim.Native.Nat.{_≤_};
 ghost use mathlib.Core.List.{[], _∷_};
 ghost use Rattle.text.specs.Written.{Wrote};
-ghost use Rattle.lending.specs.Lending.{numbersIn, lendingOf, lends, numbersOf, tableIn, noLoan, loanOf, loanAfter};
+ghost use Rattle.lending.specs.Lending.{numbersIn, lendingOf, lends, numbersOf, lineNumbers, tableIn, noLoan, loanOf, loanAfter};
 use asked::Octets;
 use asked::Words;
 use asked::tags;
@@ -48,7 +48,7 @@ pub fn nothing() -> Lent
 
 // How many numbers up to 65,535 a form is, from 1 to most; 0 for any other form.
 fn count_of(form: u64, most: usize) -> usize
-    requires { ⌜ most ≤ 15 ⌝ }
+    requires { ⌜ most ≤ 16 ⌝ }
     ensures { λ r. ⌜ r ≡ numbersIn form most ⌝ }
 {
     let mut ones: u64 = 0;
@@ -61,6 +61,13 @@ fn count_of(form: u64, most: usize) -> usize
         }
     }
     0
+}
+
+// How many numbers up to 65,535 a form is, from 1 to 15, and 16 for all larger counts; 0 for any other form.
+pub fn count_in(form: u64) -> usize
+    ensures { λ r. ⌜ r ≡ numbersIn «form» 16 ⌝ }
+{
+    count_of(form, 16)
 }
 
 // What a line of this tag and form, and of so many bytes, lends.
@@ -124,7 +131,7 @@ fn put(list: &mut [u16], at: usize, x: u16) -> usize
 
 // The first n words of a line at the end of a list.
 fn append(list: &mut [u16], from: usize, w: Words, n: usize) -> usize
-    requires { ⌜ n ≤ 15 ⌝ }
+    requires { ⌜ n ≤ 16 ⌝ }
     ensures { λ r. ⌜ Wrote (now (list .entry)) from (numbersOf w n) (now (list .exit)) r ⌝ }
 {
     let mut at = from;
@@ -136,8 +143,15 @@ fn append(list: &mut [u16], from: usize, w: Words, n: usize) -> usize
     at
 }
 
+// The numbers of a line that has numbers up to 65,535 alone, at the front of a list, and how many they are.
+pub fn put_numbers(list: &mut [u16], w: Words) -> usize
+    ensures { λ r. ⌜ Wrote (now (list .entry)) 0 (lineNumbers w) (now (list .exit)) r ⌝ }
+{
+    append(list, 0, w, count_in(w.form))
+}
+
 // The table that a line begins.
-fn table_in(w: Words) -> Table
+pub fn table_in(w: Words) -> Table
     ensures { λ r. ⌜ r ≡ tableIn w ⌝ }
 {
     Table {

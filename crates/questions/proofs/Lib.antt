@@ -1,3 +1,3 @@
 -- The laws of `questions`.
 pub mod Keys
-pub mod Runs
+pub mod Fronts

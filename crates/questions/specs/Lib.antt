@@ -4,4 +4,3 @@ pub mod Lists
 pub mod Months
 pub mod Texts
 pub mod Questions
-pub mod Runs

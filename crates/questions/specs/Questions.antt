@@ -9,7 +9,6 @@ use Rattle.conversion.specs.Calendar.{Calendar}
 use Rattle.conversion.specs.Flat.{flat}
 use Rattle.asked.specs.Tags.{CHECK, CHECKRULES, READRULES, WRITERULES, BS, AD, LEN, VALID, STEP, STARTS, LISTBS, LISTAD, GRID, DAY, DATE}
 use Rattle.asked.specs.Tags.{JD, NPT, EVENTS, RISE, SET, KALA, NISHITA, READ, HOLIDAY, SIN, COS, ASIN, ACOS, TAN}
-use Rattle.asked.specs.declared.bytes.Octets.{Octets}
 use Rattle.asked.specs.declared.words.Words.{Words}
 use Rattle.replies.specs.declared.Reply.{Reply}
 use Rattle.replies.specs.Replies.{replyWords}
@@ -19,7 +18,7 @@ use Rattle.answers.specs.Conversions.{conversionsReply}
 use Rattle.answers.specs.Trigonometry.{trigonometryReply}
 use Rattle.answers.specs.Almanac.{almanacReply}
 use Rattle.answers.specs.Heavens.{heavensReply}
-use Rattle.lending.specs.Lending.{Loan, lendingOf, lends}
+use Rattle.lending.specs.Lending.{Loan, lentRules}
 use Rattle.questions.specs.Holidays.{holidayReply}
 use Rattle.questions.specs.Lists.{rulesReply, listWords}
 use Rattle.questions.specs.Months.{stepReply, gridWords}
@@ -55,8 +54,6 @@ wordsBy tag t rows rules text w =
     (cond (oneOf (WRITERULES ∷ []) tag) (writeRulesWords rules w)
     (replyWords (replyTo (flat t rows) rules w))))))
 
--- nothing to a line that lends; else the answer over what is lent
-unfoldable pub answerWords : Loan → Words → Octets → List (List ℕ)
-answerWords x w o =
-    cond (lends (lendingOf (w .tag) (w .form) (o .count))) []
-    (wordsBy (w .tag) (x .lent .table) (take (x .lent .cells) (x .rows)) (take (x .lent .numbers) (x .rules)) (take (x .lent .octets) (x .text)) w)
+-- the answer over what is lent
+unfoldable pub answerWords : Loan → Words → List (List ℕ)
+answerWords x w = wordsBy (w .tag) (x .lent .table) (take (x .lent .cells) (x .rows)) (lentRules x) (take (x .lent .octets) (x .text)) w

@@ -1,33 +1,22 @@
-// The answers to the line language: what lines lend, and what each question is answered over it.
+// What each question of the line language is answered over what is lent.
 ghost use mathlib.Core.Path.{_≡_};
 ghost use Prim.Native.Nat.{min};
-ghost use lib.ListN.{length};
 ghost use Rattle.conversion.specs.Flat.{flat};
 ghost use Rattle.output.specs.Gathered.{Gathers};
 ghost use Rattle.questions.specs.Questions.{replyTo, wordsBy, answerWords};
 ghost use Rattle.lending.specs.Lending.{loanOf};
-ghost use Rattle.questions.specs.Runs.{answering, Lends, Answers};
-ghost use Rattle.asked.specs.Runs.{TurnDone};
 
 mod holidays;
-mod lists;
-mod months;
+pub mod lists;
+pub mod months;
 mod texts;
 
-use asked::Octets;
-use asked::Turn;
 use asked::Words;
 use asked::tags;
 use conversion::Table;
 use lending::Lent;
 use output::Out;
 use replies::Reply;
-
-// The turn after a line, and what is lent after it.
-struct Stepped {
-    turn: Turn,
-    lent: Lent,
-}
 
 // The reply to a question with no lent buffer, by its tag. A tag that is none falls to the heavens, which know it not either: a question mark.
 fn reply_to(w: Words, table: Table, rows: &[u16], rules: &[u16]) -> Reply
@@ -86,23 +75,19 @@ fn front(all: usize, n: usize) -> usize
     all
 }
 
-// The answer to a line that asks, over what is lent; nothing to one that lends.
-fn answer(
+// The answer to a line, over what is lent.
+pub fn answer(
     o: Out,
     out: &mut [u8],
     w: Words,
-    x: Octets,
     lent: Lent,
     rows: &[u16],
     rules: &[u16],
     text: &[u8],
 ) -> Out
-    ensures { λ r. ⌜ Gathers (now (out .entry)) o (answerWords (loanOf lent (now (rows .entry)) (now (rules .entry)) (now (text .entry))) w x)
+    ensures { λ r. ⌜ Gathers (now (out .entry)) o (answerWords (loanOf lent (now (rows .entry)) (now (rules .entry)) (now (text .entry))) w)
         (now (out .exit)) r ⌝ }
 {
-    if lending::is_lending(w, x) {
-        return o;
-    }
     let table = lent.table;
     let cells = front(rows.len(), lent.cells);
     let numbers = front(rules.len(), lent.numbers);
@@ -116,63 +101,4 @@ fn answer(
         &rules[..numbers],
         &text[..octets],
     )
-}
-
-// A turn: the line lends or is answered, and the next line is read.
-fn step(
-    t: Turn,
-    lent: Lent,
-    rows: &mut [u16],
-    rules: &mut [u16],
-    text: &mut [u8],
-    piece: &mut [u8],
-    line: &mut [u8],
-    out: &mut [u8],
-) -> Stepped
-    ensures { λ r. ⌜ TurnDone answering t (loanOf lent (now (rows .entry)) (now (rules .entry)) (now (text .entry))) (now (piece .entry))
-        (now (line .entry)) (now (out .entry)) (loanOf (r .lent) (now (rows .exit)) (now (rules .exit)) (now (text .exit))) (now (piece .exit))
-        (now (line .exit)) (now (out .exit)) (r .turn) ⌝ }
-{
-    let w = asked::split(line, t.len);
-    let x = asked::octets_in(line, t.len);
-    let o = t.out;
-    let after = lending::lend(lent, rows, rules, text, w, x);
-    let answered = answer(o, out, w, x, after, rows, rules, text);
-    Stepped {
-        turn: asked::next_turn(t, answered, piece, line, out),
-        lent: after,
-    }
-}
-
-// All turns, to the end of the input: every line that came is answered, in its order.
-fn run(
-    first: Lent,
-    rows: &mut [u16],
-    rules: &mut [u16],
-    text: &mut [u8],
-    piece: &mut [u8],
-    line: &mut [u8],
-    out: &mut [u8],
-)
-    ensures { λ _. ⌜ Answers (length (now (line .entry))) (loanOf «first» (now (rows .entry)) (now (rules .entry)) (now (text .entry)))
-        (now (out .entry)) (now (rows .exit)) (now (rules .exit)) (now (text .exit)) (now (out .exit)) ⌝ }
-{
-    let mut t = asked::first_turn(piece, line, out);
-    let mut lent = first;
-    while 0 < t.left {
-        let s = step(t, lent, rows, rules, text, piece, line, out);
-        t = s.turn;
-        lent = s.lent;
-    }
-}
-
-// Answers every line of standard input on standard output, over what is lent at first and what lines lend in its place.
-pub fn answer_from(first: Lent, rows: &mut [u16], rules: &mut [u16], text: &mut [u8])
-    ensures { λ _. ⌜ Lends 4096 (loanOf «first» (now (rows .entry)) (now (rules .entry)) (now (text .entry))) (now (rows .exit)) (now (rules .exit))
-        (now (text .exit)) ⌝ }
-{
-    let mut piece = [0u8; 4096];
-    let mut line = [0u8; 4096];
-    let mut out = [0u8; 8192];
-    run(first, rows, rules, text, &mut piece, &mut line, &mut out);
 }

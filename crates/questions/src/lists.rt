@@ -60,6 +60,14 @@ fn asked(w: Words, table: Table, rows: &[u16], rules: &[u16], list: &mut [u16]) 
     festivals::festivals_on_ad(table, rows, rules, year, month, day, list)
 }
 
+// How many entries, or the refusal, and the buffer.
+pub fn put_listed(o: Out, out: &mut [u8], answer: ListAnswer, list: &[u16]) -> Out
+    ensures { λ r. ⌜ Gathers (now (out .entry)) o (listedWords (record { answer = listSays answer; buffer = now (list .entry) })) (now (out .exit)) r ⌝ }
+{
+    let counted = count(answer).put(o, out);
+    replies::put_list(counted, out, list)
+}
+
 // The answer and the buffer after it.
 fn put_asked(
     o: Out,
@@ -73,8 +81,8 @@ fn put_asked(
     ensures { λ r. ⌜ Gathers (now (out .entry)) o (listedWords (listAsked table (now (rows .entry)) (now (rules .entry)) w (now (list .entry))))
         (now (out .exit)) r ⌝ }
 {
-    let counted = count(asked(w, table, rows, rules, list)).put(o, out);
-    replies::put_list(counted, out, list)
+    let answer = asked(w, table, rows, rules, list);
+    put_listed(o, out, answer, list)
 }
 
 // The answer to a line in form, whose buffer has the asked length and holds 7 before, or a question mark. A line can ask for any length up to 65,535.

@@ -80,6 +80,16 @@ fn put_month_words(o: Out, out: &mut [u8], a: GridAnswer) -> Out
     }
 }
 
+// The month or the refusal, and both buffers.
+pub fn put_shown(o: Out, out: &mut [u8], a: GridAnswer, cells: &[u16], list: &[u16]) -> Out
+    ensures { λ r. ⌜ Gathers (now (out .entry)) o (shownWords (record { answer = gridSays a; cells = now (cells .entry); festivals = now (list .entry) }))
+        (now (out .exit)) r ⌝ }
+{
+    let told = put_month_words(o, out, a);
+    let shown = replies::put_list(told, out, cells);
+    replies::put_list(shown, out, list)
+}
+
 // A month with both buffers as they stand after the call.
 fn put_asked(
     o: Out,
@@ -105,9 +115,7 @@ fn put_asked(
         cells,
         list,
     );
-    let told = put_month_words(o, out, a);
-    let shown = replies::put_list(told, out, cells);
-    replies::put_list(shown, out, list)
+    put_shown(o, out, a, cells, list)
 }
 
 // The answer to a line `grid` in form, whose buffers hold 7 before, or a question mark.

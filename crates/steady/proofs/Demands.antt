@@ -42,6 +42,14 @@ pub use Rattle.festivals.proofs.festivals_on_ad.Met.{met as festivals-on-ad}
 pub use Rattle.grid.proofs.step_month.Met.{met as step-month}
 pub use Rattle.grid.proofs.month_grid.Met.{met as month-grid}
 pub use Rattle.holiday.proofs.is_holiday.Met.{met as is-holiday}
+pub use Rattle.kept.proofs.start.Met.{met as kept-start}
+pub use Rattle.kept.proofs.take_rules.Met.{met as kept-take}
+pub use Rattle.kept.proofs.append_row.Met.{met as kept-append}
+pub use Rattle.kept.proofs.forget.Met.{met as kept-forget}
+pub use Rattle.kept.proofs.stored.Met.{met as kept-stored}
+pub use Rattle.kept.proofs.asking.ask_bs.Met.{met as kept-bs}
+pub use Rattle.kept.proofs.asking.ask_ad.Met.{met as kept-ad}
+pub use Rattle.kept.proofs.months.ask_month.Met.{met as kept-month}
 pub use Rattle.steady.proofs.Refusals.{list-left, month-left, starts-left}
 -- DEMAND 2: for every accepted table the BS dates and the table days match one to one, in order, and all else is refused with its number; a table that
 -- is not accepted answers nothing
@@ -51,6 +59,11 @@ pub use Rattle.conversion.proofs.Theorems.{one-to-one, no-table}
 pub use Rattle.steady.proofs.Steady.{steady}
 -- and so of two results that meet a call's contract, under the table and under the longer one
 pub use Rattle.steady.proofs.Composed as Composed
+-- nor an answer of a kept state to which a row is appended
+pub use Rattle.steady.proofs.Kept.{kept-steady}
+-- what is kept, after any sequence of operations
+pub use Rattle.kept.specs.Claims.{Keeps}
+pub use Rattle.kept.proofs.Theorems.{always}
 -- what is answered of a date is the holiday number of its cell, and each date that is answered has one
 pub use Rattle.holiday.proofs.Theorems.{in-cells, has-cell}
 -- the checked examples

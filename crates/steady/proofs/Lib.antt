@@ -4,5 +4,6 @@ pub mod Examples
 pub mod SmallSky
 pub mod Once
 pub mod Composed
+pub mod Kept
 pub mod Refusals
 pub mod Demands

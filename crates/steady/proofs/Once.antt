@@ -52,7 +52,17 @@ use Rattle.grid.proofs.month_grid.Reads as MonthGrid
 use Rattle.grid.proofs.Unique.{step-only, grid-only}
 use Rattle.holiday.proofs.is_holiday.Reads as IsHoliday
 use Rattle.holiday.proofs.Unique.{holiday-only}
-use Rattle.steady.specs.Once.{OneAnswer, OneOutcome}
+use Rattle.kept.specs.Held.{Ready}
+use Rattle.kept.proofs.start.Reads as KeptStart
+use Rattle.kept.proofs.take_rules.Reads as KeptTake
+use Rattle.kept.proofs.append_row.Reads as KeptAppend
+use Rattle.kept.proofs.forget.Reads as KeptForget
+use Rattle.kept.proofs.stored.Reads as KeptStored
+use Rattle.kept.proofs.asking.ask_bs.Reads as KeptBs
+use Rattle.kept.proofs.asking.ask_ad.Reads as KeptAd
+use Rattle.kept.proofs.months.ask_month.Reads as KeptMonth
+use Rattle.kept.proofs.Unique.{holds-only, started-only, done-only, asked-only, month-only, stored-only}
+use Rattle.steady.specs.Once.{OneAnswer, OneOutcome, OneAnswerIf, OneOutcomeIf}
 
 pub both : {A B : Type 0} {x y : A} {u v : B} → x ≡ y → u ≡ v → _≡_ {A = A × B} (x, u) (y, v)
 both e h = rw (e, h)
@@ -201,3 +211,31 @@ month-grid k a x y s t p q = (grid-only x y (p .0 ∙ sym (q .0)), both (p .1 .0
 
 pub is-holiday : OneAnswer IsHoliday.Learnt
 is-holiday k a x y s t p q = holiday-only x y (p ∙ sym q)
+
+-- ---- kept: of a record that a call made, which is the first parameter
+
+pub kept-start : OneAnswer KeptStart.Learnt
+kept-start k a x y s t p q = started-only x y _ p q
+
+pub kept-take : OneAnswerIf (λ k a. Ready (a .0)) KeptTake.Learnt
+kept-take k a w x y s t p q = done-only x y _ (p w) (q w)
+
+pub kept-append : OneAnswerIf (λ k a. Ready (a .0)) KeptAppend.Learnt
+kept-append k a w x y s t p q = done-only x y _ (p w) (q w)
+
+pub kept-forget : OneAnswerIf (λ k a. Ready (a .0)) KeptForget.Learnt
+kept-forget k a w x y s t p q = holds-only x y _ (p w) (q w)
+
+pub kept-stored : OneAnswer KeptStored.Learnt
+kept-stored k a x y s t p q = stored-only x y (p ∙ sym q)
+
+-- the buffer is the fifth parameter
+pub kept-bs : OneOutcomeIf (λ k a. Ready (a .0)) KeptBs.Learnt (λ k s. now (s .1 .1 .1 .1 .0))
+kept-bs k a w x y s t p q = asked-only x y _ _ _ (p w) (q w)
+
+pub kept-ad : OneOutcomeIf (λ k a. Ready (a .0)) KeptAd.Learnt (λ k s. now (s .1 .1 .1 .1 .0))
+kept-ad k a w x y s t p q = asked-only x y _ _ _ (p w) (q w)
+
+-- cells and festivals are the fifth and sixth parameters
+pub kept-month : OneOutcomeIf {B = List ℕ × List ℕ} (λ k a. Ready (a .0)) KeptMonth.Learnt (λ k s. (now (s .1 .1 .1 .1 .0), now (s .1 .1 .1 .1 .1 .0)))
+kept-month k a w x y s t p q = let m = month-only x y _ _ _ _ _ (p w) (q w) in (m .0, both (m .1 .0) (m .1 .1))

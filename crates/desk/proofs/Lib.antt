@@ -1,0 +1,3 @@
+-- The laws of `desk`.
+pub mod Answered
+pub mod Turns

@@ -1,0 +1,3 @@
+-- What the contracts of `desk` are written in.
+pub mod Keeping
+pub mod Runs
