@@ -24,6 +24,9 @@ pub struct Entry {
     pub holiday: u16,
 }
 
+/// A lunar year that was resolved: its computed entries with their days.
+pub type Resolved = Vec<(BsDate, Entry)>;
+
 /// The whole records of a flat list.
 pub fn records(rules: &[u16]) -> impl Iterator<Item = Rule> + '_ {
     rules.chunks_exact(8).map(|r| Rule {
@@ -38,7 +41,8 @@ pub fn records(rules: &[u16]) -> impl Iterator<Item = Rule> + '_ {
     })
 }
 
-fn of_kind(rules: &[u16], kind: u16) -> impl Iterator<Item = Rule> + '_ {
+/// The records of a kind.
+pub fn of_kind(rules: &[u16], kind: u16) -> impl Iterator<Item = Rule> + '_ {
     records(rules).filter(move |rule| rule.kind == kind)
 }
 
@@ -139,7 +143,7 @@ fn festival_date(start: Ut, tithi: u16, kala: Kala) -> Option<Date> {
 }
 
 /// A year's computed entries, in the order of the list.
-pub fn computed_for_year(table: &Table, rules: &[u16], year: u16) -> Vec<(BsDate, Entry)> {
+pub fn computed_for_year(table: &Table, rules: &[u16], year: u16) -> Resolved {
     let moons = lunar_month_starts(table, year);
     let mut found = Vec::new();
     for rule in of_kind(rules, 3) {
@@ -173,7 +177,7 @@ pub fn festivals_on(
     rules: &[u16],
     bs: BsDate,
     ad: Date,
-    computed: &mut dyn FnMut(u16) -> Vec<(BsDate, Entry)>,
+    computed: &mut dyn FnMut(u16) -> Resolved,
 ) -> Vec<Entry> {
     let mut found: Vec<Entry> = Vec::new();
     let on_bs = |rule: &Rule| (rule.month, rule.day) == (bs.month, bs.day);
@@ -195,7 +199,8 @@ pub fn festivals_on(
     found
 }
 
-fn written(found: &[Entry], out: &mut [u16]) -> Answer<usize> {
+/// Puts a day's list into a buffer; how many entries it has. 9.
+pub fn written(found: &[Entry], out: &mut [u16]) -> Answer<usize> {
     if out.len() < 2 * found.len() {
         return Err(9);
     }

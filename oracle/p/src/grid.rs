@@ -1,7 +1,7 @@
 //! grid.rs: a month as flat cells, and steps from month to month.
 use crate::Answer;
 use crate::conversion::{BsDate, Table, bs_month_len, bs_to_ad};
-use crate::festivals::{Entry, check_rules, computed_for_year, festivals_on};
+use crate::festivals::{Entry, Resolved, check_rules, computed_for_year, festivals_on};
 use crate::gregorian::{Date, SATURDAY};
 use crate::panchanga;
 
@@ -37,37 +37,26 @@ fn cell(day: u16, ad: Date, today: Date, festivals: &[Entry]) -> Answer<[u16; CE
     ])
 }
 
-/// 1, 2, 3 for today, 4, 5, 9 for either buffer.
-pub fn month_grid(
+/// A month of an accepted table; `computed` gives a year's computed entries. 3 for today, 4, 5, 9 for
+/// either buffer.
+pub fn month_by(
     table: &Table,
     rules: &[u16],
     today: Date,
-    year: u16,
-    month: u16,
-    cell_buffer: &mut [u16],
-    festival_buffer: &mut [u16],
+    (year, month): (u16, u16),
+    [cell_buffer, festival_buffer]: [&mut [u16]; 2],
+    computed: &mut dyn FnMut(u16) -> Resolved,
 ) -> Answer<Month> {
-    table.check()?;
-    check_rules(rules)?;
     today.check()?;
     let days = bs_month_len(table, year, month)?;
     let ad_of = |day| bs_to_ad(table, BsDate { year, month, day });
     let (first, last) = (ad_of(1)?, ad_of(days)?);
 
-    // Each lunar year is resolved once in a call: the answer is as if each day resolved it afresh.
-    let mut resolved: Vec<(u16, Vec<(BsDate, Entry)>)> = Vec::new();
-    let mut computed = |year: u16| match resolved.iter().find(|(known, _)| *known == year) {
-        Some((_, entries)) => entries.clone(),
-        None => {
-            resolved.push((year, computed_for_year(table, rules, year)));
-            resolved[resolved.len() - 1].1.clone()
-        }
-    };
     let mut cells = vec![0; CELL * first.weekday()? as usize];
     let mut festivals = Vec::new();
     for day in 1..=days {
         let ad = ad_of(day)?;
-        let list = festivals_on(rules, BsDate { year, month, day }, ad, &mut computed);
+        let list = festivals_on(rules, BsDate { year, month, day }, ad, computed);
         cells.extend(cell(day, ad, today, &list)?);
         festivals.extend(list.iter().flat_map(|entry| [entry.name, entry.holiday]));
     }
@@ -81,6 +70,30 @@ pub fn month_grid(
     cell_buffer[..cells.len()].copy_from_slice(&cells);
     festival_buffer[..festivals.len()].copy_from_slice(&festivals);
     Ok(Month { days, first, last, cells: cells.len() / CELL, festivals: festivals.len() / 2 })
+}
+
+/// 1, 2, 3 for today, 4, 5, 9 for either buffer.
+pub fn month_grid(
+    table: &Table,
+    rules: &[u16],
+    today: Date,
+    year: u16,
+    month: u16,
+    cells: &mut [u16],
+    festivals: &mut [u16],
+) -> Answer<Month> {
+    table.check()?;
+    check_rules(rules)?;
+    // Each lunar year is resolved once in a call: the answer is as if each day resolved it afresh.
+    let mut resolved: Vec<(u16, Resolved)> = Vec::new();
+    let mut computed = |year: u16| match resolved.iter().find(|(known, _)| *known == year) {
+        Some((_, entries)) => entries.clone(),
+        None => {
+            resolved.push((year, computed_for_year(table, rules, year)));
+            resolved[resolved.len() - 1].1.clone()
+        }
+    };
+    month_by(table, rules, today, (year, month), [cells, festivals], &mut computed)
 }
 
 /// 1, 10.

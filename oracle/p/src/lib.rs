@@ -9,6 +9,7 @@ pub mod convert;
 pub mod festivals;
 pub mod gregorian;
 pub mod grid;
+pub mod kept;
 pub mod panchanga;
 pub mod rulefile;
 pub mod trig;

@@ -1,7 +1,9 @@
 //! Oracle P's answers in the line language.
-use crate::lines::{Lent, Query, float_word, hex_word};
+use crate::lines::{Grid, Lent, Operation, Query, float_word, hex_word};
 use parameterised::conversion::{self, BsDate};
 use parameterised::gregorian::Date;
+use parameterised::grid::Month;
+use parameterised::kept::Kept;
 use parameterised::panchanga::{self, KALAS, Tt, Ut};
 use parameterised::{Answer, Refusal, festivals, grid, rulefile, trig};
 
@@ -74,11 +76,11 @@ fn write_rules_line(rules: &[u16], length: u16) -> String {
     with_buffer(answer, word.into_iter())
 }
 
-fn grid_line(lent: &Lent, today: Date, (year, month): (u16, u16), lengths: [u16; 2]) -> String {
-    let [mut cells, mut names] = lengths.map(|length| vec![FILL; length as usize]);
-    let answer =
-        grid::month_grid(&lent.table, &lent.rules, today, year, month, &mut cells, &mut names);
-    let answer = told(answer.map(|m| {
+/// A call that shows a month in its two buffers.
+fn grid_line(asked: Grid, month: impl FnOnce([&mut [u16]; 2]) -> Answer<Month>) -> String {
+    let mut cells = vec![FILL; asked.cells as usize];
+    let mut names = vec![FILL; asked.festivals as usize];
+    let answer = told(month([&mut cells, &mut names]).map(|m| {
         let (first, last) = (date_words(m.first), date_words(m.last));
         format!("{} {first} {last} {} {}", m.days, m.cells, m.festivals)
     }));
@@ -86,7 +88,37 @@ fn grid_line(lent: &Lent, today: Date, (year, month): (u16, u16), lengths: [u16;
     with_buffer(answer, names.into_iter().map(|word| word.to_string()))
 }
 
-pub fn answer(lent: &Lent, query: Query) -> String {
+/// The answer of a state, which may be another after it; `rules` are those that are lent.
+pub fn state_line(state: &mut Kept, rules: &[u16], operation: Operation) -> String {
+    told(match operation {
+        Operation::Take => state.take_rules(rules).map(|()| String::new()),
+        Operation::Append(row) => state.append_row(&row).map(|()| String::new()),
+        Operation::AskBs(bs, length) => return count_line(length, |out| state.ask_bs(bs, out)),
+        Operation::AskAd(ad, length) => return count_line(length, |out| state.ask_ad(ad, out)),
+        Operation::AskGrid(asked) => {
+            let month = (asked.year, asked.month);
+            return grid_line(asked, |buffers| state.ask_month(asked.today, month, buffers));
+        }
+        Operation::Forget => {
+            state.forget();
+            Answer::Ok(String::new())
+        }
+        Operation::Stored => {
+            let years: Vec<String> = state.stored_years().iter().map(u16::to_string).collect();
+            Ok(years.join(" "))
+        }
+    })
+}
+
+/// A state anew, in place of the one there is; none where it is refused.
+fn start_line(lent: &mut Lent, first_year: u16, first_day: Date) -> String {
+    let started = Kept::start(first_year, first_day);
+    let answer = told(started.as_ref().map(|_| String::new()).map_err(|number| *number));
+    lent.state = started.ok();
+    answer
+}
+
+pub fn answer(lent: &mut Lent, query: Query) -> String {
     let (table, rules) = (&lent.table, &lent.rules);
     told(match query {
         Query::Check => table.check().map(|()| String::new()),
@@ -143,8 +175,16 @@ pub fn answer(lent: &Lent, query: Query) -> String {
         Query::ListAd(ad, length) => {
             return count_line(length, |out| festivals::day_list_ad(table, rules, ad, out));
         }
-        Query::Grid { today, year, month, cells, festivals } => {
-            return grid_line(lent, today, (year, month), [cells, festivals]);
+        Query::Grid(asked) => {
+            let Grid { today, year, month, .. } = asked;
+            return grid_line(asked, |[cells, names]| {
+                grid::month_grid(table, rules, today, year, month, cells, names)
+            });
         }
+        Query::Start(first_year, first_day) => return start_line(lent, first_year, first_day),
+        Query::State(operation) => match &mut lent.state {
+            Some(state) => return state_line(state, rules, operation),
+            None => return "?".into(),
+        },
     })
 }

@@ -1,5 +1,6 @@
 //! What the tools share: the line language, the two oracles' answers in it, and the query makers.
 pub mod answers;
+pub mod kept;
 pub mod lines;
 pub mod queries;
 pub mod random;

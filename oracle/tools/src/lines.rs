@@ -1,6 +1,7 @@
 //! The line language of `ask` and of these tools (see README.md).
 use parameterised::conversion::{BsDate, Table};
 use parameterised::gregorian::{Date, date};
+use parameterised::kept::Kept;
 
 /// A line in form.
 #[derive(Debug, Clone, PartialEq)]
@@ -17,9 +18,31 @@ pub enum Line {
 /// The most bytes that one line adds to the lent text.
 pub const OCTETS: usize = 64;
 
-/// A line that is answered. The last numbers of starts, the lists, grid and the rule files are buffer
-/// lengths.
+/// A month's grid that is asked for, with the lengths of its two buffers.
 #[derive(Debug, Clone, Copy, PartialEq)]
+pub struct Grid {
+    pub today: Date,
+    pub year: u16,
+    pub month: u16,
+    pub cells: u16,
+    pub festivals: u16,
+}
+
+/// A question to the kept state, which is out of form where there is none.
+#[derive(Debug, Clone, PartialEq)]
+pub enum Operation {
+    Take,
+    Append(Vec<u16>),
+    AskBs(BsDate, u16),
+    AskAd(Date, u16),
+    AskGrid(Grid),
+    Forget,
+    Stored,
+}
+
+/// A line that is answered. The last numbers of starts, the lists and the rule files are buffer
+/// lengths.
+#[derive(Debug, Clone, PartialEq)]
 pub enum Query {
     Check,
     CheckRules,
@@ -54,7 +77,9 @@ pub enum Query {
     ListBs(BsDate, u16),
     ListAd(Date, u16),
     Holiday(BsDate),
-    Grid { today: Date, year: u16, month: u16, cells: u16, festivals: u16 },
+    Grid(Grid),
+    Start(u16, Date),
+    State(Operation),
     Sin(f64),
     Cos(f64),
     Asin(f64),
@@ -117,13 +142,25 @@ impl<'a> Words<'a> {
         Some(BsDate { year: self.number()?, month: self.number()?, day: self.number()? })
     }
 
-    /// One or more numbers, at most `most`, to the line's end.
-    fn numbers(&mut self, most: usize) -> Option<Vec<u16>> {
+    fn grid(&mut self) -> Option<Grid> {
+        Some(Grid {
+            today: self.date()?,
+            year: self.number()?,
+            month: self.number()?,
+            cells: self.number()?,
+            festivals: self.number()?,
+        })
+    }
+
+    /// As many numbers as stand there, to the line's end.
+    fn numbers(&mut self) -> Option<Vec<u16>> {
         let count = self.rest.clone().count();
-        if !(1..=most).contains(&count) {
-            return None;
-        }
         (0..count).map(|_| self.number()).collect()
+    }
+
+    /// One or more numbers, at most `most`, to the line's end.
+    fn some_numbers(&mut self, most: usize) -> Option<Vec<u16>> {
+        self.numbers().filter(|numbers| (1..=most).contains(&numbers.len()))
     }
 }
 
@@ -146,9 +183,9 @@ pub fn parse(line: &[u8]) -> Option<Line> {
     let w = &mut words;
     let line = match w.word()? {
         "table" => Line::Table(w.number()?, w.date()?),
-        "cells" => Line::Cells(w.numbers(13)?),
+        "cells" => Line::Cells(w.some_numbers(13)?),
         "rules" => Line::Rules,
-        "rule" => Line::Rule(w.numbers(8)?),
+        "rule" => Line::Rule(w.some_numbers(8)?),
         "text" => Line::Text,
         "octets" => Line::Octets(w.octets(OCTETS)?),
         tag => Line::Query(query(tag, w)?),
@@ -191,13 +228,15 @@ fn query(tag: &str, w: &mut Words) -> Option<Query> {
         "listbs" => Query::ListBs(w.bs()?, w.number()?),
         "listad" => Query::ListAd(w.date()?, w.number()?),
         "holiday" => Query::Holiday(w.bs()?),
-        "grid" => Query::Grid {
-            today: w.date()?,
-            year: w.number()?,
-            month: w.number()?,
-            cells: w.number()?,
-            festivals: w.number()?,
-        },
+        "grid" => Query::Grid(w.grid()?),
+        "start" => Query::Start(w.number()?, w.date()?),
+        "take" => Query::State(Operation::Take),
+        "append" => Query::State(Operation::Append(w.numbers()?)),
+        "askbs" => Query::State(Operation::AskBs(w.bs()?, w.number()?)),
+        "askad" => Query::State(Operation::AskAd(w.date()?, w.number()?)),
+        "askgrid" => Query::State(Operation::AskGrid(w.grid()?)),
+        "forget" => Query::State(Operation::Forget),
+        "stored" => Query::State(Operation::Stored),
         "sin" => Query::Sin(w.float()?),
         "cos" => Query::Cos(w.float()?),
         "asin" => Query::Asin(w.float()?),
@@ -207,17 +246,18 @@ fn query(tag: &str, w: &mut Words) -> Option<Query> {
     })
 }
 
-/// What the control lines have lent so far.
+/// What the control lines have lent so far, and the state that questions have made.
 pub struct Lent {
     pub table: Table,
     pub rules: Vec<u16>,
     pub text: Vec<u8>,
+    pub state: Option<Kept>,
 }
 
 impl Default for Lent {
     fn default() -> Self {
         let table = Table { first_year: 0, first_day: date(0, 0, 0), rows: Vec::new() };
-        Lent { table, rules: Vec::new(), text: Vec::new() }
+        Lent { table, rules: Vec::new(), text: Vec::new(), state: None }
     }
 }
 

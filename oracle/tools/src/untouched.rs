@@ -1,11 +1,12 @@
 //! The Rust untouched (oracle U) in the line language, wherever it can be asked: within document
 //! 01's ranges, over its own table and, for lists and grids, over a rule list it was built with.
-use crate::answers::{FILL, bs_words, date_words, with_buffer};
-use crate::lines::{Lent, Query, float_word};
+use crate::answers::{FILL, bs_words, date_words, state_line, with_buffer};
+use crate::lines::{Grid, Lent, Operation, Query, float_word};
 use crate::tables;
 use chrono::{Datelike, Duration, NaiveDate};
 use parameterised::conversion::{BsDate, Table};
 use parameterised::gregorian::Date;
+use parameterised::kept::Kept;
 use untouched_nepal as rust;
 use untouched_nepal::panchanga::{self, Kala};
 
@@ -183,51 +184,55 @@ impl Default for Untouched {
 }
 
 impl Untouched {
-    fn list(&self, lent: &Lent, bs: BsDate, ad: NaiveDate) -> Option<Vec<u16>> {
+    fn list(&self, rules: &[u16], bs: BsDate, ad: NaiveDate) -> Option<Vec<u16>> {
         let bs = narrow(bs)?;
-        let list = match &lent.rules {
-            rules if *rules == self.nepal => nepal::list,
-            rules if *rules == self.stress => stress::list,
+        let list = match rules {
+            rules if rules == self.nepal => nepal::list,
+            rules if rules == self.stress => stress::list,
             _ => return None,
         };
         Some(list(bs.year, bs.month, bs.day, ad))
     }
 
-    fn list_line(&self, lent: &Lent, bs: BsDate, ad: NaiveDate, length: u16) -> Option<String> {
-        let list = self.list(lent, bs, ad)?;
+    fn list_line(&self, rules: &[u16], bs: BsDate, ad: NaiveDate, length: u16) -> Option<String> {
+        let list = self.list(rules, bs, ad)?;
         in_buffer(format!("0 {}", list.len() / 2), list, length)
     }
 
-    fn month(&self, lent: &Lent, year: u16, month: u16, today: NaiveDate) -> Option<nepal::Month> {
+    fn month(
+        &self,
+        rules: &[u16],
+        year: u16,
+        month: u16,
+        today: NaiveDate,
+    ) -> Option<nepal::Month> {
         let month = month.try_into().ok()?;
-        match &lent.rules {
-            rules if *rules == self.nepal => nepal::month(year, month, today),
-            rules if *rules == self.stress => stress::month(year, month, today),
+        match rules {
+            rules if rules == self.nepal => nepal::month(year, month, today),
+            rules if rules == self.stress => stress::month(year, month, today),
             _ => None,
         }
     }
 
     /// The holiday field of a day's cell in its month's grid.
-    fn holiday_line(&self, lent: &Lent, bs: BsDate) -> Option<String> {
+    fn holiday_line(&self, rules: &[u16], bs: BsDate) -> Option<String> {
         let today = rust::bs_to_ad(narrow(bs)?).ok()?;
-        let (_, _, _, cells, _) = self.month(lent, bs.year, bs.month, today)?;
+        let (_, _, _, cells, _) = self.month(rules, bs.year, bs.month, today)?;
         let cell = cells.chunks(12).find(|cell| cell[0] == bs.day)?;
         Some(format!("0 {}", cell[6]))
     }
 
-    fn grid_line(&self, lent: &Lent, query: Query) -> Option<String> {
-        let Query::Grid { today, year, month, cells, festivals } = query else {
-            return None;
-        };
-        let (days, first, last, in_cells, names) = self.month(lent, year, month, naive(today)?)?;
+    fn grid_line(&self, rules: &[u16], asked: Grid) -> Option<String> {
+        let Grid { today, year, month, cells, festivals } = asked;
+        let (days, first, last, in_cells, names) = self.month(rules, year, month, naive(today)?)?;
         let counts = format!("{} {}", in_cells.len() / 12, names.len() / 2);
         let answer = format!("0 {days} {} {} {counts}", date_words(first), date_words(last));
         in_buffer(in_buffer(answer, in_cells, cells)?, names, festivals)
     }
 
-    /// Questions about the lent table, which is the Rust's own.
-    fn of_table(&self, lent: &Lent, query: Query) -> Option<String> {
-        if lent.table != self.table {
+    /// Questions about a table, which must be the Rust's own, and rules.
+    fn of_table(&self, table: &Table, rules: &[u16], query: Query) -> Option<String> {
+        if *table != self.table {
             return None;
         }
         match query {
@@ -249,20 +254,41 @@ impl Untouched {
                 Some(step.map_or("10".into(), |(year, month)| format!("0 {year} {month}")))
             }
             Query::ListBs(bs, length) => {
-                self.list_line(lent, bs, rust::bs_to_ad(narrow(bs)?).ok()?, length)
+                self.list_line(rules, bs, rust::bs_to_ad(narrow(bs)?).ok()?, length)
             }
             Query::ListAd(ad, length) => {
                 let bs = wide(rust::ad_to_bs(naive(ad)?).ok()?);
-                self.list_line(lent, bs, naive(ad)?, length)
+                self.list_line(rules, bs, naive(ad)?, length)
             }
-            Query::Holiday(bs) => self.holiday_line(lent, bs),
-            grid => self.grid_line(lent, grid),
+            Query::Holiday(bs) => self.holiday_line(rules, bs),
+            Query::Grid(asked) => self.grid_line(rules, asked),
+            _ => None,
         }
     }
 
+    /// Questions to the state: a day and a month are asked over the table and the rules that it holds.
+    fn of_state(&self, lent: &mut Lent, operation: Operation) -> Option<String> {
+        let state = lent.state.as_mut()?;
+        let plain = match operation {
+            Operation::AskBs(bs, length) => Query::ListBs(bs, length),
+            Operation::AskAd(ad, length) => Query::ListAd(ad, length),
+            Operation::AskGrid(asked) => Query::Grid(asked),
+            of_store => {
+                state_line(state, &lent.rules, of_store);
+                return None;
+            }
+        };
+        self.of_table(&state.table, &state.rules, plain)
+    }
+
     /// The answer, or nothing where the Rust has none or document 01 has another.
-    pub fn answer(&self, lent: &Lent, query: Query) -> Option<String> {
+    pub fn answer(&self, lent: &mut Lent, query: Query) -> Option<String> {
         match query {
+            Query::Start(first_year, first_day) => {
+                lent.state = Kept::start(first_year, first_day).ok();
+                None
+            }
+            Query::State(operation) => self.of_state(lent, operation),
             Query::Day(date) => day_line(naive(date)?),
             Query::JulianDay(date, fraction) => {
                 float(instant(panchanga::julian_day(naive(date)?, fraction))?)
@@ -298,7 +324,7 @@ impl Untouched {
                 let [end, rise, set] = clocks.map(minutes);
                 Some(format!("0 {} {end} {rise} {set}", reading.tithi))
             }
-            of_table => self.of_table(lent, of_table),
+            of_table => self.of_table(&lent.table, &lent.rules, of_table),
         }
     }
 }

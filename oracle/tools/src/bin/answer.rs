@@ -18,7 +18,7 @@ fn answer_lines(mode: Mode) -> ExitCode {
     trig::set_mode(mode);
     let mut lent = Lent::default();
     let answered = lines::answer_all(|line| match lines::parse(line) {
-        Some(line) => lent.take(line).map(|query| answers::answer(&lent, query)),
+        Some(line) => lent.take(line).map(|query| answers::answer(&mut lent, query)),
         None => Some("?".into()),
     });
     if answered.is_ok() { ExitCode::SUCCESS } else { ExitCode::FAILURE }

@@ -1,5 +1,5 @@
 //! Asks oracle P document 01's checked examples and Meeus's 7.a, 25.a and 47.a, whose answers stand
-//! here as the paper and the book print them, and rule files and holidays read by hand.
+//! here as the paper and the book print them, and rule files, holidays and a kept state read by hand.
 //!
 //!   book [recipe|host]
 use parameterised::convert;
@@ -79,6 +79,43 @@ const HOLIDAYS: [(&str, &str); 21] = [
     ("holiday 100 1 7", "1"),
 ];
 
+/// The kept state over the same table, read by hand: which years are stored, and what a refusal leaves.
+const STATE: [(&str, &str); 33] = [
+    ("stored", "?"),
+    ("start 100 1950 1 1", "0"),
+    ("stored", "0"),
+    ("askbs 99 13 40 1", "13 | 7"),
+    ("askad 1900 2 29 0", "13 |"),
+    ("append 31 31 32 31 31 31 30 29 30 29 30 30 365", "0"),
+    ("askbs 100 1 1 1", "0 0 | 7"),
+    ("stored", "0 100"),
+    ("append 31 31 32 32 31 30 30 29 30 29 30 31 366", "0"),
+    ("stored", "0 100"),
+    ("askbs 101 2 31 0", "0 0 |"),
+    ("stored", "0 100 101"),
+    ("askad 1952 1 2 0", "7 1 |"),
+    ("askgrid 1900 2 29 99 13 0 0", "3 | |"),
+    ("askbs 102 13 40 0", "4 |"),
+    ("stored", "0 100 101"),
+    ("askad 1952 1 1 0", "0 0 |"),
+    ("stored", "0 101"),
+    ("rules", ""),
+    ("rule 1 0 3 1 0 0 9 1", ""),
+    ("take", "0"),
+    ("stored", "0"),
+    ("askbs 101 3 1 1", "9 | 7"),
+    ("stored", "0"),
+    ("askbs 101 3 1 2", "0 1 | 9 1"),
+    ("rule 1", ""),
+    ("take", "2"),
+    ("append 31", "1"),
+    ("stored", "0 101"),
+    ("forget", "0"),
+    ("stored", "0"),
+    ("start 0 1950 1 1", "1"),
+    ("stored", "?"),
+];
+
 /// Questions on floats, which the paper writes as decimals.
 fn on_floats() -> Vec<(String, String)> {
     vec![
@@ -126,7 +163,7 @@ fn differing(pairs: impl Iterator<Item = (String, String)>) -> usize {
     let mut differ = 0;
     for (line, expected) in pairs {
         let parsed = lines::parse(line.as_bytes()).expect("a line in form");
-        let answer = lent.take(parsed).map(|query| answers::answer(&lent, query));
+        let answer = lent.take(parsed).map(|query| answers::answer(&mut lent, query));
         if answer.clone().unwrap_or_default() != expected {
             println!("{line}: {answer:?}, not {expected}");
             differ += 1;
@@ -171,7 +208,7 @@ fn meeus_differs(name: &str, answer: f64, book: f64, last_digit: f64) -> bool {
 fn main() -> ExitCode {
     let host = std::env::args().nth(1).as_deref() == Some("host") || !trig::has_recipe();
     trig::set_mode(if host { Mode::Host } else { Mode::Recipe });
-    let paper = PAPER.iter().chain(&HOLIDAYS);
+    let paper = PAPER.iter().chain(&HOLIDAYS).chain(&STATE);
     let paper = paper.map(|(line, answer)| (line.to_string(), answer.to_string()));
     let julian_day = panchanga::julian_day(date(1957, 10, 4), 0.81).expect("an instant").0;
     let sun = panchanga::sun_longitude(Tt(2448908.5)).expect("a longitude");

@@ -9,7 +9,7 @@ fn main() -> std::io::Result<()> {
     lines::answer_all(|line| match lines::parse(line) {
         Some(line) => {
             let query = lent.take(line)?;
-            Some(rust.answer(&lent, query).unwrap_or("-".into()))
+            Some(rust.answer(&mut lent, query).unwrap_or("-".into()))
         }
         None => Some("-".into()),
     })

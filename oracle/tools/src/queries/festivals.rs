@@ -6,6 +6,7 @@ use parameterised::conversion::{BsDate, Table, ad_to_bs, bs_month_len, bs_to_ad}
 use parameterised::convert::own_table;
 use parameterised::festivals::{Entry, check_rules, computed_for_year, festivals_on, records};
 use parameterised::gregorian::{Date, date};
+use std::ops::RangeInclusive;
 
 /// A table and a rule list with the years that were resolved, so that lists can be looked through.
 pub struct Almanac {
@@ -41,10 +42,15 @@ impl Almanac {
         (1..=length).map(|day| BsDate { year, month, day }).collect()
     }
 
+    /// The days of some months of a year that have an entry.
+    pub fn listed_days(&mut self, year: u16, months: RangeInclusive<u16>) -> Vec<BsDate> {
+        let days: Vec<BsDate> = months.flat_map(|month| self.month(year, month)).collect();
+        days.into_iter().filter(|day| self.count(*day) > 0).collect()
+    }
+
     /// A year's days that have an entry.
     fn days_of(&mut self, year: u16) -> Vec<BsDate> {
-        let days: Vec<BsDate> = (1..=12).flat_map(|month| self.month(year, month)).collect();
-        days.into_iter().filter(|day| self.count(*day) > 0).collect()
+        self.listed_days(year, 1..=12)
     }
 
     pub fn random_year(&self, maker: &mut Maker) -> u16 {

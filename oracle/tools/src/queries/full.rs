@@ -176,11 +176,12 @@ pub fn lists(maker: &mut Maker) {
     }
 }
 
-const TAGS: [&str; 45] = [
+const TAGS: [&str; 53] = [
     "check", "checkrules", "bs", "ad", "len", "valid", "step", "day", "date", "jd", "npt", "deltat", "tt",
     "sun", "moon", "elong", "tithi", "tithiof", "end", "starts", "events", "rise", "set", "kala", "nishita",
     "clock", "minutes", "read", "listbs", "listad", "grid", "sin", "cos", "asin", "acos", "tan", "table",
-    "cells", "rules", "rule", "text", "octets", "readrules", "writerules", "holiday",
+    "cells", "rules", "rule", "text", "octets", "readrules", "writerules", "holiday", "start", "take", "append",
+    "askbs", "askad", "askgrid", "forget", "stored",
 ];
 
 /// Words that no line takes, or few do.

@@ -13,7 +13,7 @@ fn grid(maker: &mut Maker, today: Date, year: u16, month: u16, cells: usize, fes
 }
 
 /// How many numbers a month's cells and its festivals are.
-fn lengths(almanac: &mut Almanac, year: u16, month: u16) -> (usize, usize) {
+pub fn lengths(almanac: &mut Almanac, year: u16, month: u16) -> (usize, usize) {
     let days = almanac.month(year, month);
     let first = bs_to_ad(&almanac.table, days[0]).expect("a day of the table");
     let blanks = first.weekday().expect("a date") as usize;
@@ -23,7 +23,7 @@ fn lengths(almanac: &mut Almanac, year: u16, month: u16) -> (usize, usize) {
 }
 
 /// A date of the month, mostly.
-fn some_today(maker: &mut Maker, almanac: &Almanac, year: u16, month: u16) -> Date {
+pub fn some_today(maker: &mut Maker, almanac: &Almanac, year: u16, month: u16) -> Date {
     let days = almanac.month(year, month);
     match maker.random.below(6) {
         0 => maker.random_date(),

@@ -15,6 +15,7 @@ mod full;
 mod gregorian;
 mod grid;
 mod holidays;
+mod kept;
 mod panchanga;
 mod texts;
 mod trig;
@@ -28,7 +29,7 @@ pub struct Maker<'a> {
 type Set = (&'static str, fn(&mut Maker));
 
 /// The samples: of `convert`, and the parts of the sample of `ask`, its own questions first.
-pub const SAMPLES: [Set; 10] = [
+pub const SAMPLES: [Set; 11] = [
     ("ask", ask::sample),
     ("gregorian", gregorian::sample),
     ("conversion", conversion::sample),
@@ -39,10 +40,11 @@ pub const SAMPLES: [Set; 10] = [
     ("grid", grid::sample),
     ("texts", texts::sample),
     ("holidays", holidays::sample),
+    ("kept", kept::sample),
 ];
 
 /// The sets at full scale.
-pub const FULL: [Set; 12] = [
+pub const FULL: [Set; 13] = [
     ("dates", full::dates),
     ("instants", full::instants),
     ("angles", full::angles),
@@ -53,6 +55,7 @@ pub const FULL: [Set; 12] = [
     ("days", full::days),
     ("lists", full::lists),
     ("holidays", holidays::full),
+    ("kept", kept::full),
     ("texts", texts::full),
     ("words", full::words),
 ];
