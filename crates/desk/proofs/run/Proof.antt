@@ -22,10 +22,17 @@ loop-holds : tie.Need-loop-holds Inv-loop μ-loop
 loop-holds c =
     let a = c .before .before .before .before .before .before .before .before .before .before .before .before .before .before .before .args in
     let none = c .nothing .ensures in
-    let first = c .before .before .before .before .before .first-turn in
-    (refl, refl, refl, refl, refl, refl, λ q. absurd (true≢false (sym q ∙ none)),
+    let first = c .before .before .before .before .before .first-turn in (
+      refl,
+      refl,
+      refl,
+      refl,
+      refl,
+      refl,
+      λ q. absurd (true≢false (sym q ∙ none)),
       rw (desk-opened (loanOf (a .first) (a .rows .now) (a .rules .now) (a .text .now)) (c .nothing .result) none)
-      (runs-first answering (opened (loanOf (a .first) (a .rows .now) (a .rules .now) (a .text .now))) 18446744073709551615 (sym (first .kept .1 .0)) (first .ensures)))
+          (runs-first answering (opened (loanOf (a .first) (a .rows .now) (a .rules .now) (a .text .now))) 18446744073709551615 (sym (first .kept .1 .0)) (first .ensures)),
+    )
 
 loop-less : tie.Need-loop-less Inv-loop μ-loop
 loop-less c =
