@@ -13,17 +13,18 @@ use Rattle.paper.specs.declared.Refusal.the-variants.{NoSuchDate}
 use Rattle.paper.specs.declared.Refusal.{Refusal}
 use Rattle.paper.specs.Answers.{answered, refused, given}
 use Rattle.paper.specs.Sums.{sum, all}
-use Rattle.paper.proofs.Sums.{sum-ext, sum-mono, sum-step, all-at, all-every}
+use Rattle.paper.proofs.Sums.{sum-zero, sum-suc, sum-ext, sum-mono, sum-step, all-at, all-every}
 use Rattle.paper.proofs.Tests.{and-left, and-right, split, never}
 use Rattle.paper.proofs.Answers.{answered-same, refused-answered}
 use Rattle.gregorian.specs.Calendar.{isDate, dayNumber}
 use Rattle.gregorian.proofs.Laws.{real-of, number-above, number-below, all-number}
 use Rattle.conversion.specs.declared.Table.{Table}
 use Rattle.conversion.specs.declared.check.Passed.{Passed}
-use Rattle.conversion.specs.Flat.{rowCount, lens, rowOk, rowDays, firstDay, date, accepted}
-use Rattle.conversion.specs.Inner.{numberOrZero, firstNumber, Frame, FrameSays, RowsSay, Reached, column, Inside, FoundAt}
+use Rattle.conversion.specs.Calendar.{Calendar, validBs}
+use Rattle.conversion.specs.Flat.{rowCount, lens, rowOk, rowDays, firstDay, date, accepted, flat}
+use Rattle.conversion.specs.Inner.{numberOrZero, firstNumber, untested, Frame, FrameSays, PlacedIn, RowsSay, Reached, Begun, column, Inside, FoundAt}
 use Rattle.conversion.proofs.Places.{Within}
-use Rattle.conversion.proofs.Rows.{row-total, row-lens}
+use Rattle.conversion.proofs.Rows.{row-total, row-most}
 
 -- the numbers of the first day that a table may have, and of the last
 pub from-1901 : dayNumber (date 1901 1 1) ≡ 2415386
@@ -136,13 +137,16 @@ module _ (y m d : ℕ) where
 pub starts : (t : Table) (n : ℕ) → Frame t n → firstNumber t ≡ dayNumber (firstDay t)
 starts t n f = simp (f .real)
 
+pub first-small : (t : Table) (n : ℕ) → Frame t n → dayNumber (firstDay t) < 2506332
+first-small t n f = omega (arith, starts t n f, number-small (t .year) (t .month) (t .day))
+
 pub months-in : (rows : List ℕ) (i m : ℕ) → 13 * i + 13 ≤ length rows → m ≤ 12 → Inside rows (13 * i) 1 m
 months-in rows i m h l = record { few = omega arith; small = omega arith; inside = λ k b. omega arith }
 
-module _ (t : Table) (rows : List ℕ) (f : Facts t rows) where
-  pub years-in : (i : ℕ) → i ≤ rowCount rows → Inside rows 12 13 i
-  years-in i h = record { few = omega arith; small = omega arith; inside = λ k l. omega arith }
+pub years-in : (rows : List ℕ) (i : ℕ) → rowCount rows ≤ 128 → i ≤ rowCount rows → Inside rows 12 13 i
+years-in rows i n h = record { few = omega arith; small = omega arith; inside = λ k l. omega arith }
 
+module _ (t : Table) (rows : List ℕ) (f : Facts t rows) where
   pub years-are : (i : ℕ) → i < rowCount rows → column rows 12 13 i ≡ sum (lens rows i) 12
   years-are i h = ap (λ (k : ℕ). getD rows k 0) (add-comm 12 (13 * i)) ∙ row-total rows i (f .row i h)
 
@@ -181,13 +185,11 @@ year-found t rows f r i s p = found-ext _ _ (rowCount rows) r i s (λ k l. years
 pub record RowDay (rows : List ℕ) (i r m d : ℕ) : Type 0 where
   pub within : Within (lens rows i) 12 r m
   pub whole : r ≡ sum (lens rows i) m + d
-  pub short : d < 32
 
-pub month-found : (t : Table) (rows : List ℕ) → Facts t rows → (i r m d : ℕ) → i < rowCount rows → r < sum (lens rows i) 12 → FoundAt (column rows (13 * i) 1) 12 r m d → RowDay rows i r m d
-month-found t rows f i r m d h l q =
+pub month-found : (rows : List ℕ) (i r m d : ℕ) → r < sum (lens rows i) 12 → FoundAt (column rows (13 * i) 1) 12 r m d → RowDay rows i r m d
+month-found rows i r m d l q =
     let b = found-ext _ (lens rows i) 12 r m d (λ k l. months-are rows i k) q in
-    let w = found-within (lens rows i) 12 r m d b l in
-    record { within = w; whole = sym (b .whole); short = omega (arith, b .within (w .below), row-lens rows i m (f .row i h) (w .below)) }
+    record { within = found-within (lens rows i) 12 r m d b l; whole = sym (b .whole) }
 
 -- past the last row: what is left lies after all rows
 pub past : (rows : List ℕ) (n r i s : ℕ) → FoundAt (λ k. sum (lens rows k) 12) n r i s → n ≤ i → rowDays rows n + s ≡ r
@@ -209,4 +211,35 @@ day-reached rows n r row before p =
       index = p .among;
       whole = omega (arith, p .days, p .day-to);
       within = λ l. omega (arith, p .days, p .day-to, p .next l l, sum-step (λ k. sum (lens rows k) 12) row);
+    }
+
+-- an accepted table is the table whose rows are not tested
+pub untested-is : (t : Table) (rows : List ℕ) → accepted t rows ≡ true → untested t rows ≡ flat t rows
+untested-is t rows e = rw e
+
+pub valid-is : (t : Table) (rows : List ℕ) (y m d : ℕ) → accepted t rows ≡ true → validBs (untested t rows) y m d ≡ validBs (flat t rows) y m d
+valid-is t rows y m d e = ap (λ (k : Calendar). validBs k y m d) (untested-is t rows e)
+
+-- in an accepted table, where a day lies
+pub placed-by : (t : Table) (rows : List ℕ) (start n i s : ℕ) → Facts t rows → start ≡ dayNumber (firstDay t) → FoundAt (λ k. sum (lens rows k) 12) (rowCount rows) (n - start) i s → PlacedIn t rows start n i s
+placed-by t rows start n i s f e p =
+    record {
+      begins = record { frame = f .frame; first = e };
+      most = omega (arith, p .whole);
+      short = λ l. omega (arith, p .within l, row-most rows i (f .row i l));
+      found = λ g. p;
+    }
+
+-- what `find` found from row i on is found in all rows
+sum-on : (f g : ℕ → ℕ) (i n : ℕ) → ((k : ℕ) → f (i + k) ≡ g k) → sum f (i + n) ≡ sum f i + sum g n
+sum-on f g i zero h = let e : i + 0 ≡ i = omega arith in rw (e, sum-zero g) (omega arith)
+sum-on f g i (suc n) h = let e : i + suc n ≡ i + n + 1 = omega arith in rw e (omega (arith, sum-on f g i n h, sum-suc g n, sum-step f (i + n), h n))
+
+pub found-on : (rows : List ℕ) (r i s k z : ℕ) → Begun rows r i s → FoundAt (column rows (12 + 13 * i) 13) (rowCount rows - i) s k z → FoundAt (column rows 12 13) (rowCount rows) r (i + k) z
+found-on rows r i s k z b p =
+    let e : (k : ℕ) → column rows 12 13 (i + k) ≡ column rows (12 + 13 * i) 13 k = λ k. let q : 12 + 13 * (i + k) ≡ 12 + 13 * i + 13 * k = omega arith in ap (λ (j : ℕ). getD rows j 0) q in
+    record {
+      index = omega (arith, p .index, b .row);
+      whole = omega (arith, b .whole, p .whole, sum-on (column rows 12 13) (column rows (12 + 13 * i) 13) i k e);
+      within = λ l. omega (arith, p .within (omega arith), e k);
     }

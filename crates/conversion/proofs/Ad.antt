@@ -27,7 +27,7 @@ use Rattle.conversion.specs.Flat.{date, firstDay, lens, rowCount, accept
 use Rattle.conversion.specs.Claims.{firstOf, lastOf, TableDay}
 use Rattle.conversion.proofs.Rows.{row-lens}
 use Rattle.conversion.proofs.Accepted.{facts}
-use Rattle.conversion.proofs.Days.{Valid, OnTable, found, from-outside, from-before, from-after, in-date, of-date, converts, converted, valid-on, number-of, from-to, to-from, to-order, from-order}
+use Rattle.conversion.proofs.Days.{Valid, OnTable, found, from-outside, from-before, from-after, in-date, of-date, date-refused, converts, converted, valid-on, number-of, from-to, to-from, to-order, from-order}
 
 -- a good calendar that has a day, and whose days are Gregorian dates
 pub record Served (c : Calendar) : Type 0 where
@@ -74,6 +74,11 @@ module _ (c : Calendar) (y m d : ℕ) where
       go true f = (f, sym (from-ad g f) ∙ e)
       go false f =
           absurd (let z = same-number (sym (given-on (c .good) BadTable _ g ∙ given-off (isDate y m d) NoSuchDate _ f) ∙ e) in let q : ⊥ = omega arith in q)
+
+-- what `toDay` refuses `toAd` refuses
+pub refused-ad : (c : Calendar) (y m d : ℕ) (k : Refusal) → refused k ≡ toDay c y m d → refused k ≡ toAd c y m d
+unfolding toDay toAd
+refused-ad c y m d k e = date-refused c y m d _ _ k e
 
 -- ---- the days of the table
 pub is-real : (x : Date) → isDate (x .year) (x .month) (x .day) ≡ true → IsReal x
@@ -127,6 +132,9 @@ module _ (c : Calendar) (s : Served c) where
 
   pub number-ad : (y m d n : ℕ) → toDay c y m d ≡ answered n → toAd c y m d ≡ answered (dateOf n)
   number-ad y m d n e = to-ad y m d (converted c y m d n e) ∙ ap (λ (k : ℕ). answered (dateOf k)) (sym (number-of c y m d n e))
+
+  pub number-numbered : (y m d n : ℕ) → toDay c y m d ≡ answered n → numbered n ≡ true
+  number-numbered y m d n e = subst⁻¹ (λ (k : ℕ). numbered k ≡ true) (number-of c y m d n e) (on-numbered c _ s (valid-on c y m d (converted c y m d n e)))
 
   -- it is a day of the table
   pub ad-table : (y m d : ℕ) (x : Date) → toAd c y m d ≡ answered x → TableDay c x

@@ -126,6 +126,15 @@ module _ {A : Type 0} (c : Calendar) (y m d : ℕ) (x : A) where
   pub valid-refused : (k : Refusal) → refused k ≡ validBs c y m d → refused k ≡ ofDate c y m d x
   valid-refused k e = rw (by-valid, ← e) (sym (then-refused k _))
 
+-- a date that one question refuses every other refuses
+pub date-refused : {A B : Type 0} (c : Calendar) (y m d : ℕ) (x : A) (z : B) (k : Refusal) → refused k ≡ ofDate c y m d x → refused k ≡ ofDate c y m d z
+unfolding then
+date-refused {A} {B} c y m d x z k e = go (validBs c y m d) (e ∙ by-valid c y m d x) ∙ sym (by-valid c y m d z)
+  where
+    go : (a : Answer Unit) → refused k ≡ then a (λ u. answered x) → refused k ≡ then a (λ u. answered z)
+    go (answered u) q = absurd (refused-answered (sym q) refl)
+    go (refused j) q = let h : k ≡ j = cc in ap refused h
+
 pub valid-told : (c : Calendar) (y m d : ℕ) → answered tt ≡ validBs c y m d → Valid c y m d
 unfolding validBs
 valid-told c y m d e = in-date c y m d tt (sym e) .0

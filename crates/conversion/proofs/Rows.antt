@@ -63,3 +63,7 @@ unfolding rowOk
 row-lens rows i m e h =
     let k = all-at (lenOk rows i) 12 (and-left (all (lenOk rows i) 12) _ e) m h in
     (leb-true _ _ (and-left (leb 29 (lens rows i m)) _ k), leb-true _ _ (and-right (leb 29 (lens rows i m)) _ k))
+
+pub row-most : (rows : List ℕ) (i : ℕ) → rowOk rows i ≡ true → sum (lens rows i) 12 ≤ 384
+unfolding rowOk
+row-most rows i e = omega (arith, lens-sum rows i 12 (and-left (all (lenOk rows i) 12) _ e) .1)

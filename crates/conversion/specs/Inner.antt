@@ -9,6 +9,7 @@ use Rattle.paper.specs.Sums.{sum, all}
 use Rattle.gregorian.specs.Calendar.{isDate, dayNumber}
 use Rattle.conversion.specs.declared.Table.{Table}
 use Rattle.conversion.specs.declared.check.Passed.{Passed}
+use Rattle.conversion.specs.Calendar.{Calendar}
 use Rattle.conversion.specs.Flat.{rowCount, lens, rowOk, rowDays, firstDay, date, accepted}
 
 -- the number of a date, 0 where there is none
@@ -17,6 +18,11 @@ numberOrZero y m d = cond (isDate y m d) (dayNumber (date y m d)) 0
 
 abbrev pub firstNumber : Table → ℕ
 firstNumber t = numberOrZero (t .year) (t .month) (t .day)
+
+-- the calendar of a lent table whose rows are not tested
+abbrev pub untested : Table → List ℕ → Calendar
+untested t rows =
+    record { good = true; first = t .«first_year»; start = dayNumber (firstDay t); years = rowCount rows; len = lens rows }
 
 -- every step-th number, from at
 abbrev pub column : List ℕ → ℕ → ℕ → ℕ → ℕ
@@ -46,12 +52,6 @@ pub record FoundAt (f : ℕ → ℕ) (n r i s : ℕ) : Type 0 where
   pub index : i ≤ n
   pub whole : sum f i + s ≡ r
   pub within : i < n → s < f i
-
--- in an accepted table that begins with day start, the days from start to n end s days after row i begins
-pub record PlacedIn (t : Table) (rows : List ℕ) (start n i s : ℕ) : Type 0 where
-  pub good : accepted t rows ≡ true
-  pub first : start ≡ dayNumber (firstDay t)
-  pub found : FoundAt (λ k. sum (lens rows k) 12) (rowCount rows) (n - start) i s
 
 -- the days of row i, or 0 where it breaks a rule
 pub record RowSays (rows : List ℕ) (i r : ℕ) : Type 0 where
@@ -95,6 +95,24 @@ pub record Frame (t : Table) (n : ℕ) : Type 0 where
   pub real : isDate (t .year) (t .month) (t .day) ≡ true
   pub day-from : 2415386 ≤ dayNumber (firstDay t)
 
+-- a table keeps these, and its first day is start
+pub record Begins (t : Table) (rows : List ℕ) (start : ℕ) : Type 0 where
+  pub frame : Frame t (length rows)
+  pub first : start ≡ dayNumber (firstDay t)
+
+-- row i is in such a table, and s days fit into sixteen bits
+pub record OfRow (t : Table) (rows : List ℕ) (i s : ℕ) : Type 0 where
+  pub frame : Frame t (length rows)
+  pub row : i < rowCount rows
+  pub short : s < 65535
+
+-- in a table that begins with day start, the days from start to n end s days after row i begins, if it is accepted
+pub record PlacedIn (t : Table) (rows : List ℕ) (start n i s : ℕ) : Type 0 where
+  pub begins : Begins t rows start
+  pub most : s ≤ n - start
+  pub short : i < rowCount rows → s < 65535
+  pub found : accepted t rows ≡ true → FoundAt (λ k. sum (lens rows k) 12) (rowCount rows) (n - start) i s
+
 -- r is the number of the first day, or 0 where one of these fails
 pub record FrameSays (t : Table) (n r : ℕ) : Type 0 where
   pub bad : r ≡ 0 → Frame t n → ⊥
@@ -107,3 +125,8 @@ pub record TableSays (t : Table) (rows : List ℕ) (until day : ℕ) (p : Passed
   pub bad : p .days ≡ 0 → accepted t rows ≡ false
   pub good : (p .days ≡ 0 → ⊥) → accepted t rows ≡ true
   pub reached : (p .days ≡ 0 → ⊥) → Reached rows (rowCount rows) until day (p .row) (p .before)
+
+-- row i begins s days before day r, by the sums that the rows have
+pub record Begun (rows : List ℕ) (r i s : ℕ) : Type 0 where
+  pub row : i ≤ rowCount rows
+  pub whole : sum (column rows 12 13) i + s ≡ r

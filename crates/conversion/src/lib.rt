@@ -5,13 +5,14 @@ ghost use Prim.Native.Nat.{_+_, _-_, _<_};
 ghost use Rattle.paper.specs.Sums.{sum};
 ghost use Rattle.gregorian.specs.Calendar.{dateOf};
 ghost use Rattle.gregorian.specs.Answers.{numbered, numberSays, dateSays};
-ghost use Rattle.conversion.specs.Calendar.{yearOk, monthLen, validBs, toDay, dateInYear, placed, toAd, fromAd};
+ghost use Rattle.conversion.specs.Calendar.{yearOk, monthLen, validBs, toDay, dateInYear, placed, fromDay, toAd, fromAd};
 ghost use Rattle.conversion.specs.Flat.{accepted, flat, lens, rowCount};
-ghost use Rattle.conversion.specs.Inner.{numberOrZero, firstNumber, InRow, PlacedIn};
+ghost use Rattle.conversion.specs.Inner.{numberOrZero, firstNumber, untested, Begins, InRow, OfRow, PlacedIn};
 ghost use Rattle.conversion.specs.Answers.{daysSays, validSays, bsSays};
 
 mod check;
 mod columns;
+pub mod known;
 
 use gregorian::Date;
 use gregorian::DateAnswer;
@@ -125,10 +126,9 @@ fn row_of(table: Table, year: u16) -> usize
     (year - table.first_year) as usize
 }
 
-// The length of a month of an accepted table.
-pub fn month_days(table: Table, rows: &[u16], year: u16, month: u16) -> MonthDays
-    requires { ⌜ accepted table (now rows) ≡ true ⌝ }
-    ensures { λ r. ⌜ daysSays r ≡ monthLen (flat table (now (rows .entry))) year month ⌝ }
+// The length of a month of a table whose rows are not tested.
+fn month_at(table: Table, rows: &[u16], year: u16, month: u16) -> MonthDays
+    ensures { λ r. ⌜ daysSays r ≡ monthLen (untested table (now (rows .entry))) year month ⌝ }
 {
     if !is_year(table, rows, year) {
         return MonthDays::Refused(Refusal::NoYear);
@@ -143,12 +143,19 @@ pub fn month_days(table: Table, rows: &[u16], year: u16, month: u16) -> MonthDay
     MonthDays::Days(len)
 }
 
-// Whether a date is one of an accepted table.
-fn date_check(table: Table, rows: &[u16], date: BsDate) -> Validity
+// The length of a month of an accepted table.
+pub fn month_days(table: Table, rows: &[u16], year: u16, month: u16) -> MonthDays
     requires { ⌜ accepted table (now rows) ≡ true ⌝ }
-    ensures { λ r. ⌜ validSays r ≡ validBs (flat table (now (rows .entry))) (date .year) (date .month) (date .day) ⌝ }
+    ensures { λ r. ⌜ daysSays r ≡ monthLen (flat table (now (rows .entry))) year month ⌝ }
 {
-    let days = month_days(table, rows, date.year, date.month);
+    month_at(table, rows, year, month)
+}
+
+// Whether a date is one of a table whose rows are not tested.
+fn date_check(table: Table, rows: &[u16], date: BsDate) -> Validity
+    ensures { λ r. ⌜ validSays r ≡ validBs (untested table (now (rows .entry))) (date .year) (date .month) (date .day) ⌝ }
+{
+    let days = month_at(table, rows, date.year, date.month);
     match days {
         MonthDays::Refused(k) => Validity::Refused(k),
         MonthDays::Days(len) => {
@@ -172,26 +179,35 @@ fn day_in_row(rows: &[u16], i: usize, first: u32, month: u16, day: u16) -> u32
     first + months + (day - 1) as u32
 }
 
-// The number of a day of an accepted table.
-pub fn day_of(table: Table, rows: &[u16], date: BsDate) -> NumberAnswer
-    requires { ⌜ accepted table (now rows) ≡ true ⌝ }
-    ensures { λ r. ⌜ numberSays r ≡ toDay (flat table (now (rows .entry))) (date .year) (date .month) (date .day) ⌝ }
+// The number of a day of a table that begins with day start and whose rows are not tested.
+fn number_of(table: Table, rows: &[u16], start: u32, date: BsDate) -> NumberAnswer
+    requires { ⌜ Begins table (now rows) start ⌝ }
+    ensures { λ r. ⌜ (accepted table (now (rows .entry)) ≡ true
+        → numberSays r ≡ toDay (flat table (now (rows .entry))) (date .year) (date .month) (date .day)) ⌝ }
 {
     let check = date_check(table, rows, date);
     match check {
         Validity::Refused(k) => NumberAnswer::Refused(k),
         Validity::Valid => {
             let i = (date.year - table.first_year) as usize;
-            let first = first_day(table) + columns::span(rows, 12, 13, i);
+            let first = start + columns::span(rows, 12, 13, i);
             NumberAnswer::Number(day_in_row(rows, i, first, date.month, date.day))
         }
     }
 }
 
-// The date that lies rest days after the first day of row i of an accepted table.
+// The number of a day of an accepted table.
+pub fn day_of(table: Table, rows: &[u16], date: BsDate) -> NumberAnswer
+    requires { ⌜ accepted table (now rows) ≡ true ⌝ }
+    ensures { λ r. ⌜ numberSays r ≡ toDay (flat table (now (rows .entry))) (date .year) (date .month) (date .day) ⌝ }
+{
+    number_of(table, rows, first_day(table), date)
+}
+
+// The date that lies rest days after the first day of row i.
 fn date_in_row(table: Table, rows: &[u16], i: usize, rest: u32) -> BsDate
-    requires { ⌜ (accepted table (now rows) ≡ true) × (i < rowCount (now rows)) × (rest < sum (lens (now rows) i) 12) ⌝ }
-    ensures { λ r. ⌜ r ≡ dateInYear (flat table (now (rows .entry))) i rest ⌝ }
+    requires { ⌜ OfRow table (now rows) i rest ⌝ }
+    ensures { λ r. ⌜ (rest < sum (lens (now (rows .entry)) i) 12 → r ≡ dateInYear (flat table (now (rows .entry))) i rest) ⌝ }
 {
     let p = columns::find(rows, 13 * i, 1, 12, rest);
     BsDate {
@@ -211,10 +227,10 @@ fn days_from(start: u32, n: u32) -> u32
     n - start
 }
 
-// Where day n lies in an accepted table whose first day is start, once the row is known: the days from start to n end rest days after row i begins.
+// Where day n lies in a table that begins with day start, once the row is known: the days from start to n end rest days after row i begins.
 fn place_in(table: Table, rows: &[u16], start: u32, n: u32, i: usize, rest: u32) -> Placed
     requires { ⌜ PlacedIn table (now rows) start n i rest ⌝ }
-    ensures { λ r. ⌜ r ≡ placed (flat table (now (rows .entry))) n ⌝ }
+    ensures { λ r. ⌜ (accepted table (now (rows .entry)) ≡ true → r ≡ placed (flat table (now (rows .entry))) n) ⌝ }
 {
     if n < start {
         return Placed::Before(start - n);
@@ -291,6 +307,19 @@ pub fn bs_to_ad(table: Table, rows: &[u16], date: BsDate) -> DateAnswer
     }
 }
 
+// The date of day n, once its row is known: refusal 7.
+fn date_at(table: Table, rows: &[u16], start: u32, n: u32, i: usize, rest: u32) -> BsAnswer
+    requires { ⌜ PlacedIn table (now rows) start n i rest ⌝ }
+    ensures { λ r. ⌜ (accepted table (now (rows .entry)) ≡ true → bsSays r ≡ fromDay (flat table (now (rows .entry))) n) ⌝ }
+{
+    let place = place_in(table, rows, start, n, i, rest);
+    match place {
+        Placed::Inside(d) => BsAnswer::Is(d),
+        Placed::Before(k) => BsAnswer::Refused(Refusal::Before(k)),
+        Placed::After(k) => BsAnswer::Refused(Refusal::After(k)),
+    }
+}
+
 // The BS date of a Gregorian date: refusals 1, 3 and 7, which tells how far outside the table the date lies.
 pub fn ad_to_bs(table: Table, rows: &[u16], year: u16, month: u16, day: u16) -> BsAnswer
     ensures { λ r. ⌜ bsSays r ≡ fromAd (flat table (now (rows .entry))) year month day ⌝ }
@@ -305,10 +334,5 @@ pub fn ad_to_bs(table: Table, rows: &[u16], year: u16, month: u16, day: u16) -> 
     if n == 0 {
         return BsAnswer::Refused(Refusal::NoSuchDate);
     }
-    let place = place_in(table, rows, start, n, p.row, offset - p.before);
-    match place {
-        Placed::Inside(d) => BsAnswer::Is(d),
-        Placed::Before(k) => BsAnswer::Refused(Refusal::Before(k)),
-        Placed::After(k) => BsAnswer::Refused(Refusal::After(k)),
-    }
+    date_at(table, rows, start, n, p.row, offset - p.before)
 }

@@ -7,12 +7,11 @@ use mathlib.Core.Bool.{true}
 use Rattle.paper.specs.declared.Refusal.the-variants.{BadTable, NoSuchDate}
 use Rattle.paper.specs.Sums.{sum}
 use Rattle.paper.proofs.Answers.{given-on, given-off}
-use Rattle.gregorian.specs.Calendar.{dayNumber}
-use Rattle.conversion.specs.Calendar.{fromAd, placed}
-use Rattle.conversion.specs.Flat.{flat, date, lens, rowCount, accepted}
+use Rattle.conversion.specs.Calendar.{fromDay, fromAd}
+use Rattle.conversion.specs.Flat.{flat, lens, rowCount, accepted}
 use Rattle.conversion.specs.Inner.{FoundAt}
-use Rattle.conversion.proofs.Accepted.{facts, number-real, number-no, day-reached}
-use Rattle.conversion.proofs.Days.{insideOnly, from-placed}
+use Rattle.conversion.proofs.Accepted.{facts, number-real, number-no, day-reached, placed-by}
+use Rattle.conversion.proofs.Ad.{from-ad}
 use Rattle.conversion.proofs.ad_to_bs.Statement.{statement}
 use Rattle.conversion.proofs.ad_to_bs.Tie as tie
 
@@ -34,43 +33,26 @@ returns-2 c =
     let e = number-no (a .year) (a .month) (a .day) (sym (c .before .before .before .before .before .number-or-zero .ensures) ∙ c .if2 .taken) in
     sym (given-on _ BadTable _ (good (c .before)) ∙ given-off _ NoSuchDate _ e)
 
-sub-place-in : tie.Need-sub-place-in
-sub-place-in c = c .before .before .before .before .pass-table .ensures .reached (c .before .before .if1 .left) .day-to
+sub-date-at : tie.Need-sub-date-at
+sub-date-at c = c .before .before .before .before .pass-table .ensures .reached (c .before .before .if1 .left) .day-to
 
-place-in-requires : tie.Need-place-in-requires
-place-in-requires c κs =
-    let g = good (c .before .before) in
+date-at-requires : tie.Need-date-at-requires
+date-at-requires c κs =
+    let f = facts _ _ (good (c .before .before)) in
     let s = c .before .before .before .before .before .before .before .frame .ensures in
-    record {
-      good = g;
-      first = s .start (λ z. s .bad z (facts _ _ g .frame));
-      found = rw (← c .before .before .before .before .before .days-from .ensures) (reached (c .before .before));
-    }
+    placed-by _ _ _ _ _ _ f (s .start (λ z. s .bad z (f .frame))) (rw (← c .before .before .before .before .before .days-from .ensures) (reached (c .before .before)))
 
--- the answer, by where the day lies
-answer : (c : tie.After-place-in) → let a = c .before .before .before .before .before .before .before .before .before .before .args in fromAd (flat (a .table) (now (a .rows))) (a .year) (a .month) (a .day) ≡ insideOnly (c .place-in .result)
-unfolding fromAd
-answer c =
+returns-3 : tie.Need-returns-3
+returns-3 c =
     let a = c .before .before .before .before .before .before .before .before .before .before .args in
     let g = good (c .before .before .before) in
     let n = c .before .before .before .before .before .before .before .number-or-zero in
     let r = number-real (a .year) (a .month) (a .day) (n .result) (n .ensures) (omega (arith, c .before .before .if2 .left)) in
-    let t = flat (a .table) (now (a .rows)) in
-    let e : placed t (dayNumber (date (a .year) (a .month) (a .day))) ≡ c .place-in .result = rw (← r .1) (sym (c .place-in .ensures)) in
-    given-on _ BadTable _ g ∙ given-on _ NoSuchDate _ (r .0) ∙ from-placed t _ g ∙ ap insideOnly e
-
-returns-3 : tie.Need-returns-3
-returns-3 c = sym (answer (c .before .before .before) ∙ ap insideOnly (c .before .place .given .1))
-
-returns-4 : tie.Need-returns-4
-returns-4 c = sym (answer (c .before .before .before) ∙ ap insideOnly (c .before .place2 .given .1))
-
-returns-5 : tie.Need-returns-5
-returns-5 c = sym (answer (c .before .before .before) ∙ ap insideOnly (c .before .place3 .given .1))
+    c .date-at .ensures g ∙ ap (fromDay (flat (a .table) (now (a .rows)))) (r .1) ∙ sym (from-ad _ (a .year) (a .month) (a .day) g (r .0))
 
 pub ad-to-bs-spec : {M : Type 1} → statement M
 ad-to-bs-spec =
     tie.close
     (tie.spec
-    (λ c κs. search needs) (λ c κs. search needs) (λ c κs. search needs) (λ c κs. search needs) returns returns-2 sub-place-in place-in-requires
-    (λ c. search needs) (λ c. search needs) (λ c. search needs) returns-3 returns-4 returns-5)
+    (λ c κs. search needs) (λ c κs. search needs) (λ c κs. search needs) (λ c κs. search needs) returns returns-2 sub-date-at date-at-requires
+    returns-3)

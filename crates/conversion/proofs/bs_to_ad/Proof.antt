@@ -6,10 +6,10 @@ use denote.Ref.{now}
 use Rattle.paper.specs.Answers.{answered}
 use Rattle.gregorian.specs.Calendar.{dayNumber, dateOf}
 use Rattle.paper.proofs.Answers.{said}
-use Rattle.conversion.specs.Calendar.{toAd, dayAt}
+use Rattle.conversion.specs.Calendar.{toAd, dayAt, validBs}
 use Rattle.conversion.specs.Flat.{flat, rowDays, firstDay}
 use Rattle.conversion.specs.Answers.{validSays}
-use Rattle.conversion.proofs.Accepted.{Facts, facts, rows-before, row-reached}
+use Rattle.conversion.proofs.Accepted.{Facts, facts, rows-before, row-reached, valid-is}
 use Rattle.conversion.proofs.Ad.{served, on-numbered}
 use Rattle.conversion.proofs.Days.{Valid, no-table, valid-told, valid-refused, valid-on, of-date}
 use Rattle.conversion.proofs.bs_to_ad.Statement.{statement}
@@ -21,12 +21,15 @@ returns c =
     let a = c .before .before .before .before .before .before .args in
     sym (no-table (flat (a .table) (now (a .rows))) (a .date .year) (a .date .month) _ (c .before .before .pass-table .ensures .bad (c .if1 .taken)))
 
-date-check-requires : tie.Need-date-check-requires
-date-check-requires c κs = c .before .before .pass-table .ensures .good (c .if1 .left)
+-- whether the date is one of the table that was accepted
+checked : (c : tie.After-date-check) → let a = c .before .before .before .before .before .before .before .args in validSays (c .date-check .result) ≡ validBs (flat (a .table) (now (a .rows))) (a .date .year) (a .date .month) (a .date .day)
+checked c =
+    let d = c .before .before .before .before .before .before .before .args .date in
+    c .date-check .ensures ∙ valid-is _ _ (d .year) (d .month) (d .day) (c .before .before .before .pass-table .ensures .good (c .before .if1 .left))
 
 -- where the date is one of the table: its facts, its row and the days before it, and the number of the first day
 known : (c : tie.After-enum-told) → let a = c .before .before .before .before .before .before .before .before .before .args in Valid (flat (a .table) (now (a .rows))) (a .date .year) (a .date .month) (a .date .day)
-known c = valid-told _ _ _ _ (said validSays (c .enum-told .given .1) (c .before .before .date-check .ensures))
+known c = valid-told _ _ _ _ (said validSays (c .enum-told .given .1) (checked (c .before .before)))
 
 table : (c : tie.After-enum-told) → let a = c .before .before .before .before .before .before .before .before .before .args in Facts (a .table) (now (a .rows))
 table c = facts _ _ (known c .month .good)
@@ -75,7 +78,7 @@ date-of-requires c κs =
 
 returns-2 : tie.Need-returns-2
 unfolding toAd
-returns-2 c = valid-refused _ _ _ _ _ _ (said validSays (c .before .check .given .1) (c .before .before .before .date-check .ensures))
+returns-2 c = valid-refused _ _ _ _ _ _ (said validSays (c .before .check .given .1) (checked (c .before .before .before)))
 
 returns-3 : tie.Need-returns-3
 unfolding toAd
@@ -85,5 +88,5 @@ pub bs-to-ad-spec : {M : Type 1} → statement M
 bs-to-ad-spec =
     tie.close
     (tie.spec
-    (λ c κs. search needs) (λ c κs. search needs) (λ c κs. search needs) returns date-check-requires (λ c. search needs) (λ c. search needs)
+    (λ c κs. search needs) (λ c κs. search needs) (λ c κs. search needs) returns (λ c κs. search needs) (λ c. search needs) (λ c. search needs)
     add-day-in-row day-in-row-requires date-of-requires returns-2 returns-3)

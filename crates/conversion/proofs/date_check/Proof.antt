@@ -5,18 +5,18 @@ use borrow.Author.Needs.{needs}
 use denote.Ref.{now}
 use Rattle.paper.proofs.Answers.{said}
 use Rattle.conversion.specs.Calendar.{Calendar, validBs}
-use Rattle.conversion.specs.Flat.{flat}
+use Rattle.conversion.specs.Inner.{untested}
 use Rattle.conversion.specs.Answers.{daysSays}
 use Rattle.conversion.proofs.Days.{InTable, len-told, no-day, of-date, len-refused}
 use Rattle.conversion.proofs.date_check.Statement.{statement}
 use Rattle.conversion.proofs.date_check.Tie as tie
 
 abbrev cal : tie.Start → Calendar
-cal c = flat (c .args .table) (now (c .args .rows))
+cal c = untested (c .args .table) (now (c .args .rows))
 
 -- where the month's length was found
 known : (c : tie.After-known-told2) → let s = c .before .before .before .before .before in InTable (cal s) (s .args .date .year) (s .args .date .month) × (cal s .len (s .args .date .year - s .args .table .«first_year») (s .args .date .month - 1) ≡ c .before .days2 .given .0 .0)
-known c = len-told _ _ _ _ (said daysSays (c .before .days2 .given .1) (c .before .before .before .month-days .ensures))
+known c = len-told _ _ _ _ (said daysSays (c .before .days2 .given .1) (c .before .before .before .month-at .ensures))
 
 returns : tie.Need-returns
 unfolding validBs
@@ -35,7 +35,7 @@ returns-2 c =
 
 returns-3 : tie.Need-returns-3
 unfolding validBs
-returns-3 c = len-refused _ _ _ (c .before .before .before .before .before .args .date .day) tt _ (said daysSays (c .before .days .given .1) (c .before .before .before .month-days .ensures))
+returns-3 c = len-refused _ _ _ (c .before .before .before .before .before .args .date .day) tt _ (said daysSays (c .before .days .given .1) (c .before .before .before .month-at .ensures))
 
 returns-4 : tie.Need-returns-4
 unfolding validBs

@@ -3,38 +3,34 @@ use native.Mathlib.Omega.{arith}
 use borrow.Author.Needs.{needs}
 use denote.Ref.{now}
 use Rattle.conversion.specs.Flat.{flat}
-use Rattle.conversion.proofs.Accepted.{Facts, facts, RowDay, month-found}
+use Rattle.conversion.proofs.Accepted.{months-in, month-found}
 use Rattle.conversion.proofs.Days.{date-is}
 use Rattle.conversion.proofs.date_in_row.Statement.{statement}
 use Rattle.conversion.proofs.date_in_row.Tie as tie
 
-table : (c : tie.After-find) → let a = c .before .before .args in Facts (a .table) (now (a .rows))
-table c = facts _ _ (c .before .before .pre .0)
-
--- where the day was found
-spot : (c : tie.After-find) → let a = c .before .before .args in RowDay (now (a .rows)) (a .i) (a .rest) (c .find .result .index) (c .find .result .rest)
-spot c = let p = c .before .before .pre in month-found _ _ (table c) _ _ _ _ (p .1) (p .2) (c .find .ensures)
+find-requires : tie.Need-find-requires
+find-requires c κs = months-in _ _ _ (omega (arith, c .before .pre .row)) (omega arith)
 
 cast-t7 : tie.Need-cast-t7
-cast-t7 c = omega (arith, table c)
+cast-t7 c = omega (arith, c .before .before .pre .row, c .before .before .pre .frame .few)
 
 add-t8 : tie.Need-add-t8
-add-t8 c = omega (arith, table (c .before))
+add-t8 c = omega (arith, c .before .before .before .pre .row, c .before .before .before .pre .frame)
 
 cast-t11 : tie.Need-cast-t11
-cast-t11 c = omega (arith, spot (c .before .before .before) .short)
+cast-t11 c = omega (arith, c .before .before .before .find .ensures .whole, c .before .before .before .before .before .pre .short)
 
 add-t12 : tie.Need-add-t12
-add-t12 c = omega (arith, spot (c .before .before .before) .short)
+add-t12 c = omega (arith, c .before .before .before .find .ensures .whole, c .before .before .before .before .before .pre .short)
 
 returns : tie.Need-returns
-returns c =
+returns c h =
     let a = c .before .before .before .before .before .args in
-    let s = spot (c .before .before .before) in
+    let s = month-found (now (a .rows)) (a .i) _ _ _ h (c .before .before .before .find .ensures) in
     sym (date-is (flat (a .table) (now (a .rows))) (a .i) _ _ (a .rest) (s .within) (s .whole))
 
 pub date-in-row-spec : {M : Type 1} → statement M
 date-in-row-spec =
     tie.close
     (tie.spec
-    (λ c. search needs) (λ c κs. search needs) cast-t7 add-t8 (λ c. search needs) (λ c. search needs) cast-t11 add-t12 returns)
+    (λ c. search needs) find-requires cast-t7 add-t8 (λ c. search needs) (λ c. search needs) cast-t11 add-t12 returns)
