@@ -4,5 +4,6 @@ pub mod Records
 pub mod Goods
 pub mod Outcomes
 pub mod Replies
+pub mod Conversions
 pub mod Theorems
 pub mod Unique

@@ -36,7 +36,7 @@ use Rattle.kept.proofs.Goods.{good-drawn, good-on}
 
 -- ---- whether a row is held
 
-is-empty : (l : List ℕ) → length l ≡ 0 → empty l ≡ true
+pub is-empty : (l : List ℕ) → length l ≡ 0 → empty l ≡ true
 is-empty [] h = refl
 is-empty (x ∷ l) h = absurd (omega arith)
 

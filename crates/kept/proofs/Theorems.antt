@@ -13,7 +13,7 @@ use Rattle.gregorian.specs.declared.Date.{Date}
 use Rattle.gregorian.specs.Calendar.{isDate, dayNumber}
 use Rattle.conversion.specs.declared.Table.{Table}
 use Rattle.conversion.specs.declared.BsDate.{BsDate}
-use Rattle.conversion.specs.Calendar.{Calendar, fromDay, fromAd}
+use Rattle.conversion.specs.Calendar.{Calendar, fromDay, toAd, fromAd}
 use Rattle.conversion.specs.Flat.{accepted, flat, date}
 use Rattle.conversion.proofs.Ad.{from-ad}
 use Rattle.rules.specs.declared.Rule.{Rule}
@@ -27,10 +27,12 @@ use Rattle.grid.specs.Month.{Shown}
 use Rattle.grid.specs.Kathmandu.{monthShown}
 use Rattle.kept.specs.State.{State, calendar, yearNumbers, drawn, Good}
 use Rattle.kept.specs.Operations.{start, outcome, withRules, takeRules, withRow, appendRow, after, rowFirst, askBs, drawnOn, askAd, rowFirstMonth, askMonth, Operation, run}
+use Rattle.kept.specs.Converting.{askToAd, askFromAd}
 use Rattle.kept.specs.Claims.{Leaves, Keeps}
 use Rattle.kept.proofs.Fresh.{numbers-fresh}
 use Rattle.kept.proofs.Goods.{good-start, good-run}
 use Rattle.kept.proofs.Replies.{row-less, row-held, month-less, month-held}
+use Rattle.kept.proofs.Conversions.{if-none, if-some}
 
 -- ---- a Gregorian date whose list is answered has a BS date
 
@@ -108,7 +110,7 @@ module _ (σ : State) where
       (t .0, (t .1, after-stores (drawnOn c (fromAd c y m d)) (rowFirst (σ .rows) (ad y m d out) out .answer) n e ∙ ap (drawnOn c) (t .1)))
 
   pub keeps : Good σ → Keeps σ
-  unfolding takeRules appendRow askBs askAd askMonth
+  unfolding takeRules appendRow askBs askAd askMonth askToAd askFromAd
   keeps g =
       let c = calendar σ in
       record {
@@ -116,9 +118,13 @@ module _ (σ : State) where
         list = λ h y m d out. row-held (σ .rows) (λ z. h (no-length (σ .rows) z)) (bs y m d out) out;
         list-ad = λ h y m d out. row-held (σ .rows) (λ z. h (no-length (σ .rows) z)) (ad y m d out) out;
         month = λ h today y m cells festivals. month-held (σ .rows) (λ z. h (no-length (σ .rows) z)) (page today y m cells festivals) cells festivals;
+        to-ad = λ h y m d. if-some (σ .rows) (toAd c y m d) (λ z. h (no-length (σ .rows) z));
+        to-bs = λ h y m d. if-some (σ .rows) (fromAd c y m d) (λ z. h (no-length (σ .rows) z));
         no-row = λ h y m d out. row-less (σ .rows) (ap length h) (bs y m d out) out;
         no-row-ad = λ h y m d out. row-less (σ .rows) (ap length h) (ad y m d out) out;
         no-row-month = λ h today y m cells festivals. month-less (σ .rows) (ap length h) (page today y m cells festivals) cells festivals;
+        no-row-to-ad = λ h y m d. if-none (σ .rows) (toAd c y m d) (ap length h);
+        no-row-to-bs = λ h y m d. if-none (σ .rows) (fromAd c y m d) (ap length h);
         list-stores = λ y m d out n e. after-stores (drawn c y m) (rowFirst (σ .rows) (bs y m d out) out .answer) n e;
         list-ad-stores = ad-stores;
         month-stores = λ today y m cells festivals x e. after-stores (drawn c y m) (rowFirstMonth (σ .rows) (page today y m cells festivals) cells festivals .answer) x e;

@@ -7,12 +7,13 @@ use Rattle.paper.specs.declared.Refusal.the-variants.{NoRow}
 use Rattle.paper.specs.Answers.{Answer, answered, refused}
 use Rattle.gregorian.specs.declared.Date.{Date}
 use Rattle.conversion.specs.declared.BsDate.{BsDate}
-use Rattle.conversion.specs.Calendar.{fromAd}
+use Rattle.conversion.specs.Calendar.{toAd, fromAd}
 use Rattle.festivals.specs.Answers.{onBs, onAd}
 use Rattle.grid.specs.declared.Month.{Month}
 use Rattle.grid.specs.Kathmandu.{monthShown}
 use Rattle.kept.specs.State.{State, calendar, yearNumbers, drawn, Good}
 use Rattle.kept.specs.Operations.{takeRules, appendRow, forgotten, askBs, askAd, askMonth}
+use Rattle.kept.specs.Converting.{askToAd, askFromAd}
 
 -- a refusal leaves the state
 abbrev pub Leaves : {A : Type 0} → State → Answer A → State → Type 0
@@ -26,11 +27,15 @@ pub record Keeps (σ : State) : Type 0 where
   pub list-ad : (σ .rows ≡ [] → ⊥) → (y m d : ℕ) (out : List ℕ) → askAd σ y m d out .listed ≡ onAd (σ .table) (σ .rows) (σ .rules) y m d out
   pub month : (σ .rows ≡ [] → ⊥) → (today : Date) (y m : ℕ) (cells festivals : List ℕ)
       → askMonth σ today y m cells festivals .shown ≡ monthShown (σ .table) (σ .rows) (σ .rules) today y m cells festivals
+  pub to-ad : (σ .rows ≡ [] → ⊥) → (y m d : ℕ) → askToAd σ y m d ≡ toAd (calendar σ) y m d
+  pub to-bs : (σ .rows ≡ [] → ⊥) → (y m d : ℕ) → askFromAd σ y m d ≡ fromAd (calendar σ) y m d
   -- before a row is held each question is refused with 13, and no lent number changes
   pub no-row : σ .rows ≡ [] → (y m d : ℕ) (out : List ℕ) → askBs σ y m d out .listed ≡ record { answer = refused NoRow; buffer = out }
   pub no-row-ad : σ .rows ≡ [] → (y m d : ℕ) (out : List ℕ) → askAd σ y m d out .listed ≡ record { answer = refused NoRow; buffer = out }
   pub no-row-month : σ .rows ≡ [] → (today : Date) (y m : ℕ) (cells festivals : List ℕ)
       → askMonth σ today y m cells festivals .shown ≡ record { answer = refused NoRow; cells = cells; festivals = festivals }
+  pub no-row-to-ad : σ .rows ≡ [] → (y m d : ℕ) → askToAd σ y m d ≡ refused NoRow
+  pub no-row-to-bs : σ .rows ≡ [] → (y m d : ℕ) → askFromAd σ y m d ≡ refused NoRow
   -- an answered question leaves stored exactly the table years that its day or its month draws from
   pub list-stores : (y m d : ℕ) (out : List ℕ) (n : ℕ) → askBs σ y m d out .listed .answer ≡ answered n
       → yearNumbers (askBs σ y m d out .state .stored) ≡ drawn (calendar σ) y m

@@ -1,5 +1,6 @@
 // One state that keeps a year table, rules and the resolved years of the last answered question.
 pub mod asking;
+pub mod converting;
 pub mod months;
 mod years;
 
