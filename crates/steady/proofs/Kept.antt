@@ -36,6 +36,9 @@ module _ (σ : State) (g : Good σ) (h : σ .rows ≡ [] → ⊥) (row : List �
         list-ad = λ y m d out. rw (u .list-ad h y m d out, v .list-ad some y m d out) (s .list-ad y m d out);
         list-outside = λ y m d out. rw (u .list-ad h y m d out, v .list-ad some y m d out) (s .list-outside y m d out);
         month = λ today y m cells festivals. rw (u .month h today y m cells festivals, v .month some today y m cells festivals) (steady (σ .table) (σ .rows) row (σ .rules) today held e .month y m cells festivals);
+        to-ad = λ y m d. rw (u .to-ad h y m d, v .to-ad some y m d) (s .to-ad y m d);
+        to-bs = λ y m d. rw (u .to-bs h y m d, v .to-bs some y m d) (s .to-bs y m d);
+        bs-outside = λ y m d. rw (u .to-bs h y m d, v .to-bs some y m d) (s .bs-outside y m d);
       }
 
   by-test : (b : Bool) → (b ≡ true → accepted (σ .table) (σ .rows ++ row) ≡ true) → outcome σ (given b BadTable (answered (withRow σ row))) .answer ≡ answered tt

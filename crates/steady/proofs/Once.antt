@@ -61,6 +61,8 @@ use Rattle.kept.proofs.stored.Reads as KeptStored
 use Rattle.kept.proofs.asking.ask_bs.Reads as KeptBs
 use Rattle.kept.proofs.asking.ask_ad.Reads as KeptAd
 use Rattle.kept.proofs.months.ask_month.Reads as KeptMonth
+use Rattle.kept.proofs.converting.bs_to_ad.Reads as KeptToAd
+use Rattle.kept.proofs.converting.ad_to_bs.Reads as KeptToBs
 use Rattle.kept.proofs.Unique.{holds-only, started-only, done-only, asked-only, month-only, stored-only}
 use Rattle.steady.specs.Once.{OneAnswer, OneOutcome, OneAnswerIf, OneOutcomeIf}
 
@@ -239,3 +241,9 @@ kept-ad k a w x y s t p q = asked-only x y _ _ _ (p w) (q w)
 -- cells and festivals are the fifth and sixth parameters
 pub kept-month : OneOutcomeIf {B = List ℕ × List ℕ} (λ k a. Ready (a .0)) KeptMonth.Learnt (λ k s. (now (s .1 .1 .1 .1 .0), now (s .1 .1 .1 .1 .1 .0)))
 kept-month k a w x y s t p q = let m = month-only x y _ _ _ _ _ (p w) (q w) in (m .0, both (m .1 .0) (m .1 .1))
+
+pub kept-to-ad : OneAnswerIf (λ k a. Ready (a .0)) KeptToAd.Learnt
+kept-to-ad k a w x y s t p q = date-only x y (p w ∙ sym (q w))
+
+pub kept-to-bs : OneAnswerIf (λ k a. Ready (a .0)) KeptToBs.Learnt
+kept-to-bs k a w x y s t p q = bs-only x y (p w ∙ sym (q w))
