@@ -1,68 +1,39 @@
+-- `shelf::put_all` meets its contract. Assumes nothing.
 use borrow.Author.Needs.{needs}
+use native.Mathlib.Omega.{arith}
+use Rattle.shelf.proofs.Sizes.{Sized, sized, written}
 use Rattle.shelf.proofs.put_all.Statement.{statement}
 use Rattle.shelf.proofs.put_all.Tie as tie
 use Rattle.shelf.proofs.put_all.Reads as reads
 use Rattle.shelf.proofs.put_all.Lts as lts
-use Rattle.grid.proofs.page.put_at.Reads as put-at-reads
-use Rattle.shelf.proofs.head_of.Reads as head-of-reads
-use Rattle.shelf.proofs.put_days.Reads as put-days-reads
 
--- src/lib.rt:166:16
-head-of-requires : tie.Need-head-of-requires
-head-of-requires c κs = search needs
+-- the state's arrays have their lengths
+sizes : (c : tie.Start) → Sized (c .args .state)
+sizes c =
+    let k = c .args .state in
+    let o = c .good .0 .1 .1 in
+    let y = o .1 .1 .1 .1 .1 .0 .1 .1 .1 .1 .0 .1 .1 in
+    record {
+      rows = sized (k .rows) 1664 (o .1 .0 .1 .0 .1);
+      rules = sized (k .rules) 2560 (o .1 .1 .1 .0 .1 .0 .1);
+      before = sized (k .store .years .before .days) 64 (y .0 .1 .1 .0 .1 .0 .1);
+      this = sized (k .store .years .this .days) 64 (y .1 .0 .1 .1 .0 .1 .0 .1);
+    }
 
--- src/lib.rt:169:20
-slice-aggregate-put-at : tie.Need-slice-aggregate-put-at
-slice-aggregate-put-at c = search needs
-
--- src/lib.rt:169:5
-put-at-requires : tie.Need-put-at-requires
-put-at-requires c κs = search needs
-
--- src/lib.rt:170:20
-slice-aggregate-put-at-2 : tie.Need-slice-aggregate-put-at-2
-slice-aggregate-put-at-2 c = search needs
-
--- src/lib.rt:170:5
 put-at-requires-2 : tie.Need-put-at-requires-2
-put-at-requires-2 c κs = ?
+put-at-requires-2 c κs = let s = c .before .before .before .before .before .before .before .before .before .before .before in omega (arith, sizes s .rows)
 
--- src/lib.rt:171:23
-slice-aggregate-put-at-3 : tie.Need-slice-aggregate-put-at-3
-slice-aggregate-put-at-3 c = search needs
-
--- src/lib.rt:171:5
 put-at-requires-3 : tie.Need-put-at-requires-3
-put-at-requires-3 c κs = ?
+put-at-requires-3 c κs = let s = c .before .before .before .before .before .before .before .before .before .before .before .before .before .before .before .before in omega (arith, sizes s .rules)
 
--- src/lib.rt:172:5
-put-days-requires : tie.Need-put-days-requires
-put-days-requires c κs = search needs
-
--- src/lib.rt:173:5
-put-days-requires-2 : tie.Need-put-days-requires-2
-put-days-requires-2 c κs = search needs
-
--- src/lib.rt:161:1
-same-length : tie.Need-same-length
-same-length c = search needs
-
--- src/lib.rt:161:1
 returns : tie.Need-returns
-returns c = ?
+returns c =
+    let p = c .before .before .before .before .before .before .before .before .before .before in
+    let s = p .before .before .before .before .before .before .before .before .before .before .before .before .before .before .before .before .before in
+    written (s .args .state) (sizes s) (s .args .out .now) _ _ _ _ _ _ (s .pre .0) (p .before .before .before .before .before .before .before .before .before .before .before .before .before .before .before .head-of .ensures) (p .before .before .before .before .before .before .before .before .before .before .put-at .ensures) (p .before .before .before .before .before .put-at2 .ensures) (p .put-at3 .ensures) (c .before .before .before .before .before .before .put-days .ensures) (c .before .before .put-days2 .ensures)
 
 pub put-all-spec : {M : Type 1} → statement M
 put-all-spec =
     tie.close
-    (tie.spec
-    head-of-requires
-    slice-aggregate-put-at
-    put-at-requires
-    slice-aggregate-put-at-2
-    put-at-requires-2
-    slice-aggregate-put-at-3
-    put-at-requires-3
-    put-days-requires
-    put-days-requires-2
-    same-length
-    returns)
+    (tie.spec (λ c κs. search needs) (λ c. search needs) (λ c κs. search needs) (λ c. search needs) put-at-requires-2 (λ c. search needs) put-at-requires-3
+    (λ c κs. search needs) (λ c κs. search needs) (λ c. search needs) returns)
