@@ -73,3 +73,6 @@ wholes-halves [] rest = refl
 wholes-halves (d ∷ ds) rest =
     let e : d % 65536 + 65536 * (d / 65536) ≡ d = omega arith in
     rw (e, wholes-halves ds rest)
+
+pub wholes-back : (ds rest : List ℕ) → length ds ≡ 64 → wholes 64 (halves ds ++ rest) ≡ ds
+wholes-back ds rest e = ap (λ (n : ℕ). wholes n (halves ds ++ rest)) (sym e) ∙ wholes-halves ds rest

@@ -1,2 +1,4 @@
 pub mod Halves
 pub mod Sizes
+pub mod Lengths
+pub mod Made

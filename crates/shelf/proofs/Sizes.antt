@@ -4,7 +4,7 @@ use mathlib.Core.Path.{_≡_, sym, ap, _∙_}
 use mathlib.Core.List.{List, _++_, map}
 use native.Mathlib.Omega.{arith}
 use borrow.Author.Tests.{le-leb, lt-leb}
-use lib.ListN.{length, take, drop, replicate, length-map, length-append, length-take, length-replicate}
+use lib.ListN.{length, take, drop, replicate, length-map, length-append, length-take}
 use lib.Seq.{sets}
 use Rattle.paper.proofs.Stores.{sets-append, sets-front}
 use Rattle.kept.specs.declared.Kept.{Kept}
@@ -41,9 +41,18 @@ module _ (k : Kept) (s : Sized k) where
   pub length-numbers : length (numbersOf k) ≡ 4488
   unfolding numbersOf
   length-numbers =
-      omega
-      (arith, length-append (k .rows) (k .rules ++ (before ++ this)), length-append (k .rules) (before ++ this), length-append before this,
-      length-halves (k .store .years .before .days), length-halves (k .store .years .this .days), s .rows, s .rules, s .before, s .this)
+      omega (
+        arith,
+        length-append (k .rows) (k .rules ++ (before ++ this)),
+        length-append (k .rules) (before ++ this),
+        length-append before this,
+        length-halves (k .store .years .before .days),
+        length-halves (k .store .years .this .days),
+        s .rows,
+        s .rules,
+        s .before,
+        s .this,
+      )
 
   -- the five runs of a writing
   pub written : (a head b c d e f : List ℕ) → 4488 ≤ length a → head ≡ headOf k → b ≡ sets a 0 head → c ≡ sets b 8 (k .rows) → d ≡ sets c 1672 (k .rules) → e ≡ sets d 4232 before → f ≡ sets e 4360 this

@@ -1,18 +1,16 @@
 -- What is left to read goes on from what is read. Assumes nothing.
 use borrow.Author.Needs.{needs}
-use Prim.Native.Nat.{ℕ, _+_, _-_, _*_, _≤_}
-use mathlib.Core.Path.{_≡_, refl, ap, _∙_}
+use Prim.Native.Nat.{_+_, _-_, _*_, _≤_}
+use mathlib.Core.Path.{_≡_, ap, _∙_}
 use native.Mathlib.Nat.{add-zero}
 use native.Mathlib.Omega.{arith}
-use lib.ListN.{length, drop, replicate}
+use lib.ListN.{drop, replicate}
 use lib.Seq.{sets}
 use Rattle.kept.specs.Held.{entries}
 use Rattle.shelf.specs.Inner.{wholes}
 use Rattle.shelf.proofs.Halves.{wholes-turn, wholes-end}
 use Rattle.shelf.proofs.days_at.Statement.{statement}
 use Rattle.shelf.proofs.days_at.Tie as tie
-use Rattle.shelf.proofs.days_at.Reads as reads
-use Rattle.shelf.proofs.days_at.Lts as lts
 
 abbrev Inv-loop : tie.InvT-loop
 Inv-loop numbers at days₀ i₀ days i =

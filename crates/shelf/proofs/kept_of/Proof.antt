@@ -7,8 +7,6 @@ use Rattle.shelf.specs.Inner.{keptOf}
 use Rattle.shelf.proofs.Sizes.{part-fits, part-read}
 use Rattle.shelf.proofs.kept_of.Statement.{statement}
 use Rattle.shelf.proofs.kept_of.Tie as tie
-use Rattle.shelf.proofs.kept_of.Reads as reads
-use Rattle.shelf.proofs.kept_of.Lts as lts
 
 put-at-requires : tie.Need-put-at-requires
 put-at-requires c κs =

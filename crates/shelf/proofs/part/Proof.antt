@@ -7,8 +7,6 @@ use lib.ListN.{length, take, drop, length-drop, drop-of-length-le}
 use lib.Seq.{take-all, take-nil}
 use Rattle.shelf.proofs.part.Statement.{statement}
 use Rattle.shelf.proofs.part.Tie as tie
-use Rattle.shelf.proofs.part.Reads as reads
-use Rattle.shelf.proofs.part.Lts as lts
 
 returns : tie.Need-returns
 returns c =

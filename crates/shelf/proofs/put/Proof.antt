@@ -4,8 +4,6 @@ use mathlib.Core.Path.{sym, _∙_}
 use Rattle.shelf.proofs.Sizes.{no-room, long-rows, long-rules, fitting}
 use Rattle.shelf.proofs.put.Statement.{statement}
 use Rattle.shelf.proofs.put.Tie as tie
-use Rattle.shelf.proofs.put.Reads as reads
-use Rattle.shelf.proofs.put.Lts as lts
 
 returns : tie.Need-returns
 returns c = let a = c .before .before .args in sym (no-room (a .state) (a .out .now) (c .if1 .taken))

@@ -4,8 +4,6 @@ use native.Mathlib.Omega.{arith}
 use Rattle.shelf.proofs.Sizes.{Sized, sized, written}
 use Rattle.shelf.proofs.put_all.Statement.{statement}
 use Rattle.shelf.proofs.put_all.Tie as tie
-use Rattle.shelf.proofs.put_all.Reads as reads
-use Rattle.shelf.proofs.put_all.Lts as lts
 
 -- the state's arrays have their lengths
 sizes : (c : tie.Start) → Sized (c .args .state)

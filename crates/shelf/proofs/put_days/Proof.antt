@@ -4,15 +4,13 @@ use Prim.Native.Nat.{_+_, _-_, _*_, _≤_}
 use mathlib.Core.Path.{_≡_, refl, _∙_}
 use native.Mathlib.Nat.{add-zero}
 use native.Mathlib.Omega.{arith}
-use lib.ListN.{length, drop, length-set, drop-of-length-le}
+use lib.ListN.{length, drop, length-set}
 use lib.Seq.{sets}
 use Rattle.shelf.specs.Numbers.{halves}
 use Rattle.shelf.proofs.Sizes.{sized}
 use Rattle.shelf.proofs.Halves.{halves-turn, halves-end}
 use Rattle.shelf.proofs.put_days.Statement.{statement}
 use Rattle.shelf.proofs.put_days.Tie as tie
-use Rattle.shelf.proofs.put_days.Reads as reads
-use Rattle.shelf.proofs.put_days.Lts as lts
 
 abbrev Inv-loop : tie.InvT-loop
 Inv-loop out₀ at entries i₀ out i =
