@@ -11,6 +11,7 @@ use Rattle.shelf.specs.Inner.{wholes}
 
 -- ---- written
 
+-- a turn of the loop: what is left to store
 pub halves-turn : (l ds : List ℕ) (at i x y : ℕ) → i < length ds → x ≡ getD ds i 0 % 65536 → y ≡ getD ds i 0 / 65536
     → sets (set (set l (at + i * 2) x) (at + i * 2 + 1) y) (at + (i + 1) * 2) (halves (drop (i + 1) ds)) ≡ sets l (at + i * 2) (halves (drop i ds))
 unfolding halves
@@ -32,12 +33,13 @@ length-halves (d ∷ ds) = omega (arith, length-halves ds)
 
 -- ---- read
 
-pub length-wholes : (n : ℕ) (l : List ℕ) → length (wholes n l) ≡ n
+length-wholes : (n : ℕ) (l : List ℕ) → length (wholes n l) ≡ n
 unfolding wholes
 length-wholes zero l = refl
 length-wholes (suc n) l = ap suc (length-wholes n (drop 2 l))
 
 module _ (a : List ℕ) where
+  -- a turn of the loop: what is left to read
   pub wholes-turn : (l : List ℕ) (at i x y z : ℕ) → i < 64 → x ≡ getD a (at + i * 2) 0 → y ≡ getD a (at + i * 2 + 1) 0 → z ≡ x + 65536 * y
       → sets (set l i z) (i + 1) (wholes (64 - (i + 1)) (drop (at + (i + 1) * 2) a)) ≡ sets l i (wholes (64 - i) (drop (at + i * 2) a))
   unfolding wholes
@@ -49,7 +51,7 @@ module _ (a : List ℕ) where
       rw (w, u, v, e, f, g, getD-drop (at + i * 2) a 0 0, getD-drop (at + i * 2) a 1 0, drop-drop 2 (at + i * 2) a, p)
 
 -- sixty-four days in the place of sixty-four zeros
-pub wholes-front : (l : List ℕ) → sets (replicate 64 0) 0 (wholes 64 l) ≡ wholes 64 l
+wholes-front : (l : List ℕ) → sets (replicate 64 0) 0 (wholes 64 l) ≡ wholes 64 l
 wholes-front l =
     let n : length (replicate {A = ℕ} 64 0) ≤ length (wholes 64 l) = omega (arith, length-wholes 64 l, length-replicate {A = ℕ} 64 0) in
     sets-front (wholes 64 l) (replicate 64 0) (omega (arith, length-wholes 64 l, length-replicate {A = ℕ} 64 0))
@@ -67,7 +69,7 @@ pub wholes-end : (l m b : List ℕ) (i : ℕ) → 64 ≤ i → sets l i (wholes 
 wholes-end l m b i h e = none-left l (sets (replicate 64 0) 0 (wholes 64 m)) b i h e ∙ wholes-front m
 
 -- reading undoes writing
-pub wholes-halves : (ds rest : List ℕ) → wholes (length ds) (halves ds ++ rest) ≡ ds
+wholes-halves : (ds rest : List ℕ) → wholes (length ds) (halves ds ++ rest) ≡ ds
 unfolding wholes halves
 wholes-halves [] rest = refl
 wholes-halves (d ∷ ds) rest =
