@@ -17,7 +17,7 @@ use Rattle.replies.specs.Replies.{said, replyWords}
 use Rattle.replies.specs.declared.Reply.the-variants as R
 use Rattle.kept.specs.State.{State, startable}
 use Rattle.kept.specs.Operations.{blank, start, Outcome}
-use Rattle.kept.specs.Held.{held, Holds, StartedAs, DoneAs}
+use Rattle.kept.specs.Held.{Holds, StartedAs, DoneAs}
 use Rattle.kept.specs.declared.Kept.{Kept}
 use Rattle.kept.specs.declared.Started.{Started}
 use Rattle.kept.specs.declared.Done.{Done}

@@ -17,7 +17,7 @@ use Rattle.replies.specs.declared.Reply.the-variants as R
 use Rattle.replies.specs.Replies.{said, dateIn, replyWords}
 use Rattle.lending.specs.Lending.{ones, numbersIn, lineNumbers}
 use Rattle.kept.specs.State.{State, yearNumbers}
-use Rattle.kept.specs.Operations.{start, Outcome, takeRules, appendRow, forgotten, Reply, askBs, askAd, MonthReply, askMonth}
+use Rattle.kept.specs.Operations.{Outcome, takeRules, appendRow, forgotten, Reply, askBs, askAd, MonthReply, askMonth}
 use Rattle.kept.specs.Held.{held, Ready}
 use Rattle.kept.specs.declared.Kept.{Kept}
 use Rattle.questions.specs.Lists.{listedWords}

@@ -7,7 +7,7 @@ ghost use Rattle.replies.specs.Replies.{said, replyWords};
 ghost use Rattle.replies.specs.declared.Reply.the-variants as R;
 ghost use Rattle.lending.specs.Lending.{lineNumbers};
 ghost use Rattle.kept.specs.Operations.{start, appendRow};
-ghost use Rattle.kept.specs.Held.{held, Ready, AskedAs, MonthAs, storedSays};
+ghost use Rattle.kept.specs.Held.{held, Ready, AskedAs, storedSays};
 ghost use Rattle.desk.specs.Keeping.{inForm, keepingOf, startTold, doneTold, listTold, monthTold, sevens, dayAsked, monthAsked, yearsWords, askedOf};
 ghost use Rattle.desk.specs.Keeping.{askedIf, stateIn, keeps, Sound, Says};
 ghost use Rattle.asked.specs.Line.{small};

@@ -1,5 +1,4 @@
 // The desk at which lines are answered: what lines lend, the state that is kept, and the run over all lines.
-ghost use mathlib.Core.Path.{_≡_};
 ghost use lib.ListN.{length};
 ghost use Rattle.lending.specs.Lending.{loanOf};
 ghost use Rattle.desk.specs.Keeping.{stateIn, Sound, Says};

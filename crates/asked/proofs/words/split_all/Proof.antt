@@ -1,6 +1,6 @@
 -- `asked::words::split_all` meets its contract: the words so far, and those to come. Assumes nothing.
 use Prim.Native.Nat.{_-_, _≤_}
-use mathlib.Core.Path.{_≡_, refl, sym, _∙_}
+use mathlib.Core.Path.{_≡_, refl, _∙_}
 use native.Mathlib.Omega.{arith}
 use lib.ListN.{length, length-set}
 use Rattle.text.proofs.Said.{number-said, number-unsaid, passed-said, passed-unsaid}

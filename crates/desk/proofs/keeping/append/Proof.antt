@@ -1,11 +1,8 @@
 -- The numbers of the line are the row. Assumes nothing.
-use Prim.Native.Nat.{_≤_}
 use mathlib.Core.Path.{sym}
 use native.Mathlib.Omega.{arith}
-use lib.ListN.{length}
 use lib.Seq.{length-take-le}
 use Rattle.text.proofs.Writes.{wrote-front}
-use Rattle.lending.specs.Lending.{lineNumbers}
 use Rattle.lending.proofs.Loans.{line-few}
 use Rattle.desk.proofs.Answered.{says-done}
 use borrow.Author.Needs.{needs}

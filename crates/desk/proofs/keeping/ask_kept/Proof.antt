@@ -1,7 +1,6 @@
 -- Each question is its arm's. Assumes nothing.
 use mathlib.Core.Path.{refl}
-use Rattle.kept.specs.Held.{storedSays}
-use Rattle.desk.specs.Keeping.{askedOf, yearsWords}
+use Rattle.desk.specs.Keeping.{askedOf}
 use Rattle.desk.proofs.Answered.{says-kept, says-done}
 use borrow.Author.Needs.{needs}
 use Rattle.desk.proofs.keeping.ask_kept.Statement.{statement}
