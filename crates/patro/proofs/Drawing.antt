@@ -1,5 +1,5 @@
 -- A page drawn in a buffer of its own, and laid in another. Assumes nothing.
-use Prim.Native.Nat.{ℕ, _≤_, _<_, min}
+use Prim.Native.Nat.{ℕ, _≤_, _<_}
 use mathlib.Core.Path.{_≡_, refl, sym, ap, _∙_}
 use mathlib.Core.Bool.{Bool, true, false, cond, _&&_, and-false}
 use mathlib.Core.List.{List}
@@ -21,30 +21,20 @@ use Rattle.patro.specs.declared.pages.Laid.{Laid}
 use Rattle.patro.specs.declared.pages.Laid.the-variants as L
 use Rattle.grid.specs.Month.{over}
 use Rattle.patro.specs.Pages.{Laying, laid, laidSays, Lays}
-use Rattle.patro.specs.Inner.{drawn}
+use Rattle.patro.specs.Inner.{Draws}
 
 -- ---- drawn
 
--- a refusal is said and nothing is stored
-pub draws-refused : {a : Answer (List ℕ)} {k : Refusal} {l : List ℕ} → a ≡ refused k → Lays (drawn a l) l (L.Refused k)
-unfolding drawn
-draws-refused e = rw e (record { says = refl; stored = refl })
+bytes-refused : {n : ℕ} {why : Refusal} → L.Bytes n ≡ L.Refused why → ⊥
+bytes-refused e = let z : _≡_ {A = ℕ} 0 1 = cc in omega arith
 
--- a page is written as far as the buffer goes
-pub draws-page : {a : Answer (List ℕ)} {text l m : List ℕ} {n : ℕ} → a ≡ answered text → Wrote l 0 text m n → Lays (drawn a l) m (L.Bytes n)
-unfolding drawn
-draws-page {a} {text} {l} {m} {n} e w =
-    let p = w .end in
-    let q : n ≡ min (length text) (length l) = omega arith in
-    rw e (record { says = ap answered q; stored = w .stored })
+-- a page is written as far as the buffer goes, or refused
+pub draws-page : {a : Answer (List ℕ)} {text l : List ℕ} {i : ℕ} {m : List ℕ} {n : ℕ} → a ≡ answered text → Wrote l i text m n → Draws a l i m (L.Bytes n)
+draws-page {a} {text} {l} {i} {m} {n} e w =
+    record { page = λ k q. let z : n ≡ k = cc in (text, (e, rw z at w)); refusal = λ why q. absurd (bytes-refused q) }
 
--- bytes are those of a page
-drawn-page : (a : Answer (List ℕ)) (l : List ℕ) {m : List ℕ} {n : ℕ} → Lays (drawn a l) m (L.Bytes n) → (text : List ℕ) × ((a ≡ answered text) × Wrote l 0 text m n)
-unfolding drawn
-drawn-page (answered text) l {m} {n} w =
-    let q : n ≡ min (length text) (length l) = answered-same (w .says) in
-    (text, (refl, record { stored = w .stored; end = omega arith }))
-drawn-page (refused k) l w = absurd (refused-answered refl (sym (w .says)))
+pub draws-refused : {a : Answer (List ℕ)} {k : Refusal} {l : List ℕ} {i : ℕ} {m : List ℕ} → a ≡ refused k → Draws a l i m (L.Refused k)
+draws-refused {a} {k} e = record { page = λ n q. absurd (bytes-refused (sym q)); refusal = λ why q. let z : k ≡ why = cc in rw z at e }
 
 -- ---- laid
 
@@ -78,20 +68,16 @@ cut-laid text l page n out e w =
     (split (length text) 262144)
 
 -- what is drawn is laid
-module _ (a : Answer (List ℕ)) (l : List ℕ) (e : length l ≡ 262144) {page : List ℕ} {r : Laid} (w : Lays (drawn a l) page r) where
-  drawn-bytes : {n : ℕ} → r ≡ L.Bytes n → (text : List ℕ) × ((a ≡ answered text) × Wrote l 0 text page n)
-  drawn-bytes q = drawn-page a l (rw q at w)
-
+module _ (a : Answer (List ℕ)) (l : List ℕ) (e : length l ≡ 262144) {page : List ℕ} {r : Laid} (w : Draws a l 0 page r) where
   pub bytes-few : {n : ℕ} → r ≡ L.Bytes n → n ≤ 262144
-  bytes-few q = let p = drawn-bytes q .1 .1 .end in omega arith
+  bytes-few q = let p = w .page _ q .1 .1 .end in omega arith
 
   pub lays-drawn : (out : List ℕ) {n : ℕ} → r ≡ L.Bytes n → laid (answered (take n page)) out ≡ laid a out
-  lays-drawn out {n} q = let p = drawn-bytes q in cut-laid (p .0) l page n out e (p .1 .1) ∙ ap (λ (z : Answer (List ℕ)). laid z out) (sym (p .1 .0))
+  lays-drawn out {n} q = let p = w .page _ q in cut-laid (p .0) l page n out e (p .1 .1) ∙ ap (λ (z : Answer (List ℕ)). laid z out) (sym (p .1 .0))
 
-pub lays-refused : (a : Answer (List ℕ)) (l out : List ℕ) {page : List ℕ} {r : Laid} {why : Refusal} → Lays (drawn a l) page r → r ≡ L.Refused why → Lays (laid a out) out (L.Refused why)
-unfolding drawn laid
-lays-refused (answered text) l out w e = absurd (refused-answered (ap laidSays e) (w .says))
-lays-refused (refused k) l out w e = record { says = ap laidSays (sym e) ∙ w .says; stored = refl }
+pub lays-refused : (a : Answer (List ℕ)) (l out : List ℕ) {page : List ℕ} {r : Laid} {why : Refusal} → Draws a l 0 page r → r ≡ L.Refused why → Lays (laid a out) out (L.Refused why)
+unfolding laid
+lays-refused a l out w e = rw (w .refusal _ e) (record { says = refl; stored = refl })
 
 -- the page where it has room, or the buffer as it was
 abbrev roomed : List ℕ → List ℕ → Bool → Laying

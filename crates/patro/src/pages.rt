@@ -1,23 +1,32 @@
-// The page that is asked for, worked out by the engine and laid out in a lent buffer.
+// The pages of a month and of a day, worked out by the engine and drawn in a lent buffer.
 ghost use mathlib.Core.Path.{_≡_};
+ghost use mathlib.Core.Bool.{false};
 ghost use Prim.Native.Nat.{_≤_};
-ghost use lib.ListN.{length, take};
-ghost use Rattle.paper.specs.Answers.{answered};
-ghost use Rattle.patro.specs.Pages.{cellOf, titled, partPage, pageBs, pageAsked, laid, Lays};
-ghost use Rattle.patro.specs.Inner.{drawn};
+ghost use lib.ListN.{length};
+ghost use Rattle.kept.specs.Held.{held, Ready};
+ghost use Rattle.kept.specs.Operations.{empty};
+ghost use Rattle.patro.specs.Pages.{cellOf, titled, partPage, pageBs, pageAsked};
+ghost use Rattle.patro.specs.Inner.{Draws, DrawsKept, monthOf};
 use commands::words::Asked;
 use conversion::BsAnswer;
 use conversion::Table;
 use gregorian::Date;
 use grid::GridAnswer;
 use grid::Month;
+use kept::Kept;
 use paper::Refusal;
 use wall::Page;
 
-// How many bytes of the front of a lent buffer a page takes, or why there is none.
+// The place after a page in a lent buffer, or why there is no page.
 pub enum Laid {
     Bytes(usize),
     Refused(Refusal),
+}
+
+// A page of a state, and the state after it.
+pub struct Drawn {
+    pub laid: Laid,
+    pub state: Kept,
 }
 
 // The whole month, or one of its days.
@@ -57,7 +66,7 @@ fn cell_of(cells: &[u16], day: u16) -> u8
     i
 }
 
-// Draws a part of a month from its cells and festivals, as far as the buffer goes.
+// Draws a part of a month from its cells and festivals, from a place on, as far as the buffer goes.
 fn draw_part(
     names: &[u8],
     year: u16,
@@ -67,15 +76,16 @@ fn draw_part(
     cells: &[u16],
     festivals: &[u16],
     page: &mut [u8],
+    at: usize,
 ) -> Laid
     requires { ⌜ (m .cells ≤ 42) × (length (now cells) ≡ 504) ⌝ }
-    ensures { λ r. ⌜ Lays (drawn (partPage (now (names .entry)) year month part m (now (cells .entry)) (now (festivals .entry)))
-        (now (page .entry))) (now (page .exit)) r ⌝ }
+    ensures { λ r. ⌜ Draws (partPage (now (names .entry)) year month part m (now (cells .entry)) (now (festivals .entry)))
+        (now (page .entry)) at (now (page .exit)) r ⌝ }
 {
     match part {
         Part::Whole => {
             let title = page_of(year, month, m);
-            Laid::Bytes(wall::put_month_page(page, 0, title, names, cells, festivals))
+            Laid::Bytes(wall::put_month_page(page, at, title, names, cells, festivals))
         }
         Part::Day(day) => {
             if day == 0 {
@@ -85,7 +95,7 @@ fn draw_part(
                 return Laid::Refused(Refusal::NoDay);
             }
             let cell = cell_of(cells, day);
-            Laid::Bytes(wall::put_day_page(page, 0, year, month, cell, names, cells, festivals))
+            Laid::Bytes(wall::put_day_page(page, at, year, month, cell, names, cells, festivals))
         }
     }
 }
@@ -102,8 +112,8 @@ fn draw_bs(
     names: &[u8],
     page: &mut [u8],
 ) -> Laid
-    ensures { λ r. ⌜ Lays (drawn (pageBs table (now (rows .entry)) (now (rules .entry)) (now (names .entry)) today year month part)
-        (now (page .entry))) (now (page .exit)) r ⌝ }
+    ensures { λ r. ⌜ Draws (pageBs table (now (rows .entry)) (now (rules .entry)) (now (names .entry)) today year month part)
+        (now (page .entry)) 0 (now (page .exit)) r ⌝ }
 {
     let mut cells = [0u16; 504];
     let mut festivals = [0u16; 24576];
@@ -117,7 +127,7 @@ fn draw_bs(
         &mut cells,
         &mut festivals,
     ) {
-        GridAnswer::Is(m) => draw_part(names, year, month, part, m, &cells, &festivals, page),
+        GridAnswer::Is(m) => draw_part(names, year, month, part, m, &cells, &festivals, page, 0),
         GridAnswer::Refused(why) => Laid::Refused(why),
     }
 }
@@ -132,8 +142,8 @@ fn draw_ad(
     names: &[u8],
     page: &mut [u8],
 ) -> Laid
-    ensures { λ r. ⌜ Lays (drawn (pageAsked table (now (rows .entry)) (now (rules .entry)) (now (names .entry)) today (Asked.Date date))
-        (now (page .entry))) (now (page .exit)) r ⌝ }
+    ensures { λ r. ⌜ Draws (pageAsked table (now (rows .entry)) (now (rules .entry)) (now (names .entry)) today (Asked.Date date))
+        (now (page .entry)) 0 (now (page .exit)) r ⌝ }
 {
     match conversion::ad_to_bs(table, rows, date.year, date.month, date.day) {
         BsAnswer::Is(bs) => draw_bs(
@@ -152,7 +162,7 @@ fn draw_ad(
 }
 
 // Draws what is asked.
-fn draw(
+pub fn draw(
     asked: Asked,
     today: Date,
     table: Table,
@@ -161,8 +171,8 @@ fn draw(
     names: &[u8],
     page: &mut [u8],
 ) -> Laid
-    ensures { λ r. ⌜ Lays (drawn (pageAsked table (now (rows .entry)) (now (rules .entry)) (now (names .entry)) today asked)
-        (now (page .entry))) (now (page .exit)) r ⌝ }
+    ensures { λ r. ⌜ Draws (pageAsked table (now (rows .entry)) (now (rules .entry)) (now (names .entry)) today asked)
+        (now (page .entry)) 0 (now (page .exit)) r ⌝ }
 {
     match asked {
         Asked::Month(y, m) => draw_bs(today, y, m, Part::Whole, table, rows, rules, names, page),
@@ -171,36 +181,42 @@ fn draw(
     }
 }
 
-// Copies the first n bytes of a page, where the page ended before its own buffer did and has room in the other.
-fn copy(page: &[u8], n: usize, out: &mut [u8]) -> Laid
-    requires { ⌜ (length (now page) ≡ 262144) × (n ≤ 262144) ⌝ }
-    ensures { λ r. ⌜ Lays (laid (answered (take n (now (page .entry)))) (now (out .entry))) (now (out .exit)) r ⌝ }
-{
-    if 262143 < n {
-        return Laid::Refused(Refusal::NoRoom);
-    }
-    if out.len() < n {
-        return Laid::Refused(Refusal::NoRoom);
-    }
-    Laid::Bytes(text::put(out, 0, &page[..n]))
-}
-
-// Lays the page that is asked for at the front of a buffer. A refusal changes no byte of it.
-pub fn lay(
-    asked: Asked,
+// Draws a whole month of a state that holds a row, from a place on; the state after it has other stored years at most.
+pub fn draw_kept(
+    state: Kept,
     today: Date,
-    table: Table,
-    rows: &[u16],
-    rules: &[u16],
+    year: u16,
+    month: u16,
     names: &[u8],
-    out: &mut [u8],
-) -> Laid
-    ensures { λ r. ⌜ Lays (laid (pageAsked table (now (rows .entry)) (now (rules .entry)) (now (names .entry)) today asked)
-        (now (out .entry))) (now (out .exit)) r ⌝ }
+    page: &mut [u8],
+    at: usize,
+) -> Drawn
+    requires { ⌜ Ready state × (empty (held state .rows) ≡ false) ⌝ }
+    ensures { λ r. ⌜ DrawsKept (held state) (monthOf (held state) (now (names .entry)) today year month) (now (page .entry)) at (now (page .exit)) r ⌝ }
 {
-    let mut page = [0u8; 262144];
-    match draw(asked, today, table, rows, rules, names, &mut page) {
-        Laid::Bytes(n) => copy(&page, n, out),
-        Laid::Refused(why) => Laid::Refused(why),
+    let mut cells = [0u16; 504];
+    let mut festivals = [0u16; 24576];
+    let asked = kept::months::ask_month(state, today, year, month, &mut cells, &mut festivals);
+    let after = asked.state;
+    let answer = asked.answer;
+    match answer {
+        GridAnswer::Is(m) => Drawn {
+            laid: draw_part(
+                names,
+                year,
+                month,
+                Part::Whole,
+                m,
+                &cells,
+                &festivals,
+                page,
+                at,
+            ),
+            state: after,
+        },
+        GridAnswer::Refused(why) => Drawn {
+            laid: Laid::Refused(why),
+            state: after,
+        },
     }
 }

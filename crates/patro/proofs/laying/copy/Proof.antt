@@ -1,11 +1,11 @@
--- `patro::pages::copy` meets its contract. Assumes nothing.
+-- `patro::laying::copy` meets its contract. Assumes nothing.
 use mathlib.Core.Path.{sym}
 use native.Mathlib.Omega.{arith}
 use lib.Seq.{length-take-le}
 use Rattle.patro.proofs.Drawing.{long, longer, fits}
 use borrow.Author.Needs.{needs}
-use Rattle.patro.proofs.pages.copy.Statement.{statement}
-use Rattle.patro.proofs.pages.copy.Tie as tie
+use Rattle.patro.proofs.laying.copy.Statement.{statement}
+use Rattle.patro.proofs.laying.copy.Tie as tie
 
 returns : tie.Need-returns
 returns c = long _ _ (rw (length-take-le (c .before .before .before .args .n) (c .before .before .before .args .page .now) (omega arith)) (omega arith))
