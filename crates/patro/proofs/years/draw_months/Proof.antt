@@ -37,16 +37,17 @@ returns c =
     let a = c .before .before .before .before .before .before .before .before .before .before .before .args in
     let σ = held (a .state) in
     let l = c .before .before .before .before .before .before .before .before .loop in
+    let h : l .month ≤ 12 = omega (arith, c .before .before .before .before .before .before .before .loop-test .taken) in
     let d = c .before .before .before .before .before .draw-next .ensures in
     let e = ap (λ (σ : State). spacedOf σ (a .names .now) (a .today) (a .year) (l .month)) (l .inv .4) in
-    draws-refused (sofar-refused (σ .table) (σ .rows) (σ .rules) (a .names .now) (a .today) (a .year) (l .inv .5) (c .before .before .before .before .before .before .before .loop-test .taken) (rw e at (d .laid)) (c .before .laid2 .given .1))
+    draws-refused (sofar-refused (σ .table) (σ .rows) (σ .rules) (a .names .now) (a .today) (a .year) (l .inv .5) h (rw e at (d .laid)) (c .before .laid2 .given .1))
 
 loop-again : tie.Need-loop-again Inv-loop μ-loop
 loop-again c =
     let a = c .before .before .before .before .before .before .before .before .before .before .before .before .args in
     let σ = held (a .state) in
     let l = c .before .before .before .before .before .before .before .before .before .loop in
-    let h = c .before .before .before .before .before .before .before .before .loop-test .taken in
+    let h : l .month ≤ 12 = omega (arith, c .before .before .before .before .before .before .before .before .loop-test .taken) in
     let d = c .before .before .before .before .before .before .draw-next .ensures in
     let e = ap (λ (σ : State). spacedOf σ (a .names .now) (a .today) (a .year) (l .month)) (l .inv .4) in (
       search needs,
