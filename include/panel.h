@@ -13,6 +13,7 @@
  *    4  the BS year is not in the table         10  a month step that leaves the table
  *    5  the BS month is not 1 to 12             11  a search not ended after 1,024 steps
  *    6  the BS day is 0 or past the month       12  a line of a rule file is out of form
+ *                                               13  a question to a kept state that holds no row yet
  *
  * Each comment names the refusals that its call can meet, in the order in which they are tested.
  *
@@ -31,6 +32,12 @@
  * 0 but of kind 3. rules_len is 8 times the number of rules: at most 64 of each of the kinds 1 to 3 and 128 of kind 4; no rule at all is good.
  * Kalas: 0 sunrise, 1 midday, 2 afternoon, 3 dusk, 4 the middle of the night (nishita), 5 the tithi's beginning.
  *
+ * A kept state is an array of the caller's, PANEL_KEPT numbers or more, that panel_kept_start makes and every other panel_kept call takes: it holds a year
+ * table, festival rules, and the festivals worked out for the one or two BS years of the last answered question, so that the next question on these years
+ * is answered without working them out again; the answer is the same. A call that answers leaves in the array the state after it, and one that refuses leaves
+ * every number of the array. What stands behind the first PANEL_KEPT numbers is never read or written. Its numbers are for these calls alone; a copy of the
+ * first PANEL_KEPT of them is a kept state of its own.
+ *
  * What C cannot tell apart and a caller must not mix up; a call that gets the wrong one may well answer:
  *
  *  - A UT day and a TT day: both are double, and each instant is in the range of tt too. panel_sun_longitude and panel_moon_longitude take tt; panel_delta_t
@@ -40,13 +47,16 @@
  *    panel_month_grid takes today as a Gregorian date and the month it shows as a BS year and month.
  *  - Year, month and day among themselves: always in this order. 5 June and 6 May are both dates.
  *  - A length and a size: a length counts elements, so sizeof a / sizeof *a and never sizeof a alone. Too large a length lets a call read or write past
- *    what is lent.
+ *    what is lent. So state_len is PANEL_KEPT and never sizeof state, which is twice that.
  *  - A count and a length: count and festival_count count festivals, of two numbers each, and cell_count counts cells, of twelve. Festival i, from 0, is at
- *    festivals[2 * i] and festivals[2 * i + 1]; a buffer for n of them has the length 2 * n. In panel_read_rules count counts rules, of eight numbers each.
+ *    festivals[2 * i] and festivals[2 * i + 1]; a buffer for n of them has the length 2 * n. In panel_read_rules count counts rules, of eight numbers each, and
+ *    in panel_kept_stored it counts years.
  *  - A day number and an instant: the number of panel_date_day_number is the day's noon; its 0h is the instant half a day before.
  *  - Radians and degrees: sine, cosine, tangent and the arcs are in radians, all else in degrees.
  *  - Minute 0 and none: 0 is midnight, 1,440 is none.
  *  - In panel_step_month, month is a byte: C cuts a larger number silently, and 257 comes as 1.
+ *  - A kept state and any other array: no number in it says that panel_kept_start made it, or that nothing but these calls wrote to it since. On another
+ *    array a call ends and reads and writes inside what is lent alone, but what it answers and leaves there is open.
  *
  * Of a float that is no number (NaN) sign and payload are not promised, in an answer or in a place that a call leaves.
  */
@@ -237,6 +247,54 @@ uint16_t panel_month_grid(uint16_t first_year, uint16_t first_ad_year, uint16_t 
                           uint16_t year, uint16_t month, uint16_t *cells, size_t cells_len, uint16_t *festivals, size_t festivals_len, uint16_t *days,
                           uint16_t *from_year, uint16_t *from_month, uint16_t *from_day, uint16_t *to_year, uint16_t *to_month, uint16_t *to_day,
                           size_t *cell_count, size_t *festival_count);
+
+/* ---- The kept state: every number of it is the caller's, and the calls keep nothing by themselves */
+
+/* How many numbers of sixteen bits a kept state has: uint16_t state[PANEL_KEPT]; a shorter array gets 9. */
+#define PANEL_KEPT 4488
+
+/* A kept state with no row, no rules and no year worked out, for a table of this first BS year and this Gregorian date of its first day. It may start an array
+   again. Refusals: 1 (the four numbers break a rule for tables), 9 (the array). */
+uint16_t panel_kept_start(uint16_t first_year, uint16_t first_ad_year, uint16_t first_ad_month, uint16_t first_ad_day, uint16_t *state,
+                          size_t state_len);
+
+/* These rules in place of the state's own; no year is then worked out. Refusals: 9 (the array), 2. */
+uint16_t panel_kept_take_rules(uint16_t *state, size_t state_len, const uint16_t *rules, size_t rules_len);
+
+/* One year row more, the next BS year: thirteen numbers, row_len 13. The years that were worked out are worked out again with it. Refusals: 9 (the array),
+   1 (not thirteen numbers, or the table breaks a rule with this row). */
+uint16_t panel_kept_append_row(uint16_t *state, size_t state_len, const uint16_t *row, size_t row_len);
+
+/* The state without the years that were worked out; no answer changes by that. Refusal: 9 (the array). */
+uint16_t panel_kept_forget(uint16_t *state, size_t state_len);
+
+/* Which BS years are worked out: count gets 0, 1 or 2, first the first of them and last the last, the same where there is one, and both 0 where there is none.
+   Refusal: 9 (the array). */
+uint16_t panel_kept_stored(const uint16_t *state, size_t state_len, uint16_t *count, uint16_t *first, uint16_t *last);
+
+/* The festivals of a BS date as panel_festivals_on has them, by the table and the rules of the state. Refusals: 9 (the array), 13, 4, 5, 6, 9 (festivals). */
+uint16_t panel_kept_festivals_on(uint16_t *state, size_t state_len, uint16_t year, uint16_t month, uint16_t day, uint16_t *festivals,
+                                 size_t festivals_len, size_t *count);
+
+/* The festivals of a Gregorian date as panel_festivals_on_ad has them, by the table and the rules of the state. Refusals: 9 (the array), 13, 3, 7,
+   9 (festivals). */
+uint16_t panel_kept_festivals_on_ad(uint16_t *state, size_t state_len, uint16_t year, uint16_t month, uint16_t day, uint16_t *festivals,
+                                    size_t festivals_len, size_t *count, uint32_t *days_before, uint32_t *days_after);
+
+/* A BS month as panel_month_grid has it, by the table and the rules of the state; today is a Gregorian date. Refusals: 9 (the array), 13, 3 (today), 4, 5,
+   9 (cells or festivals). */
+uint16_t panel_kept_month_grid(uint16_t *state, size_t state_len, uint16_t today_year, uint16_t today_month, uint16_t today_day, uint16_t year,
+                               uint16_t month, uint16_t *cells, size_t cells_len, uint16_t *festivals, size_t festivals_len, uint16_t *days,
+                               uint16_t *from_year, uint16_t *from_month, uint16_t *from_day, uint16_t *to_year, uint16_t *to_month, uint16_t *to_day,
+                               size_t *cell_count, size_t *festival_count);
+
+/* The Gregorian date of a BS date, by the table of the state. Refusals: 9 (the array), 13, 4, 5, 6. */
+uint16_t panel_kept_bs_to_ad(const uint16_t *state, size_t state_len, uint16_t year, uint16_t month, uint16_t day, uint16_t *ad_year,
+                             uint16_t *ad_month, uint16_t *ad_day);
+
+/* The BS date of a Gregorian date, by the table of the state; with 7 days_before and days_after as in panel_ad_to_bs. Refusals: 9 (the array), 13, 3, 7. */
+uint16_t panel_kept_ad_to_bs(const uint16_t *state, size_t state_len, uint16_t year, uint16_t month, uint16_t day, uint16_t *bs_year,
+                             uint16_t *bs_month, uint16_t *bs_day, uint32_t *days_before, uint32_t *days_after);
 
 #ifdef __cplusplus
 }
