@@ -57,7 +57,7 @@ gives-code (answered x) parts old = refl
 gives-code (refused k) parts old = refl
 
 -- a number other than 0 leaves the places
-gives-left : {A P : Type 0} (a : Answer A) (parts : A → P) (old : P) → (gives a parts old .0 ≡ 0 → ⊥) → gives a parts old .1 ≡ old
+pub gives-left : {A P : Type 0} (a : Answer A) (parts : A → P) (old : P) → (gives a parts old .0 ≡ 0 → ⊥) → gives a parts old .1 ≡ old
 gives-left (answered x) parts old h = absurd (h refl)
 gives-left (refused k) parts old h = refl
 
@@ -97,7 +97,7 @@ module _ {K : Type 0} {A S : K → Type 0} {B : Type 0} {C : (k : K) → A k →
 
 module _ {K : Type 0} {A S : K → Type 0} {B : Type 0} {C : (k : K) → A k → ℕ → S k → Type 0} {before : (k : K) → A k → B} {after : (k : K) → S k → B} where
   -- THE LAW: such a contract, whose definition leaves what was lent where its number is not 0
-  crosses : (told : (k : K) → A k → Told B) → ((k : K) (a : A k) (x : ℕ) (s : S k) → C k a x s → _≡_ {A = Told B} (x, after k s) (told k a))
+  pub crosses : (told : (k : K) → A k → Told B) → ((k : K) (a : A k) (x : ℕ) (s : S k) → C k a x s → _≡_ {A = Told B} (x, after k s) (told k a))
       → ((k : K) (a : A k) → (told k a .0 ≡ 0 → ⊥) → told k a .1 ≡ before k a) → Crosses C before after
   crosses told e h =
       record {
@@ -176,7 +176,7 @@ no-line (R.OutOfForm j) old h = absurd (h refl)
 no-line R.NoRow old h = refl
 
 -- a refusal with another number than 7 tells no days
-no-days : (k : Refusal) (old : ℕ × ℕ) → (number k ≡ 7 → ⊥) → daysIn (told k) old ≡ old
+pub no-days : (k : Refusal) (old : ℕ × ℕ) → (number k ≡ 7 → ⊥) → daysIn (told k) old ≡ old
 no-days R.BadTable old h = refl
 no-days R.BadRules old h = refl
 no-days R.NoSuchDate old h = refl
@@ -199,12 +199,12 @@ module _ {A P D : Type 0} (tell : Paper.Told → D → D) (parts : A → P) wher
   told-code (refused k) old = refl
 
   -- a number other than 0 leaves the answer's places
-  parts-kept : (a : Answer A) (old : P × D) → (givesTold tell a parts old .0 ≡ 0 → ⊥) → givesTold tell a parts old .1 .0 ≡ old .0
+  pub parts-kept : (a : Answer A) (old : P × D) → (givesTold tell a parts old .0 ≡ 0 → ⊥) → givesTold tell a parts old .1 .0 ≡ old .0
   parts-kept (answered x) old h = absurd (h refl)
   parts-kept (refused k) old h = refl
 
   -- where n alone tells something, another number leaves its place
-  told-kept : (n : ℕ) → ((k : Refusal) (old : D) → (number k ≡ n → ⊥) → tell (told k) old ≡ old) → (a : Answer A) (old : P × D)
+  pub told-kept : (n : ℕ) → ((k : Refusal) (old : D) → (number k ≡ n → ⊥) → tell (told k) old ≡ old) → (a : Answer A) (old : P × D)
       → (givesTold tell a parts old .0 ≡ n → ⊥) → givesTold tell a parts old .1 .1 ≡ old .1
   told-kept n quiet (answered x) old h = refl
   told-kept n quiet (refused k) old h = quiet k (old .1) h

@@ -70,7 +70,7 @@ number-as : {x m n : ℕ} {P : Type 0} → m ≡ n → NumberIf x m P → Number
 number-as e r = record { when = λ p. r .when p ∙ e; only = r .only }
 
 -- the same of a contract: two calls whose numbers and lent places are what is told
-grows : {K : Type 0} {A S : K → Type 0} {B W X : Type 0} {C : (k : K) → A k → ℕ → S k → Type 0} {after : (k : K) → S k → B} {a b : (k : K) → A k}
+pub grows : {K : Type 0} {A S : K → Type 0} {B W X : Type 0} {C : (k : K) → A k → ℕ → S k → Type 0} {after : (k : K) → S k → B} {a b : (k : K) → A k}
     (answer : W → Answer X) (told : W → Told B) → ((w : W) → told w .0 ≡ code (answer w))
     → {short long : W} {k : Refusal} {n : ℕ} {P : X → Type 0} → number k ≡ n → (Q : B → Type 0) → Stays answer short long k P → ((z : X) → answer long ≡ answered z → P z ↔ Q (told long .1))
     → ((k : K) (x : ℕ) (s : S k) → C k (a k) x s → _≡_ {A = Told B} (x, after k s) (told short))

@@ -48,6 +48,10 @@ listedAd s = let d = s .1 .1 in ((now (s .1 .0), (now (d .0), now (d .1 .0))), n
 abbrev pub listed : {X Y : Type 0} → RefT X × Last Y → Y × X
 listed s = (now (s .1 .0), now (s .0))
 
+-- places and buffers, and the array of a kept state behind the buffers
+abbrev pub withArray : {P X : Type 0} → P × X → List ℕ → P × (X × List ℕ)
+withArray b a = (b .0, (b .1, a))
+
 -- ---- the two buffers of a month, and its nine places
 
 abbrev pub Numbered : Type 0 → Type 0

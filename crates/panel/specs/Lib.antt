@@ -1,3 +1,4 @@
 pub mod Boundary
 pub mod Lent
+pub mod Keeping
 pub mod Claims

@@ -39,7 +39,7 @@ fn give_validity(answer: Validity) -> u16
 }
 
 // A BS date's three numbers where they are asked for, or how far outside the table the date lies.
-fn give_bs(
+pub fn give_bs(
     answer: BsAnswer,
     year: &mut u16,
     month: &mut u16,

@@ -11,7 +11,7 @@ use festivals::ListAnswer;
 use paper::Refusal;
 
 // The number of festivals where it is asked for.
-fn give_count(answer: ListAnswer, count: &mut usize) -> u16
+pub fn give_count(answer: ListAnswer, count: &mut usize) -> u16
     ensures { λ r. ⌜ (r, now (count .exit)) ≡ gives (listSays answer) (λ x. x) (now (count .entry)) ⌝ }
 {
     match answer {
@@ -24,7 +24,7 @@ fn give_count(answer: ListAnswer, count: &mut usize) -> u16
 }
 
 // The same, or how far outside the table the date lies.
-fn give_count_or_days(
+pub fn give_count_or_days(
     answer: ListAnswer,
     count: &mut usize,
     days_before: &mut u32,

@@ -26,7 +26,7 @@ fn give_month(answer: StepAnswer, year: &mut u16, month: &mut u8) -> u16
 }
 
 // A month's days, its first and last Gregorian date and its counts where they are asked for.
-fn give_grid(
+pub fn give_grid(
     answer: GridAnswer,
     days: &mut u16,
     from_year: &mut u16,
