@@ -24,11 +24,12 @@ use Rattle.kept.specs.declared.AskedMonth.{AskedMonth}
 use Rattle.kept.specs.State.{State, startable}
 use Rattle.kept.specs.Operations.{blank, start, Outcome, Reply, MonthReply}
 use Rattle.kept.specs.Held.{held, Ready, Holds, DoneAs, AskedAs, MonthAs}
+use Rattle.kept.specs.Converting.{TableHeld}
 use Rattle.shelf.specs.Numbers.{laid, Made}
-use Rattle.shelf.specs.Inner.{keptOf, placed}
+use Rattle.shelf.specs.Inner.{keptOf, placed, tableOf, rowsOf}
 use Rattle.panel.specs.Boundary.{code, gives, daysIn, givesTold, MonthPlaces, monthNumbers}
 use Rattle.panel.specs.Keeping.{Keeping, written, startIn, keptDone, keptList, keptListAd, keptMonth, placedBy}
-use Rattle.shelf.proofs.Made.{made-holds, put-laid}
+use Rattle.shelf.proofs.Made.{made-holds, made-table, made-rows, put-laid}
 use Rattle.panel.proofs.Handing.{both}
 
 -- ---- the two cases of an array
@@ -47,6 +48,14 @@ pub of-made : {a : List ℕ} {σ : State} {k : Kept} (P : State → Type 0) → 
 of-made {a} {σ} {k} P m e f =
     let h : Holds k σ = rw e (made-holds a σ m) in
     subst P (h .state) (f (h .ready))
+
+-- what a call over a table and its rows promises of those of the state that the array holds
+moved : {t u : Table} {l n : List ℕ} (P : Table → List ℕ → Type 0) → t ≡ u → l ≡ n → (TableHeld t l → P t l) → TableHeld u n → P u n
+moved {t} {n = n} P e g f = subst (λ (v : Table). TableHeld v n → P v n) e (subst (λ (k : List ℕ). TableHeld t k → P t k) g f)
+
+pub of-table : {a : List ℕ} {σ : State} {t : Table} {rows : List ℕ} (P : Table → List ℕ → Type 0) → Made a σ → t ≡ tableOf a → rows ≡ rowsOf a → (TableHeld t rows → P t rows)
+    → P (σ .table) (σ .rows)
+of-table {a} {σ} P m p q f = moved P (p ∙ made-table a σ m) (q ∙ made-rows a σ m) f (m .good .table)
 
 -- an array with the record of a state has the state
 placed-written : {A : Type 0} (x : Answer A) (k : Kept) (σ : State) (a : List ℕ) → Holds k σ → 4488 ≤ length a → placedBy x k a ≡ written a σ x

@@ -19,14 +19,16 @@ use Rattle.steady.specs.Composed.{Place, ref}
 use Rattle.steady.specs.Kept.{KeptSteady}
 use Rattle.steady.proofs.Kept.{kept-steady}
 use Rattle.shelf.specs.Numbers.{Made}
-use Rattle.panel.specs.Boundary.{daysIn, monthNumbers}
-use Rattle.panel.specs.Lent.{MonthState, listed, listedAd, month, lendList, lendListAd, lendMonth}
+use Rattle.panel.specs.Boundary.{gives, daysIn, givesTold, numbers, bsNumbers, monthNumbers}
+use Rattle.panel.specs.Lent.{MonthState, three, dated, listed, listedAd, month, lendThree, lendDated, lendList, lendListAd, lendMonth}
 use Rattle.panel.specs.Claims.{Grows}
 use Rattle.panel.proofs.Crossing.{Told, gives-code, told-code, toldList, toldListAd, toldMonth}
 use Rattle.panel.proofs.Longer.{grows}
 use Rattle.panel.proofs.kept_lists.panel_kept_festivals_on.Reads as FestivalsOn
 use Rattle.panel.proofs.kept_lists.panel_kept_festivals_on_ad.Reads as FestivalsOnAd
 use Rattle.panel.proofs.kept_months.panel_kept_month_grid.Reads as MonthGrid
+use Rattle.panel.proofs.kept_dates.panel_kept_bs_to_ad.Reads as BsToAd
+use Rattle.panel.proofs.kept_dates.panel_kept_ad_to_bs.Reads as AdToBs
 
 -- what is told beside the array
 but-array : {P X : Type 0} {x y : Told (P × (X × List ℕ))} → x ≡ y → _≡_ {A = Told (P × X)} (x .0, (x .1 .0, x .1 .1 .0)) (y .0, (y .1 .0, y .1 .1 .0))
@@ -56,3 +58,16 @@ module _ (σ : State) (some : σ .rows ≡ [] → ⊥) (row : List ℕ) (done : 
   month-grid today y u old =
       grows {W = Shown} (λ w. w .answer) (λ w. toldMonth w (old .0)) (λ w. gives-code (w .answer) monthNumbers (old .0)) refl _ (grown .month today y u (old .1 .0) (old .1 .1)) (λ z h. Iff·rfl)
       (λ k x s c. but-array (c .made σ m)) (λ k x s c. but-array (c .made (appendRow σ row .state) n))
+
+  pub bs-to-ad : (y m d : ℕ) (old : ℕ × ℕ × ℕ) → Grows BsToAd.Learnt (λ k s. three (s .1 .1 .1 .1))
+      (λ k. (ref p a, (y, (m, (d, lendThree e old))))) (λ k. (ref q b, (y, (m, (d, lendThree f old))))) 4 (λ b. Added (calendar σ) y)
+  bs-to-ad y u d old =
+      grows (λ z. z) (λ z. gives z numbers old) (λ z. gives-code z numbers old) refl _ (grown .to-ad y u d) (λ z h. Iff·rfl)
+      (λ k x s c. c .made σ m) (λ k x s c. c .made (appendRow σ row .state) n)
+
+  -- the BS year is the first place
+  pub ad-to-bs : (y m d : ℕ) (old : (ℕ × ℕ × ℕ) × (ℕ × ℕ)) → Grows AdToBs.Learnt (λ k s. dated (s .1 .1 .1 .1))
+      (λ k. (ref p a, (y, (m, (d, lendDated e old))))) (λ k. (ref q b, (y, (m, (d, lendDated f old))))) 7 (λ b. Added (calendar σ) (b .0 .0))
+  ad-to-bs y u d old =
+      grows (λ z. z) (λ z. givesTold daysIn z bsNumbers old) (λ z. told-code daysIn bsNumbers z old) (outside-number _ _) _ (grown .to-bs y u d) (λ z h. rw h Iff·rfl)
+      (λ k x s c. c .made σ m) (λ k x s c. c .made (appendRow σ row .state) n)

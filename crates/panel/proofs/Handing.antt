@@ -16,6 +16,13 @@ handed parts old e g p = cc
 pub both : {X Y : Type 0} {s t : X} {u v : Y} → s ≡ t → u ≡ v → _≡_ {A = X × Y} (s, u) (t, v)
 both p q = cc
 
+-- an equal answer hands over the same, alone
+pub given-as : {A P : Type 0} {a b : Answer A} {got : ℕ × P} (parts : A → P) (old : P) → a ≡ b → got ≡ gives a parts old → got ≡ gives b parts old
+given-as parts old e g = cc
+
+pub told-as : {A P D : Type 0} {a b : Answer A} {got : ℕ × (P × D)} (tell : Told → D → D) (parts : A → P) (old : P × D) → a ≡ b → got ≡ givesTold tell a parts old → got ≡ givesTold tell b parts old
+told-as tell parts old e g = cc
+
 -- the number of a refusal, and the place of what it tells
 pub told-at : {D : Type 0} (tell : Told → D → D) (k : Refusal) {r : ℕ} (t : Told) (old : D) → t ≡ told k → r ≡ number k → _≡_ {A = ℕ × D} (r, tell t old) (numberAnd tell k old)
 told-at tell k t old e n = rw (e, n)

@@ -4,24 +4,24 @@
 use Prim.Native.Nat.{ℕ}
 use mathlib.Core.Path.{_≡_, refl, sym, ap, _∙_}
 use mathlib.Core.List.{List, [], _∷_}
-use mathlib.Core.Logic.{_⊎_, inl, inr}
+use mathlib.Core.Logic.{inl, inr}
 use denote.Ref.{now}
 use Rattle.paper.specs.declared.Refusal.{Refusal}
 use Rattle.paper.specs.declared.Refusal.the-variants.{NoRoom}
-use Rattle.paper.specs.Answers.{Answer, answered, refused}
+use Rattle.paper.specs.Answers.{Answer, refused}
 use Rattle.paper.specs.Refusals.{number}
 use Rattle.gregorian.specs.declared.Date.{Date}
 use Rattle.conversion.specs.Flat.{date}
 use Rattle.rules.specs.Festivals.{Pair, listed}
-use Rattle.grid.specs.declared.Month.{Month}
 use Rattle.grid.specs.Month.{Grid, shown}
 use Rattle.kept.specs.State.{State, yearNumbers}
-use Rattle.kept.specs.Operations.{Outcome, Reply, MonthReply, takeRules, appendRow, forgotten, rowFirst, rowFirstMonth, askBs, askAd, askMonth}
+use Rattle.kept.specs.Operations.{Outcome, Reply, takeRules, appendRow, forgotten, rowFirst, rowFirstMonth, askBs, askAd, askMonth}
+use Rattle.kept.specs.Converting.{askToAd, askFromAd}
 use Rattle.steady.proofs.Refusals.{list-left, month-left}
 use Rattle.shelf.specs.Numbers.{laid}
-use Rattle.panel.specs.Boundary.{code, gives, daysIn, table, MonthPlaces, monthNumbers}
+use Rattle.panel.specs.Boundary.{gives, daysIn, givesTold, numbers, bsNumbers, table, monthNumbers}
 use Rattle.panel.specs.Lent as L
-use Rattle.panel.specs.Lent.{MonthState, three, listedAd, month, withArray}
+use Rattle.panel.specs.Lent.{MonthState, three, dated, listedAd, month, withArray}
 use Rattle.panel.specs.Keeping.{Keeping, written, startIn, keptDone, keptYears, keptList, keptListAd, keptMonth}
 use Rattle.panel.specs.Claims.{Crosses, CrossesTelling, Meant, OfMeant}
 use Rattle.panel.proofs.Crossing.{Told, crosses, other-refused, gives-code, gives-left, told-code, parts-kept, told-kept, no-days}
@@ -34,6 +34,8 @@ use Rattle.panel.proofs.keeping.panel_kept_stored.Reads as Stored
 use Rattle.panel.proofs.kept_lists.panel_kept_festivals_on.Reads as FestivalsOn
 use Rattle.panel.proofs.kept_lists.panel_kept_festivals_on_ad.Reads as FestivalsOnAd
 use Rattle.panel.proofs.kept_months.panel_kept_month_grid.Reads as MonthGrid
+use Rattle.panel.proofs.kept_dates.panel_kept_bs_to_ad.Reads as BsToAd
+use Rattle.panel.proofs.kept_dates.panel_kept_ad_to_bs.Reads as AdToBs
 
 -- ---- the laws
 
@@ -74,6 +76,11 @@ module _ {K : Type 0} {A S : K → Type 0} {P D B : Type 0} {C : (k : K) → A k
         left = leaves on e (λ x. x ≡ 0 → ⊥) (λ b c. (b .0 .0 ≡ c .0 .0) × (b .1 ≡ c .1)) (λ b. (refl, refl)) f;
         told-left = leaves on e (λ x. x ≡ n → ⊥) (λ b c. b .0 .1 ≡ c .0 .1) (λ b. refl) g;
       }
+
+-- places alone, beside no buffer
+alone : {B : Type 0} {a : List ℕ} {n : ℕ} {before after : B} {on : State → Told B} → Keeping a n before after on
+    → Keeping {B = B × Unit {0}} a n (before, tt) (after, tt) (λ σ. (on σ .0, (on σ .1, tt)))
+alone {B} c = record { short = λ h. ap (λ (z : Told B). (z .0, (z .1, tt))) (c .short h); made = λ σ m. ap (λ (z : Told B). (z .0, (z .1, tt))) (c .made σ m) }
 
 -- ---- a number other than 0 leaves what was lent
 
@@ -168,3 +175,14 @@ month-grid =
     (λ k a σ. let b = month (a .1 .1 .1 .1 .1 .1) in keptMonth (now (a .0)) (askMonth σ (date (a .1 .0) (a .1 .1 .0) (a .1 .1 .1 .0)) (a .1 .1 .1 .1 .0) (a .1 .1 .1 .1 .1 .0) (b .1 .0) (b .1 .1)) (b .0))
     (λ k a x s p. p)
     (λ k a σ. page-kept (now (a .0)) σ (date (a .1 .0) (a .1 .1 .0) (a .1 .1 .1 .0)) (a .1 .1 .1 .1 .0) (a .1 .1 .1 .1 .1 .0) (month (a .1 .1 .1 .1 .1 .1)))
+
+pub bs-to-ad : Crosses (OfMeant BsToAd.Learnt (λ k a. now (a .0))) (λ k a. three (a .1 .1 .1 .1)) (λ k s. three (s .1 .1 .1 .1))
+bs-to-ad =
+    by-state (λ k a σ. gives (askToAd σ (a .1 .0) (a .1 .1 .0) (a .1 .1 .1 .0)) numbers (three (a .1 .1 .1 .1))) (λ k a x s p. p)
+    (λ k a σ. gives-left (askToAd σ (a .1 .0) (a .1 .1 .0) (a .1 .1 .1 .0)) numbers (three (a .1 .1 .1 .1)))
+
+pub ad-to-bs : CrossesTelling {B = Unit {0}} 7 (OfMeant AdToBs.Learnt (λ k a. now (a .0))) (λ k a. (dated (a .1 .1 .1 .1), tt)) (λ k s. (dated (s .1 .1 .1 .1), tt))
+ad-to-bs =
+    by-telling-state (λ k a σ. let g = givesTold daysIn (askFromAd σ (a .1 .0) (a .1 .1 .0) (a .1 .1 .1 .0)) bsNumbers (dated (a .1 .1 .1 .1)) in (g .0, (g .1, tt))) (λ k a x s p. alone p) 7
+    (λ k a σ h. (parts-kept daysIn bsNumbers (askFromAd σ (a .1 .0) (a .1 .1 .0) (a .1 .1 .1 .0)) (dated (a .1 .1 .1 .1)) h, refl))
+    (λ k a σ. told-kept daysIn bsNumbers 7 no-days (askFromAd σ (a .1 .0) (a .1 .1 .0) (a .1 .1 .1 .0)) (dated (a .1 .1 .1 .1)))

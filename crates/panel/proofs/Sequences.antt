@@ -1,28 +1,26 @@
 -- A SEQUENCE OF CALLS over a kept array: an answered start leaves the blank state in it, each further call the state after its operation, and a refused call the
 -- state that it held. So the array holds, after any sequence, the state that kept's `run` gives, of which `always` says what is kept. Assumes nothing.
-use Prim.Native.Nat.{ℕ, _≤_}
+use Prim.Native.Nat.{ℕ}
 use mathlib.Core.Path.{_≡_, refl, sym, ap, _∙_, subst⁻¹}
-use mathlib.Core.Bool.{Bool, true, false}
+use mathlib.Core.Bool.{true}
 use mathlib.Core.List.{List, [], _∷_}
 use borrow.Author.Tests.{leb-true}
 use lib.Dec.{leb}
 use lib.ListN.{length}
 use denote.Ref.{now}
-use Rattle.paper.specs.declared.Refusal.{Refusal}
 use Rattle.paper.specs.declared.Refusal.the-variants.{NoRoom}
 use Rattle.paper.specs.Answers.{Answer, answered, refused, given, then}
 use Rattle.paper.proofs.Answers.{refused-answered, given-answered}
 use Rattle.conversion.specs.declared.Table.{Table}
 use Rattle.conversion.specs.Flat.{date}
 use Rattle.kept.specs.State.{State, Good}
-use Rattle.kept.specs.Operations.{start, takeRules, appendRow, askBs, askAd, askMonth, Operation, take, append, forget, askedBs, askedAd, askedMonth, next, run}
+use Rattle.kept.specs.Operations.{start, Operation, take, append, forget, askedBs, askedAd, askedMonth, next, run}
 use Rattle.kept.specs.Claims.{Leaves, Keeps}
 use Rattle.kept.proofs.Goods.{good-start, good-run}
 use Rattle.kept.proofs.Theorems.{keeps, always}
 use Rattle.shelf.specs.Numbers.{laid, Made}
-use Rattle.panel.specs.Boundary.{code, gives, table}
-use Rattle.panel.specs.Lent as L
-use Rattle.panel.specs.Lent.{listedAd, month}
+use Rattle.panel.specs.Boundary.{gives, table}
+use Rattle.panel.specs.Lent.{month}
 use Rattle.panel.specs.Keeping.{written, startIn}
 use Rattle.panel.specs.Claims.{Carries, Calls, none, call}
 use Rattle.shelf.proofs.Made.{laid-made}

@@ -14,7 +14,7 @@ use Rattle.kept.specs.State.{State}
 use Rattle.kept.specs.Operations.{start, Outcome, Reply, MonthReply}
 use Rattle.shelf.specs.Numbers.{laid, Made}
 use Rattle.shelf.specs.Inner.{placed}
-use Rattle.panel.specs.Boundary.{code, gives, givesList, givesListAd, givesMonth, MonthPlaces}
+use Rattle.panel.specs.Boundary.{code, givesList, givesListAd, givesMonth, MonthPlaces}
 
 -- what a call promises that is lent the array a: `before` and `after` are all that it is lent to write to, and n is its number
 pub record Keeping {B : Type 0} (a : List ℕ) (n : ℕ) (before after : B) (on : State → ℕ × B) : Type 0 where

@@ -13,6 +13,7 @@ mod day_lists;
 mod heavens;
 mod holidays;
 mod keeping;
+mod kept_dates;
 mod kept_lists;
 mod kept_months;
 mod months;

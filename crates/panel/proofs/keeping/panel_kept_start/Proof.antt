@@ -1,7 +1,6 @@
 use borrow.Author.Needs.{needs}
 use mathlib.Core.Path.{sym, ap, _∙_}
 use Rattle.conversion.specs.Answers.{validSays}
-use Rattle.kept.specs.Held.{StartedAs}
 use Rattle.panel.proofs.Arrays.{not-started, started-short, started}
 use Rattle.panel.proofs.keeping.panel_kept_start.Statement.{statement}
 use Rattle.panel.proofs.keeping.panel_kept_start.Tie as tie
