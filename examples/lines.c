@@ -1,6 +1,9 @@
 /*
  * Answers the line language of oracle/README.md by the calls of panel.h: a table, rules and a text are lent by lines, each question is a line and so is each
  * answer. So the calls from C can be held against the two Rust oracles. examples/lines builds it and asks the stored questions.
+ *
+ * The two conversions over a kept state have no question of their own. So each of the questions `bs` and `ad` over an accepted table is asked of a kept state
+ * with the rows of that table too; where the two do not agree, the program ends with 1.
  */
 #define _POSIX_C_SOURCE 200809L
 #include "panel.h"
@@ -14,13 +17,33 @@
 
 enum { MOST = 65535, LONGEST = 1 << 22, FILL = 7 };
 
-static uint16_t head[4], rows[MOST], rules[MOST];
+static uint16_t head[4], rows[MOST], rules[MOST], row[MOST];
 static uint8_t text[LONGEST];
-static size_t rows_len, rules_len, text_len;
+static size_t rows_len, rules_len, row_len, text_len;
 
-#define TABLE head[0], head[1], head[2], head[3], rows, rows_len
+#define HEAD head[0], head[1], head[2], head[3]
+#define TABLE HEAD, rows, rows_len
 #define RULES rules, rules_len
 #define TEXT text, text_len
+#define ROW row, row_len
+
+/* ---- kept states: the one that questions start and change, and one with the rows of the lent table */
+
+static uint16_t state[PANEL_KEPT], of_table[PANEL_KEPT];
+static int is_started, is_of_table;
+
+#define STATE state, PANEL_KEPT
+#define OF_TABLE of_table, PANEL_KEPT
+
+/* Makes the second of an accepted table, once for each table that is lent. */
+static void keep_table(void)
+{
+    if (is_of_table) return;
+    if (panel_kept_start(HEAD, OF_TABLE) != 0) exit(1);
+    for (size_t i = 0; i < rows_len; i += 13)
+        if (panel_kept_append_row(OF_TABLE, rows + i, 13) != 0) exit(1);
+    is_of_table = 1;
+}
 
 /* ---- the words of a question */
 
@@ -97,7 +120,30 @@ static int read_real(struct question *q, double *to)
     return 1;
 }
 
-/* The words that letters ask for, to the line's end: n a number of 16 bits, b of 8, w of 32, k a kala, s a step, f a float. */
+/* So many numbers, from least to most, to the line's end, added to a list. */
+static int read_list(struct question *q, size_t least, size_t most, uint16_t *list, size_t *len)
+{
+    size_t count = 0;
+    uint32_t number;
+    for (; q->rest <= q->end; count++) {
+        if (count == most || !read_number(q, &number, 65535)) return 0;
+        if (*len + count == MOST) exit(2);
+        list[*len + count] = (uint16_t)number;
+    }
+    if (count < least) return 0;
+    *len += count;
+    return 1;
+}
+
+/* As many numbers as stand there, to the line's end. */
+static int read_row(struct question *q)
+{
+    row_len = 0;
+    return read_list(q, 0, MOST, row, &row_len);
+}
+
+/* The words that letters ask for, to the line's end: n a number of 16 bits, b of 8, w of 32, k a kala, s a step, f a float, a the row to append. S, which is
+   no word, asks for a started state. */
 static int read_words(struct question *q, const char *letters)
 {
     uint32_t *number = q->number;
@@ -108,21 +154,12 @@ static int read_words(struct question *q, const char *letters)
                    : *letters == 'b' ? read_number(q, number++, 255)
                    : *letters == 'w' ? read_number(q, number++, 4294967295)
                    : *letters == 'k' ? read_number(q, number++, 5)
+                   : *letters == 'a' ? read_row(q)
+                   : *letters == 'S' ? is_started
                                      : read_number(q, number++, 65535);
         if (!good) return 0;
     }
     return q->rest > q->end;
-}
-
-/* One number or more, at most so many, to the line's end, added to a list. */
-static int read_list(struct question *q, size_t most, uint16_t *list, size_t *len)
-{
-    size_t count = 0;
-    while (q->rest <= q->end)
-        if (count == most || !read_number(q, &q->number[count++], 65535)) return 0;
-    if (*len + count > MOST) exit(2);
-    for (size_t i = 0; i < count; i++) list[(*len)++] = (uint16_t)q->number[i];
-    return count > 0;
 }
 
 /* A word of 1 to 64 bytes, two hex digits each, to the line's end, added to the text. */
@@ -215,25 +252,6 @@ static void ask_starts(const struct question *q)
     for (size_t i = 0; i < length; i++) put_real(starts[i]);
 }
 
-static void ask_grid(const struct question *q)
-{
-    static uint16_t cells[MOST], festivals[MOST];
-    uint16_t days, first[3], last[3];
-    size_t cell_count, festival_count;
-    fill(cells, N(5));
-    fill(festivals, N(6));
-    if (told(panel_month_grid(TABLE, RULES, DATE, N(3), N(4), cells, N(5), festivals, N(6), &days, PLACES(first), PLACES(last), &cell_count,
-                              &festival_count))) {
-        put_number(days);
-        put_date(first);
-        put_date(last);
-        put_number(cell_count);
-        put_number(festival_count);
-    }
-    put_buffer(cells, N(5));
-    put_buffer(festivals, N(6));
-}
-
 /* Refusal 12 has its line behind it. */
 static void ask_readrules(const struct question *q)
 {
@@ -257,13 +275,14 @@ static void ask_writerules(const struct question *q)
     for (size_t i = 0; i < N(0); i++) printf("%02x", (unsigned)written[i]);
 }
 
-static uint16_t number, numbers[4], list[MOST];
+static uint16_t number, numbers[4], list[MOST], days, first[3], last[3], cells[MOST], festivals[MOST];
 static uint32_t outside[2];
 static uint8_t byte;
 static double real, reals[2];
-static size_t count;
+static size_t count, cell_count, festival_count;
 
 #define OUTSIDE &outside[0], &outside[1]
+#define MONTH cells, N(5), festivals, N(6), &days, PLACES(first), PLACES(last), &cell_count, &festival_count
 
 /* Refusal 7 has behind it the days after the last table day, or those before the first with a minus sign. */
 static void put_outside(uint16_t refusal)
@@ -271,12 +290,66 @@ static void put_outside(uint16_t refusal)
     if (refusal == 7) printf(" %" PRId64, (int64_t)outside[1] - (int64_t)outside[0]);
 }
 
+static void fill_month(const struct question *q)
+{
+    fill(cells, N(5));
+    fill(festivals, N(6));
+}
+
+static void put_month(void)
+{
+    put_number(days);
+    put_date(first);
+    put_date(last);
+    put_number(cell_count);
+    put_number(festival_count);
+}
+
+static void put_month_buffers(const struct question *q)
+{
+    put_buffer(cells, N(5));
+    put_buffer(festivals, N(6));
+}
+
+/* The years that a state has stored, none, one or two: their count, the first and the last. */
+static void put_years(const uint16_t years[3])
+{
+    for (int i = 1; i <= years[0]; i++) put_number(years[i]);
+}
+
+/* Ends the program where a conversion over a kept state does not say what the same over a lent table said. */
+static void hold(uint16_t refusal, uint16_t kept, int is_same)
+{
+    if (kept == refusal && is_same) return;
+    fprintf(stderr, "lines: a kept state converts otherwise: %u and %u\n", (unsigned)refusal, (unsigned)kept);
+    exit(1);
+}
+
+static void hold_bs(const struct question *q, uint16_t refusal)
+{
+    uint16_t ad[3], kept;
+    if (refusal == 1) return;
+    keep_table();
+    kept = panel_kept_bs_to_ad(OF_TABLE, DATE, PLACES(ad));
+    hold(refusal, kept, kept != 0 || memcmp(ad, numbers, sizeof ad) == 0);
+}
+
+static void hold_ad(const struct question *q, uint16_t refusal)
+{
+    uint16_t bs[3], kept;
+    uint32_t before, after;
+    if (refusal == 1) return;
+    keep_table();
+    kept = panel_kept_ad_to_bs(OF_TABLE, DATE, PLACES(bs), &before, &after);
+    hold(refusal, kept, kept == 7 ? before == outside[0] && after == outside[1] : kept != 0 || memcmp(bs, numbers, sizeof bs) == 0);
+}
+
 /* What is asked by a tag: the letters of its words, the call, what is printed where it answers, and what is printed after either. */
 #define QUESTIONS(f) \
     f(check, "", panel_check_table(TABLE), , ) \
     f(checkrules, "", panel_check_rules(RULES), , ) \
-    f(bs, "nnn", panel_bs_to_ad(TABLE, DATE, PLACES(numbers)), put_date(numbers), ) \
-    f(ad, "nnn", panel_ad_to_bs(TABLE, DATE, PLACES(numbers), OUTSIDE), put_date(numbers), put_outside(refusal)) \
+    f(bs, "nnn", panel_bs_to_ad(TABLE, DATE, PLACES(numbers)), put_date(numbers), hold_bs(q, refusal)) \
+    f(ad, "nnn", panel_ad_to_bs(TABLE, DATE, PLACES(numbers), OUTSIDE), put_date(numbers), put_outside(refusal); hold_ad(q, refusal)) \
     f(len, "nn", panel_bs_month_len(TABLE, N(0), N(1), &number), put_number(number), ) \
     f(valid, "nnn", panel_validate_bs_date(TABLE, DATE), , ) \
     f(step, "nbs", panel_step_month(TABLE, N(0), (uint8_t)N(1), q->step, &number, &byte), put_number(number); put_number(byte), ) \
@@ -303,6 +376,16 @@ static void put_outside(uint16_t refusal)
     f(listad, "nnnn", (fill(list, N(3)), panel_festivals_on_ad(TABLE, RULES, DATE, list, N(3), &count, OUTSIDE)), put_number(count), \
       put_outside(refusal); put_buffer(list, N(3))) \
     f(holiday, "nnn", panel_is_holiday(TABLE, RULES, DATE, &number), put_number(number), ) \
+    f(grid, "nnnnnnn", (fill_month(q), panel_month_grid(TABLE, RULES, DATE, N(3), N(4), MONTH)), put_month(), put_month_buffers(q)) \
+    f(start, "nnnn", panel_kept_start(DATE, N(3), STATE), , is_started = refusal == 0) \
+    f(take, "S", panel_kept_take_rules(STATE, RULES), , ) \
+    f(append, "Sa", panel_kept_append_row(STATE, ROW), , ) \
+    f(askbs, "Snnnn", (fill(list, N(3)), panel_kept_festivals_on(STATE, DATE, list, N(3), &count)), put_number(count), put_buffer(list, N(3))) \
+    f(askad, "Snnnn", (fill(list, N(3)), panel_kept_festivals_on_ad(STATE, DATE, list, N(3), &count, OUTSIDE)), put_number(count), \
+      put_outside(refusal); put_buffer(list, N(3))) \
+    f(askgrid, "Snnnnnnn", (fill_month(q), panel_kept_month_grid(STATE, DATE, N(3), N(4), MONTH)), put_month(), put_month_buffers(q)) \
+    f(forget, "S", panel_kept_forget(STATE), , ) \
+    f(stored, "S", panel_kept_stored(STATE, PLACES(numbers)), put_years(numbers), ) \
     f(sin, "f", panel_sine(q->real[0], &real), put_real(real), ) \
     f(cos, "f", panel_cosine(q->real[0], &real), put_real(real), ) \
     f(asin, "f", panel_arcsine(q->real[0], &real), put_real(real), ) \
@@ -324,8 +407,7 @@ QUESTIONS(DEFINED)
 static const struct {
     const char *tag, *letters;
     void (*ask)(const struct question *q);
-} questions[] = { QUESTIONS(LISTED) { "day", "nnn", ask_day }, { "starts", "nffn", ask_starts }, { "grid", "nnnnnnn", ask_grid },
-                  { "readrules", "n", ask_readrules }, { "writerules", "n", ask_writerules } };
+} questions[] = { QUESTIONS(LISTED) { "day", "nnn", ask_day }, { "starts", "nffn", ask_starts }, { "readrules", "n", ask_readrules }, { "writerules", "n", ask_writerules } };
 
 /* A line that lends, or a question; whether it is in form. */
 static int take(struct question *q)
@@ -333,8 +415,11 @@ static int take(struct question *q)
     const char *from;
     size_t length = next_word(q, &from);
 #define IS(text) (length == strlen(text) && memcmp(from, text, length) == 0)
-    if (IS("cells")) return read_list(q, 13, rows, &rows_len);
-    if (IS("rule")) return read_list(q, 8, rules, &rules_len);
+    if (IS("cells")) {
+        is_of_table = 0;
+        return read_list(q, 1, 13, rows, &rows_len);
+    }
+    if (IS("rule")) return read_list(q, 1, 8, rules, &rules_len);
     if (IS("octets")) return read_octets(q);
     if (IS("rules") || IS("text")) {
         if (q->rest <= q->end) return 0;
@@ -345,6 +430,7 @@ static int take(struct question *q)
         if (!read_words(q, "nnnn")) return 0;
         for (int i = 0; i < 4; i++) head[i] = N(i);
         rows_len = 0;
+        is_of_table = 0;
         return 1;
     }
     for (size_t i = 0; i < sizeof questions / sizeof *questions; i++)

@@ -1,10 +1,12 @@
 #define _GNU_SOURCE
 #include "arguments.h"
 #include "memory.h"
+#include "panel.h"
 
 #include <float.h>
 #include <math.h>
 #include <stdio.h>
+#include <stdlib.h>
 #include <string.h>
 
 #define COUNT(array) (sizeof(array) / sizeof *(array))
@@ -59,14 +61,17 @@ static struct slice lasting(const uint16_t *numbers, size_t len)
     return made;
 }
 
+static void random_row(uint16_t *row)
+{
+    row[12] = 0;
+    for (int month = 0; month < 12; month++) row[12] += row[month] = (uint16_t)from_to(29, 32);
+}
+
 /* A good table: it begins in 1901 to 1943, so that 128 years of at most 384 days end before 2100. */
 static struct table random_table(uint32_t years, uint16_t *rows)
 {
     struct table made = { from_to(1, 3000), from_to(1901, 1943), from_to(1, 12), from_to(1, 28), years, { NULL, 0 } };
-    for (uint16_t *row = rows; row < rows + 13 * years; row += 13) {
-        row[12] = 0;
-        for (int month = 0; month < 12; month++) row[12] += row[month] = (uint16_t)from_to(29, 32);
-    }
+    for (uint16_t *row = rows; row < rows + 13 * years; row += 13) random_row(row);
     return made;
 }
 
@@ -101,6 +106,24 @@ static void prepare_tables(void)
         broken_tables[i].rows = lasting(rows, break_rows(rows, 13 * broken_tables[i].years, i % 8));
     }
     broken_tables[0].rows = (struct slice){ zeros((size_t)1 << 31), (size_t)1 << 30 };
+}
+
+/* ---- year rows */
+
+static struct slice good_rows[24], broken_rows[40];
+
+static void prepare_rows(void)
+{
+    static uint16_t row[2 * 13 * (MOST_YEARS + 1)];
+    for (size_t i = 0; i < COUNT(good_rows); i++) {
+        random_row(row);
+        good_rows[i] = lasting(row, 13);
+    }
+    for (size_t i = 0; i < COUNT(broken_rows); i++) {
+        random_row(row);
+        broken_rows[i] = lasting(row, break_rows(row, 13, i % 8));
+    }
+    broken_rows[0] = (struct slice){ zeros((size_t)1 << 31), (size_t)1 << 30 };
 }
 
 /* ---- rules */
@@ -316,6 +339,92 @@ static size_t odd_room(size_t most)
     }
 }
 
+/* ---- kept states */
+
+enum { BEHIND = 40 };
+
+/* An array that the calls alone have made, or another, and the table that it was made over. */
+struct state {
+    struct slice array;
+    struct table table;
+    int is_made;
+};
+
+static struct state made_states[40], odd_states[400];
+
+static void must(uint16_t refusal)
+{
+    if (refusal == 0) return;
+    fprintf(stderr, "hostile: a kept state cannot be made, refused with %u\n", (unsigned)refusal);
+    exit(2);
+}
+
+/* A date of a state's table: of its first days, with two years drawn where there are two, or of any. */
+static void ask_state(uint16_t *array, const struct table *table)
+{
+    static uint16_t festivals[768];
+    size_t count;
+    must(panel_kept_festivals_on(array, PANEL_KEPT, (uint16_t)(table->first_year + below(table->years)), (uint16_t)from_to(1, below(2) ? 2 : 12), (uint16_t)from_to(1, 29),
+                                 festivals, COUNT(festivals), &count));
+}
+
+/* A state by the calls: with rows or with none, with rules or with none, with stored years or with none, and with other numbers behind it. */
+static void make_state(struct state *made, const struct table *table, size_t i)
+{
+    static uint16_t array[PANEL_KEPT + BEHIND];
+    const uint16_t *rows = table->rows.at;
+    const struct slice rules = good_lists[i % COUNT(good_lists)];
+    for (size_t k = 0; k < COUNT(array); k++) array[k] = (uint16_t)bits();
+    must(panel_kept_start((uint16_t)table->first_year, (uint16_t)table->year, (uint16_t)table->month, (uint16_t)table->day, array, PANEL_KEPT));
+    if (i % 4 > 0) must(panel_kept_take_rules(array, PANEL_KEPT, rules.at, rules.len));
+    for (size_t k = 0; i % 8 > 0 && k < table->years; k++) must(panel_kept_append_row(array, PANEL_KEPT, rows + 13 * k, 13));
+    if (i % 8 > 1) ask_state(array, table);
+    if (i % 8 == 2) must(panel_kept_forget(array, PANEL_KEPT));
+    made->array = lasting(array, PANEL_KEPT + (below(2) ? 0 : below(BEHIND + 1)));
+    made->table = *table;
+    made->is_made = 1;
+}
+
+/* Another array from one that was made, in one of eight ways; the length that is then lent. */
+static size_t spoil(uint16_t *array, size_t len, unsigned way)
+{
+    switch (way) {
+    case 0: array[below(8)] = (uint16_t)odd_number(65535); return len;
+    case 1: array[below(PANEL_KEPT)] = (uint16_t)odd_number(65535); return len;
+    case 2: array[below(len)] ^= (uint16_t)(1u << below(16)); return len;
+    case 3: return below(2) ? PANEL_KEPT - 1 : below(PANEL_KEPT);
+    case 4: return below(2) ? 0 : from_to(1, 8);
+    case 5: memset(array, below(2) ? 255 : 0, len * sizeof *array); return len;
+    case 6:
+        for (size_t k = 4; k < len; k++) array[k] = (uint16_t)bits();
+        return len;
+    default:
+        for (size_t k = 0; k < len; k++) array[k] = (uint16_t)bits();
+        return len;
+    }
+}
+
+void prepare_states(void)
+{
+    static uint16_t array[PANEL_KEPT + BEHIND];
+    prepare_rows();
+    for (size_t i = 0; i < COUNT(made_states); i++) make_state(&made_states[i], &good_tables[i % COUNT(good_tables)], i);
+    for (size_t i = 0; i < COUNT(odd_states); i++) {
+        struct state *odd = &odd_states[i];
+        *odd = made_states[below(COUNT(made_states))];
+        memcpy(array, odd->array.at, odd->array.len * sizeof *array);
+        odd->array = lasting(array, spoil(array, odd->array.len, i % 8));
+        odd->is_made = 0;
+    }
+}
+
+/* A tame call gets a state with a row. */
+static const struct state *draw_state(int odd, int tame)
+{
+    const struct state *state = odd ? &odd_states[below(COUNT(odd_states))] : &made_states[below(COUNT(made_states))];
+    return tame && ((const uint16_t *)state->array.at)[4] == 0 ? draw_state(odd, tame) : state;
+}
+
 /* ---- drawing */
 
 static uint32_t month_days(uint32_t year, uint32_t month)
@@ -385,6 +494,7 @@ void draw(struct arguments *arguments, const char *letters, int tame, const size
 {
     struct places to = { arguments->number, arguments->real, arguments->slice, arguments->room };
     const struct table *table = NULL;
+    const struct state *state = NULL;
     for (const char *letter = letters; *letter; letter++) {
         /* of hostile arguments about half are good, so that each test that stands behind another is reached */
         int odd = !tame && below(2);
@@ -409,6 +519,21 @@ void draw(struct arguments *arguments, const char *letters, int tame, const size
         case 'u': draw_real(&to, odd, to.real[-1], 40.0); break;
         case 't': draw_real(&to, odd, 2399999.0, 110002.0); break;
         case 'r': draw_wide(&to, odd); break;
+        case 'h':
+            draw_number(&to, odd, 1, 3000, 65535);
+            draw_number(&to, !tame && below(2), 1901, 2099, 65535);
+            draw_number(&to, !tame && below(2), 1, 12, 65535);
+            draw_number(&to, !tame && below(2), 1, month_days(to.number[-2], to.number[-1]), 65535);
+            break;
+        case 'K':
+        case 'J':
+            state = draw_state(odd, tame);
+            table = &state->table;
+            arguments->is_made = state->is_made;
+            if (*letter == 'K') arguments->state = state->array;
+            else *to.slice++ = state->array;
+            break;
+        case 'w': *to.slice++ = odd ? broken_rows[below(COUNT(broken_rows))] : good_rows[below(COUNT(good_rows))]; break;
         case 'B':
             *to.room++ = odd ? odd_room(*most) : *most;
             most++;
@@ -424,9 +549,10 @@ void show(const struct arguments *shown, const char *letters)
     const struct slice *slice = shown->slice;
     const size_t *room = shown->room;
     for (const char *letter = letters; *letter; letter++) {
-        int numbers = *letter == 'T' ? 4 : *letter == 'g' ? 3 : strchr("ymdnkqYMDb", *letter) != NULL;
+        int numbers = strchr("Th", *letter) ? 4 : *letter == 'g' ? 3 : strchr("ymdnkqYMDb", *letter) != NULL;
         while (numbers-- > 0) fprintf(stderr, " %lu", (unsigned long)*number++);
-        if (strchr("TRx", *letter)) fprintf(stderr, " (%zu lent)", (slice++)->len);
+        if (strchr("TRxJw", *letter)) fprintf(stderr, " (%zu lent)", (slice++)->len);
+        if (*letter == 'K') fprintf(stderr, " (a state of %zu)", shown->state.len);
         if (strchr("ieutr", *letter)) fprintf(stderr, " %a", *real++);
         if (*letter == 's') fprintf(stderr, " %ld", (long)shown->step);
         if (*letter == 'B') fprintf(stderr, " (room for %zu)", *room++);

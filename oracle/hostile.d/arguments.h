@@ -18,10 +18,15 @@ struct arguments {
     int32_t step;
     struct slice slice[2];
     size_t room[2]; /* the elements of each lent buffer */
+    struct slice state; /* the array of a kept state that the call may change */
+    int is_made; /* whether the calls alone have made the array of a kept state */
 };
 
 /* Begins the random numbers, and makes the tables, rule lists and texts that are lent. */
 void prepare(uint64_t seed);
+
+/* Makes the kept states that are lent, by the calls of the library, and the year rows for them. */
+void prepare_states(void);
 
 /* A random number below another. */
 uint64_t below(uint64_t end);
@@ -33,7 +38,9 @@ uint64_t nan_bits(void);
      ymd a Gregorian date   n a day number   k a tithi   q a kala
      T a year table         YMD a BS date in it   g a Gregorian date in it   R rules   x a rule file   b a month in a byte   s a step of months
      i an instant           e an instant whose next days are instants too   u an instant soon after the one before
-     t a day of terrestrial time   r any number   B a lent buffer, with `most` elements where it is tame */
+     t a day of terrestrial time   r any number   B a lent buffer, with `most` elements where it is tame
+     h first BS year and first Gregorian day of a table   K a kept state that the call may change   J one that it only reads (YMD and g are then of its table)
+     w a year row */
 void draw(struct arguments *to, const char *letters, int tame, const size_t *most);
 
 /* Prints arguments to standard error. */

@@ -15,13 +15,15 @@
 /* ---- the functions */
 
 static struct arguments a;
-static struct lent places[16], buffers[2];
+static struct lent places[16], buffers[2], array;
 
-/* What is passed: a number, a real, a lent slice, a table; a place to write a u8, u16, u32, size_t or double to; a buffer. */
+/* What is passed: a number, a real, a lent slice, a table, the array of a kept state; a place to write a u8, u16, u32, size_t or double to; a buffer. */
 #define N(i) ((uint16_t)a.number[i])
 #define X(i) (a.real[i])
 #define S(i) a.slice[i].at, a.slice[i].len
-#define TABLE N(0), N(1), N(2), N(3), S(0)
+#define HEAD N(0), N(1), N(2), N(3)
+#define TABLE HEAD, S(0)
+#define STATE (uint16_t *)array.at, a.state.len
 #define C(i) ((uint8_t *)places[i].at)
 #define H(i) ((uint16_t *)places[i].at)
 #define W(i) ((uint32_t *)places[i].at)
@@ -31,14 +33,15 @@ static struct lent places[16], buffers[2];
 #define HB(i) (uint16_t *)buffers[i].at, a.room[i]
 #define FB(i) (double *)buffers[i].at, a.room[i]
 
-/* A lent buffer: the width of its elements, the most that an answer can write, and the place that tells how many times `each` were written. */
+/* A lent buffer: the width of its elements, the most that an answer can write, and the place that tells how many times `each` were written; where `each` is 0 an
+   answer always writes the most. */
 struct buffer {
     size_t width, most, place, each;
 };
 
 static const struct buffer no_buffer[2], starts[2] = { { sizeof(double), 40, 0, 1 } }, lists[2] = { { sizeof(uint16_t), 768, 0, 2 } },
                            rules[2] = { { sizeof(uint16_t), 2560, 0, 8 } }, texts[2] = { { sizeof(uint8_t), 29120, 0, 1 } },
-                           grids[2] = { { sizeof(uint16_t), 504, 7, 12 }, { sizeof(uint16_t), 768, 8, 2 } };
+                           grids[2] = { { sizeof(uint16_t), 504, 7, 12 }, { sizeof(uint16_t), 768, 8, 2 } }, states[2] = { { sizeof(uint16_t), PANEL_KEPT, 0, 0 } };
 
 /* The name; the letters of its arguments (arguments.h); the letters of its places: c a u8, h a u16, w a u32, z a size_t, f a double, y a u16 that is 0 or 1,
    o one that is 1 where the places behind it are written and 0 where they stay, l a size_t that refusal 12 alone writes, d a u32 that refusal 7 alone writes
@@ -86,7 +89,18 @@ static const struct buffer no_buffer[2], starts[2] = { { sizeof(double), 40, 0, 
     f(panel_is_holiday, "TRYMD", "y", no_buffer, "1 2 4 5 6", 200, (TABLE, S(1), N(4), N(5), N(6), H(0))) \
     f(panel_step_month, "TYbs", "hc", no_buffer, "1 10", 4, (TABLE, N(4), (uint8_t)a.number[5], a.step, H(0), C(1))) \
     f(panel_month_grid, "TRymdYMBB", "hhhhhhhzz", grids, "1 2 3 4 5 9", 500, \
-      (TABLE, S(1), N(4), N(5), N(6), N(7), N(8), HB(0), HB(1), H(0), H(1), H(2), H(3), H(4), H(5), H(6), Z(7), Z(8)))
+      (TABLE, S(1), N(4), N(5), N(6), N(7), N(8), HB(0), HB(1), H(0), H(1), H(2), H(3), H(4), H(5), H(6), Z(7), Z(8))) \
+    f(panel_kept_start, "hB", "", states, "1 9", 2, (HEAD, HB(0))) \
+    f(panel_kept_take_rules, "KR", "", no_buffer, "9 2", 4, (STATE, S(0))) \
+    f(panel_kept_forget, "K", "", no_buffer, "9", 4, (STATE)) \
+    f(panel_kept_stored, "J", "hhh", no_buffer, "9", 4, (S(0), H(0), H(1), H(2))) \
+    f(panel_kept_bs_to_ad, "JYMD", "hhh", no_buffer, "9 13 4 5 6", 4, (S(0), N(0), N(1), N(2), H(0), H(1), H(2))) \
+    f(panel_kept_ad_to_bs, "Jg", "hhhdd", no_buffer, "9 13 3 7", 4, (S(0), N(0), N(1), N(2), H(0), H(1), H(2), W(3), W(4))) \
+    f(panel_kept_append_row, "Kw", "", no_buffer, "9 1", 200, (STATE, S(0))) \
+    f(panel_kept_festivals_on, "KYMDB", "z", lists, "9 13 4 5 6", 200, (STATE, N(0), N(1), N(2), HB(0), Z(0))) \
+    f(panel_kept_festivals_on_ad, "KgB", "zdd", lists, "9 13 3 7", 200, (STATE, N(0), N(1), N(2), HB(0), Z(0), W(1), W(2))) \
+    f(panel_kept_month_grid, "KymdYMBB", "hhhhhhhzz", grids, "9 13 3 4 5", 200, \
+      (STATE, N(0), N(1), N(2), N(3), N(4), HB(0), HB(1), H(0), H(1), H(2), H(3), H(4), H(5), H(6), Z(7), Z(8)))
 
 struct function {
     const char *name, *letters, *places;
@@ -116,7 +130,16 @@ struct function {
     f(broken_zero, "ymd", "dd", no_buffer, "3 7", 2, (W(0), W(1))) \
     f(broken_sign, "i", "f", no_buffer, "8", 2, (F(0))) \
     f(broken_read, "TYM", "h", no_buffer, "1 4 5", 2, (S(0), H(0))) \
-    f(broken_write, "TYM", "h", no_buffer, "1 4 5", 2, (S(0), H(0)))
+    f(broken_write, "TYM", "h", no_buffer, "1 4 5", 2, (S(0), H(0))) \
+    f(broken_start, "hB", "", states, "1 9", 2, (HB(0))) \
+    f(broken_state, "K", "", no_buffer, "9 2", 2, (STATE)) \
+    f(broken_behind, "K", "", no_buffer, "9 2", 2, (STATE)) \
+    f(broken_past, "K", "", no_buffer, "9 2", 2, (STATE)) \
+    f(broken_short, "K", "", no_buffer, "9 2", 2, (STATE)) \
+    f(broken_late, "KR", "", no_buffer, "9 2", 2, (STATE)) \
+    f(broken_long, "K", "", no_buffer, "9 2", 2, (STATE)) \
+    f(broken_table, "J", "", no_buffer, "9", 2, (S(0))) \
+    f(broken_memory, "K", "", no_buffer, "9", 2, (STATE))
 
 /* refuses with a number of another call */
 static uint16_t broken_refusal(uint16_t year, uint16_t *out)
@@ -259,6 +282,75 @@ static uint16_t broken_write(const uint16_t *rows, size_t len, uint16_t *out)
     return 0;
 }
 
+/* starts a state, and leaves a number of the array */
+static uint16_t broken_start(uint16_t *state, size_t len)
+{
+    if (len < PANEL_KEPT) return 9;
+    memset(state, 0, (PANEL_KEPT - 1) * sizeof *state);
+    return 0;
+}
+
+/* refuses, and changes the array */
+static uint16_t broken_state(uint16_t *state, size_t len)
+{
+    if (len < PANEL_KEPT) return 9;
+    state[PANEL_KEPT - 1] ^= 1;
+    return 2;
+}
+
+/* answers, and changes what is behind the state */
+static uint16_t broken_behind(uint16_t *state, size_t len)
+{
+    if (len < PANEL_KEPT) return 9;
+    if (len > PANEL_KEPT) state[PANEL_KEPT] ^= 1;
+    return 0;
+}
+
+/* answers, and writes past the array */
+static uint16_t broken_past(uint16_t *state, size_t len)
+{
+    if (len < PANEL_KEPT) return 9;
+    state[len] ^= 1;
+    return 0;
+}
+
+/* answers over an array that is too short */
+static uint16_t broken_short(uint16_t *state, size_t len)
+{
+    (void)state;
+    return len + 1 < PANEL_KEPT ? 9 : 0;
+}
+
+/* refuses an array that is too short with another number */
+static uint16_t broken_late(uint16_t *state, size_t len)
+{
+    (void)state;
+    return len < PANEL_KEPT ? 2 : 0;
+}
+
+/* refuses an array with room for a state as too short */
+static uint16_t broken_long(uint16_t *state, size_t len)
+{
+    (void)state;
+    return len <= PANEL_KEPT ? 9 : 0;
+}
+
+/* refuses a state that the calls have made with a number that only another array may get */
+static uint16_t broken_table(const uint16_t *state, size_t len)
+{
+    if (len < PANEL_KEPT) return 9;
+    return state[6] > 0 ? 1 : 0;
+}
+
+/* leaves another state each time */
+static uint16_t broken_memory(uint16_t *state, size_t len)
+{
+    static uint16_t calls;
+    if (len < PANEL_KEPT) return 9;
+    state[7] = calls++;
+    return 0;
+}
+
 #define DEFINED(name, letters, places, buffers, refusals, tame, passed) \
     static uint16_t call_##name(void) { return name passed; }
 #define LISTED(name, letters, places, buffers, refusals, tame, passed) { #name, letters, places, buffers, refusals, tame, call_##name },
@@ -293,6 +385,17 @@ static size_t width_of(char place)
                                  : sizeof(uint16_t);
 }
 
+/* Whether the call takes a kept state, and one that it may change. */
+static int changes_state(void)
+{
+    return strchr(function->letters, 'K') != NULL;
+}
+
+static int has_state(void)
+{
+    return changes_state() || strchr(function->letters, 'J') != NULL;
+}
+
 static unsigned long made; /* calls in all */
 
 /* Calls it over a guard byte. What is lent for doubles holds NaNs in every other call or so. */
@@ -306,16 +409,25 @@ static uint16_t call(unsigned char fill)
         size_t width = function->buffers[i].width;
         lend(&buffers[i], a.room[i] * width, (int)below(2), fill, width == sizeof(double) ? reals : NULL);
     }
+    if (changes_state()) lend_copy(&array, a.state.at, a.state.len * sizeof(uint16_t), (int)below(2), fill);
     return function->call();
 }
 
-/* Whether a refusal is one of those that are allowed. */
+/* Whether a refusal is one of those that are allowed: of an array that is no kept state the table and the rules too may be refused. */
 static int allowed(uint16_t code)
 {
     char *rest;
+    if (has_state() && !a.is_made && (code == 1 || code == 2)) return 1;
     for (const char *at = function->refusals; *at; at = rest)
         if (strtoul(at, &rest, 10) == code) return 1;
     return 0;
+}
+
+/* Whether 9 is right about a kept state's array: it comes where the array is too short, and else only for want of room in a buffer. */
+static int is_room_right(uint16_t code)
+{
+    size_t len = changes_state() ? a.state.len : a.slice[0].len;
+    return len < PANEL_KEPT ? code == 9 : code != 9 || function->buffers[0].width > 0;
 }
 
 /* Whether there is something: each answer says so but one whose first place says that there is nothing. */
@@ -344,7 +456,13 @@ static int is_on_one_side(void)
 static size_t written(size_t i)
 {
     const struct buffer *buffer = &function->buffers[i];
-    return *Z(buffer->place) * buffer->each * buffer->width;
+    return (buffer->each > 0 ? *Z(buffer->place) * buffer->each : buffer->most) * buffer->width;
+}
+
+/* The bytes of a kept state's array that an answer may change. */
+static size_t changed(uint16_t code)
+{
+    return code == 0 ? PANEL_KEPT * sizeof(uint16_t) : 0;
 }
 
 static void check(uint16_t code)
@@ -359,10 +477,12 @@ static void check(uint16_t code)
         if (code == 0 && written(i) > buffers[i].bytes) failed("answers more than there is room for");
         if (!untouched(&buffers[i], code == 0 ? written(i) : 0)) failed("changes a buffer past its answer");
     }
+    if (has_state() && !is_room_right(code)) failed("takes an array that is too short, or refuses one that is not");
+    if (changes_state() && !untouched(&array, changed(code))) failed("changes a kept state on a refusal, or what is not of it");
 }
 
-/* What an answer or a refusal has written, all places and buffers one after the other. */
-static size_t kept(uint16_t code, unsigned char *to)
+/* What an answer or a refusal has written, all places and buffers and the kept state one after the other. */
+static size_t outcome(uint16_t code, unsigned char *to)
 {
     unsigned char *at = to;
     for (size_t i = 0; function->places[i]; i++)
@@ -371,6 +491,10 @@ static size_t kept(uint16_t code, unsigned char *to)
             at += places[i].bytes;
         }
     for (size_t i = 0; code == 0 && i < 2 && function->buffers[i].width > 0; at += written(i), i++) memcpy(at, buffers[i].at, written(i));
+    if (changes_state()) {
+        memcpy(at, array.at, changed(code));
+        at += changed(code);
+    }
     return (size_t)(at - to);
 }
 
@@ -378,10 +502,10 @@ static size_t kept(uint16_t code, unsigned char *to)
 static void call_again(uint16_t code, unsigned char fill)
 {
     static unsigned char before[1 << 20], after[1 << 20];
-    size_t length = kept(code, before);
+    size_t length = outcome(code, before);
     uint16_t now = call(fill);
     check(now);
-    if (now != code || kept(now, after) != length || memcmp(before, after, length) != 0) failed("answers the same question in two ways");
+    if (now != code || outcome(now, after) != length || memcmp(before, after, length) != 0) failed("answers the same question in two ways");
 }
 
 /* Once more with just enough room in each buffer, and with one element less. */
@@ -472,14 +596,19 @@ int main(int count, char **words)
         if (number == SIGSEGV || number == SIGBUS || number == SIGFPE || number == SIGILL || number == SIGABRT) signal(number, fault);
     for (size_t k = 0; k < sizeof places / sizeof *places; k++) reserve(&places[k], 1);
     for (size_t k = 0; k < 2; k++) reserve(&buffers[k], (size_t)1 << 19);
+    reserve(&array, (size_t)1 << 14);
     while (i < all && strcmp(asked, functions[i].name) != 0) i++;
     prepare(setting("HOSTILE_SEED", 1) + i);
-    if (strcmp(asked, "--self-test") == 0) return self_test();
+    if (strcmp(asked, "--self-test") == 0) {
+        prepare_states();
+        return self_test();
+    }
     if (i == all) {
         fprintf(stderr, "hostile: no function of include/panel.h: %s\n", asked);
         return 2;
     }
     function = &functions[i];
+    if (has_state()) prepare_states();
     drive(setting("HOSTILE_CALLS", 1000000));
     return 0;
 }

@@ -47,16 +47,34 @@ static unsigned char *before(const struct lent *lent, const unsigned char *byte)
     return lent->before + (byte - lent->from);
 }
 
-void lend(struct lent *lent, size_t bytes, int at_end, unsigned char fill, uint64_t (*drawn)(void))
+static void place(struct lent *lent, size_t bytes, int at_end, unsigned char fill)
 {
     lent->bytes = bytes;
     lent->at = at_end ? lent->to - bytes : lent->from;
     memset(near_from(lent), fill, near_to(lent) - near_from(lent));
+}
+
+/* Keeps what the bytes are now. */
+static void note(const struct lent *lent)
+{
+    memcpy(before(lent, near_from(lent)), near_from(lent), near_to(lent) - near_from(lent));
+}
+
+void lend(struct lent *lent, size_t bytes, int at_end, unsigned char fill, uint64_t (*drawn)(void))
+{
+    place(lent, bytes, at_end, fill);
     for (size_t k = 0; drawn && k + sizeof(uint64_t) <= bytes; k += sizeof(uint64_t)) {
         uint64_t eight = drawn();
         memcpy(lent->at + k, &eight, sizeof eight);
     }
-    memcpy(before(lent, near_from(lent)), near_from(lent), near_to(lent) - near_from(lent));
+    note(lent);
+}
+
+void lend_copy(struct lent *lent, const void *bytes, size_t count, int at_end, unsigned char fill)
+{
+    place(lent, count, at_end, fill);
+    memcpy(lent->at, bytes, count);
+    note(lent);
 }
 
 /* Whether the bytes from one place to another are as they were lent. */

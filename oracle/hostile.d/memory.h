@@ -20,6 +20,9 @@ void reserve(struct lent *lent, size_t bytes);
    eight of the lent bytes are a number that it gives. */
 void lend(struct lent *lent, size_t bytes, int at_end, unsigned char fill, uint64_t (*drawn)(void));
 
+/* The same, with bytes of the caller's in the place of the fill. */
+void lend_copy(struct lent *lent, const void *bytes, size_t count, int at_end, unsigned char fill);
+
 /* Whether the lent bytes past the first `used`, and what lies near the lent bytes, are as they were lent. */
 int untouched(const struct lent *lent, size_t used);
 
