@@ -1,4 +1,20 @@
 //! See `../run`. Prints a table: the time of a question to the port, to the parameterised Rust and to the Rust untouched, and the ratios.
+/// A question to the Rust untouched, where the compiler is new enough for it.
+#[cfg(feature = "untouched")]
+macro_rules! untouched {
+    ($ask:expr) => {
+        Some(Box::new($ask))
+    };
+}
+
+#[cfg(not(feature = "untouched"))]
+macro_rules! untouched {
+    ($ask:expr) => {
+        None
+    };
+}
+
+mod kept;
 mod port;
 mod timing;
 #[cfg(feature = "untouched")]
@@ -14,21 +30,6 @@ use parameterised::trig;
 use parameterised::Answer;
 use std::cell::RefCell;
 use timing::{Ask, Timed};
-
-/// A question to the Rust untouched, where the compiler is new enough for it.
-#[cfg(feature = "untouched")]
-macro_rules! untouched {
-    ($ask:expr) => {
-        Some(Box::new($ask))
-    };
-}
-
-#[cfg(not(feature = "untouched"))]
-macro_rules! untouched {
-    ($ask:expr) => {
-        None
-    };
-}
 
 const ROUNDS: usize = 41;
 const COLD_ROUNDS: usize = 9;
@@ -102,12 +103,11 @@ struct Report {
 
 impl Report {
     fn row(&mut self, name: &str, rust: Timed, untouched: Option<Timed>) {
-        let ratio = |timed: Timed| format!("{} | {:.2}", shown(timed.rust), timed.ratio);
-        let untouched = untouched.map_or("| ".to_string(), ratio);
-        println!("| {name} | {} | {} | {untouched} |", shown(rust.port), ratio(rust));
+        let untouched = untouched.map_or("| ".to_string(), beside);
+        println!("| {name} | {} | {} | {untouched} |", shown(rust.port), beside(rust));
     }
 
-    /// Whether port and parameterised Rust answer alike.
+    /// Whether port and parameterised Rust, or the port asked in two ways, answer alike.
     fn alike(&mut self, name: &str, inputs: usize, port: &mut Ask, rust: &mut Ask) {
         let differing = (0..inputs).filter(|&i| port(i) != rust(i)).count();
         if differing > 0 {
@@ -131,6 +131,34 @@ impl Report {
         let untouched = untouched.map(|mut ask| timing::once(inputs, &mut port, &mut ask));
         self.row(name, timed, untouched);
     }
+
+    /// A question to a kept state, beside the same question to the port without one, to a state of the parameterised Rust and to the Rust untouched, which keeps
+    /// what it has worked out by itself. Each input was asked before it is timed.
+    fn kept(
+        &mut self,
+        name: &str,
+        inputs: usize,
+        mut port: Ask,
+        mut lent: Ask,
+        mut rust: Ask,
+        untouched: Option<Ask>,
+    ) {
+        self.alike(name, inputs, &mut port, &mut rust);
+        self.alike(name, inputs, &mut port, &mut lent);
+        let lent = timing::rounds(COLD_ROUNDS, inputs, &mut port, &mut lent);
+        let rust = timing::rounds(ROUNDS, inputs, &mut port, &mut rust);
+        let untouched = untouched.map(|mut ask| {
+            (0..inputs).for_each(|i| drop(ask(i)));
+            timing::rounds(ROUNDS, inputs, &mut port, &mut ask)
+        });
+        let untouched = untouched.map_or("| ".to_string(), beside);
+        println!("| {name} | {} | {} | {} | {untouched} |", shown(rust.port), beside(lent), beside(rust));
+    }
+}
+
+/// A time, and the ratio of the port's to it.
+fn beside(timed: Timed) -> String {
+    format!("{} | {:.2}", shown(timed.rust), timed.ratio)
 }
 
 fn sines(report: &mut Report, dice: &mut Dice) {
@@ -144,15 +172,20 @@ fn sines(report: &mut Report, dice: &mut Dice) {
     );
 }
 
-fn conversions(report: &mut Report, dice: &mut Dice, table: &Table) {
+/// Dates of all years of a table.
+fn dates_of_table(dice: &mut Dice, table: &Table) -> Vec<BsDate> {
     let years = table.rows.len() / 13;
-    let dates: Vec<BsDate> = (0..4_000)
+    (0..4_000)
         .map(|_| BsDate {
             year: table.first_year + dice.below(years) as u16,
             month: dice.below(12) as u16 + 1,
             day: dice.below(29) as u16 + 1,
         })
-        .collect();
+        .collect()
+}
+
+fn conversions(report: &mut Report, dice: &mut Dice, table: &Table) {
+    let dates = dates_of_table(dice, table);
     report.compared(
         "BS to Gregorian",
         dates.len(),
@@ -334,5 +367,11 @@ fn main() {
     day_lists(&mut report, &mut dice, &table);
     month_grids(&mut report, &mut dice, &table);
     holidays(&mut report, &mut dice, &table);
+    println!();
+    println!("| question to a kept state | port | the port without a state | ratio | parameterised Rust | ratio | Rust untouched | ratio |");
+    println!("|---|---|---|---|---|---|---|---|");
+    kept::conversions(&mut report, &mut dice, &table);
+    kept::days(&mut report, &mut dice, &table);
+    kept::months(&mut report, &mut dice, &table);
     std::process::exit(!report.good as i32);
 }

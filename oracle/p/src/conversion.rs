@@ -58,6 +58,11 @@ fn is_year(row: &[u16]) -> bool {
 /// 1, 4, 5.
 pub fn bs_month_len(table: &Table, year: u16, month: u16) -> Answer<u16> {
     table.check()?;
+    accepted_month_len(table, year, month)
+}
+
+/// Of an accepted table. 4, 5.
+fn accepted_month_len(table: &Table, year: u16, month: u16) -> Answer<u16> {
     let row = table.row(year)?;
     if !(1..=12).contains(&month) {
         return Err(5);
@@ -67,7 +72,13 @@ pub fn bs_month_len(table: &Table, year: u16, month: u16) -> Answer<u16> {
 
 /// 1, 4, 5, 6.
 pub fn validate_bs_date(table: &Table, bs: BsDate) -> Answer<()> {
-    let length = bs_month_len(table, bs.year, bs.month)?;
+    table.check()?;
+    validate_accepted(table, bs)
+}
+
+/// Of an accepted table. 4, 5, 6.
+fn validate_accepted(table: &Table, bs: BsDate) -> Answer<()> {
+    let length = accepted_month_len(table, bs.year, bs.month)?;
     if bs.day == 0 || bs.day > length {
         return Err(6);
     }
@@ -76,7 +87,13 @@ pub fn validate_bs_date(table: &Table, bs: BsDate) -> Answer<()> {
 
 /// 1, 4, 5, 6.
 pub fn bs_to_ad(table: &Table, bs: BsDate) -> Answer<Date> {
-    validate_bs_date(table, bs)?;
+    table.check()?;
+    accepted_to_ad(table, bs)
+}
+
+/// Of an accepted table. 4, 5, 6.
+pub fn accepted_to_ad(table: &Table, bs: BsDate) -> Answer<Date> {
+    validate_accepted(table, bs)?;
     let mut number = table.first_day.day_number()?;
     for year in table.first_year..bs.year {
         number += table.row(year)?[12] as i64;
@@ -90,6 +107,11 @@ pub fn bs_to_ad(table: &Table, bs: BsDate) -> Answer<Date> {
 /// 1, 3, 7 with the distance.
 pub fn ad_to_bs(table: &Table, ad: Date) -> Result<BsDate, Refusal> {
     table.check()?;
+    accepted_from_ad(table, ad)
+}
+
+/// Of an accepted table. 3, 7 with the distance.
+pub fn accepted_from_ad(table: &Table, ad: Date) -> Result<BsDate, Refusal> {
     let mut rest = ad.day_number()? - table.first_day.day_number()?;
     if rest < 0 {
         return Err(Refusal::Outside(rest));

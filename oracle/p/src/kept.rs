@@ -1,6 +1,8 @@
 //! The kept state, by document 02's A4: a table, rules and up to two lunar years that were resolved.
 //! Each question is answered from the years that are stored; only what is not stored is resolved.
-use crate::conversion::{BsDate, Table, ad_to_bs, bs_to_ad, validate_bs_date};
+use crate::conversion::{
+    BsDate, Table, accepted_from_ad, accepted_to_ad, ad_to_bs, bs_to_ad, validate_bs_date,
+};
 use crate::festivals::{self, Resolved, check_rules, computed_for_year, festivals_on};
 use crate::gregorian::{Date, date};
 use crate::grid::{Month, month_by};
@@ -92,6 +94,18 @@ impl Kept {
     /// 13.
     fn has_row(&self) -> Answer<()> {
         if self.table.rows.is_empty() { Err(13) } else { Ok(()) }
+    }
+
+    /// The Gregorian date of a BS date; the table is not checked again. 13, 4, 5, 6.
+    pub fn bs_to_ad(&self, bs: BsDate) -> Answer<Date> {
+        self.has_row()?;
+        accepted_to_ad(&self.table, bs)
+    }
+
+    /// The BS date of a Gregorian date; the table is not checked again. 13, 3, 7 with the distance.
+    pub fn ad_to_bs(&self, ad: Date) -> Result<BsDate, Refusal> {
+        self.has_row()?;
+        accepted_from_ad(&self.table, ad)
     }
 
     /// A good day's list. 9, which leaves the store.
