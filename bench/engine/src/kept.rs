@@ -1,7 +1,5 @@
 //! Questions to a kept state. A second day and a second month are of a BS year that the state has stored since an earlier question.
-use crate::{dates_of_table, fold, nepal_rules, of_bs, of_date, port, Dice, Report};
-#[cfg(feature = "untouched")]
-use crate::untouched;
+use crate::{dates_of_table, fold, nepal_rules, of_bs, of_date, port, untouched, Dice, Report};
 use parameterised::conversion::{self, BsDate, Table};
 use parameterised::gregorian::Date;
 use parameterised::grid::Month;
@@ -69,7 +67,7 @@ pub fn conversions(report: &mut Report, dice: &mut Dice, table: &Table) {
         Box::new(|i| of_date(state.bs_to_ad(dates[i]).expect("a date"))),
         Box::new(|i| of_date(port::bs_to_ad(table, dates[i]).expect("a date"))),
         Box::new(|i| of_date(rust.bs_to_ad(dates[i]).expect("a date"))),
-        untouched!(|i| untouched::bs_to_ad(dates[i])),
+        Box::new(|i| untouched::bs_to_ad(dates[i])),
     );
     let ads: Vec<Date> = dates.iter().map(|&bs| conversion::bs_to_ad(table, bs).expect("a date")).collect();
     report.kept(
@@ -78,7 +76,7 @@ pub fn conversions(report: &mut Report, dice: &mut Dice, table: &Table) {
         Box::new(|i| of_bs(state.ad_to_bs(ads[i]).expect("a date"))),
         Box::new(|i| of_bs(port::ad_to_bs(table, ads[i]).expect("a date"))),
         Box::new(|i| of_bs(rust.ad_to_bs(ads[i]).expect("a date"))),
-        untouched!(|i| untouched::ad_to_bs(ads[i])),
+        Box::new(|i| untouched::ad_to_bs(ads[i])),
     );
 }
 
@@ -101,7 +99,7 @@ pub fn days(report: &mut Report, dice: &mut Dice, table: &Table) {
         Box::new(|i| listed(&out, |out| states.ask_port(days[i], |state| state.festivals_on(days[i], out)))),
         Box::new(|i| listed(&out, |out| port::festivals_on(table, &rules, days[i], out))),
         Box::new(|i| listed(&out, |out| states.ask_rust(days[i], |state| state.ask_bs(days[i], out)))),
-        untouched!(|i| untouched::festivals_on(days[i])),
+        Box::new(|i| untouched::festivals_on(days[i])),
     );
 }
 
@@ -142,6 +140,6 @@ pub fn months(report: &mut Report, dice: &mut Dice, table: &Table) {
                 states.ask_rust(days[i], |state| state.ask_month(today, (year, month), [cells, festivals]))
             })
         }),
-        untouched!(|i| untouched::month_grid(days[i], today)),
+        Box::new(|i| untouched::month_grid(days[i], today)),
     );
 }

@@ -1,23 +1,8 @@
-//! See `../run`. Prints a table: the time of a question to the port, to the parameterised Rust and to the Rust untouched, and the ratios.
-/// A question to the Rust untouched, where the compiler is new enough for it.
-#[cfg(feature = "untouched")]
-macro_rules! untouched {
-    ($ask:expr) => {
-        Some(Box::new($ask))
-    };
-}
-
-#[cfg(not(feature = "untouched"))]
-macro_rules! untouched {
-    ($ask:expr) => {
-        None
-    };
-}
-
+//! See `../run`. Prints a table: the time of a question to the port, to the parameterised Rust and to the Rust untouched, and the ratios; and one of questions to
+//! a kept state.
 mod kept;
 mod port;
 mod timing;
-#[cfg(feature = "untouched")]
 mod untouched;
 
 use parameterised::conversion::{self, BsDate, Table};
@@ -141,18 +126,18 @@ impl Report {
         mut port: Ask,
         mut lent: Ask,
         mut rust: Ask,
-        untouched: Option<Ask>,
+        mut untouched: Ask,
     ) {
         self.alike(name, inputs, &mut port, &mut rust);
         self.alike(name, inputs, &mut port, &mut lent);
         let lent = timing::rounds(COLD_ROUNDS, inputs, &mut port, &mut lent);
         let rust = timing::rounds(ROUNDS, inputs, &mut port, &mut rust);
-        let untouched = untouched.map(|mut ask| {
-            (0..inputs).for_each(|i| drop(ask(i)));
-            timing::rounds(ROUNDS, inputs, &mut port, &mut ask)
-        });
-        let untouched = untouched.map_or("| ".to_string(), beside);
-        println!("| {name} | {} | {} | {} | {untouched} |", shown(rust.port), beside(lent), beside(rust));
+        for i in 0..inputs {
+            untouched(i);
+        }
+        let untouched = timing::rounds(ROUNDS, inputs, &mut port, &mut untouched);
+        let [lent, rust_column, untouched] = [lent, rust, untouched].map(beside);
+        println!("| {name} | {} | {lent} | {rust_column} | {untouched} |", shown(rust.port));
     }
 }
 
@@ -168,7 +153,7 @@ fn sines(report: &mut Report, dice: &mut Dice) {
         xs.len(),
         Box::new(|i| port::sine(xs[i]).to_bits()),
         Box::new(|i| trig::sin(xs[i]).to_bits()),
-        untouched!(|i| untouched::sine(xs[i])),
+        Some(Box::new(|i| untouched::sine(xs[i]))),
     );
 }
 
@@ -191,7 +176,7 @@ fn conversions(report: &mut Report, dice: &mut Dice, table: &Table) {
         dates.len(),
         Box::new(|i| of_date(port::bs_to_ad(table, dates[i]).expect("a date"))),
         Box::new(|i| of_date(conversion::bs_to_ad(table, dates[i]).expect("a date"))),
-        untouched!(|i| untouched::bs_to_ad(dates[i])),
+        Some(Box::new(|i| untouched::bs_to_ad(dates[i]))),
     );
     let ads: Vec<Date> = dates.iter().map(|&bs| conversion::bs_to_ad(table, bs).expect("a date")).collect();
     report.compared(
@@ -199,7 +184,7 @@ fn conversions(report: &mut Report, dice: &mut Dice, table: &Table) {
         ads.len(),
         Box::new(|i| of_bs(port::ad_to_bs(table, ads[i]).expect("a date"))),
         Box::new(|i| of_bs(conversion::ad_to_bs(table, ads[i]).expect("a date"))),
-        untouched!(|i| untouched::ad_to_bs(ads[i])),
+        Some(Box::new(|i| untouched::ad_to_bs(ads[i]))),
     );
 }
 
@@ -210,7 +195,7 @@ fn elongations(report: &mut Report, dice: &mut Dice) {
         instants.len(),
         Box::new(|i| port::elongation(instants[i]).expect("an instant").to_bits()),
         Box::new(|i| panchanga::elongation(Ut(instants[i])).expect("an instant").to_bits()),
-        untouched!(|i| untouched::elongation(instants[i])),
+        Some(Box::new(|i| untouched::elongation(instants[i]))),
     );
 }
 
@@ -226,7 +211,7 @@ fn readings(report: &mut Report, dice: &mut Dice) {
             let reading = panchanga::reading(dates[i]).expect("a date");
             numbers([reading.tithi, reading.end, reading.sunrise, reading.sunset])
         }),
-        untouched!(|i| untouched::reading(dates[i])),
+        Some(Box::new(|i| untouched::reading(dates[i]))),
     );
 }
 
@@ -254,10 +239,10 @@ fn searches(report: &mut Report, dice: &mut Dice) {
             let (count, steps) = found.expect("a search");
             starts(count, steps.into())
         }),
-        untouched!(|i| {
+        Some(Box::new(|i| {
             let (tithi, from) = years[i];
             untouched::tithi_starts(tithi, from, from + 365.25)
-        }),
+        })),
     );
 }
 
@@ -290,7 +275,7 @@ fn day_lists(report: &mut Report, dice: &mut Dice, table: &Table) {
         days.len(),
         Box::new(|i| entries(asked(days[i], port::festivals_on))),
         Box::new(|i| entries(asked(days[i], festivals::day_list_bs))),
-        untouched!(|i| untouched::festivals_on(days[i])),
+        Some(Box::new(|i| untouched::festivals_on(days[i]))),
     );
 }
 
@@ -314,7 +299,7 @@ fn month_grids(report: &mut Report, dice: &mut Dice, table: &Table) {
         days.len(),
         Box::new(|i| shown(asked(days[i], port::month_grid))),
         Box::new(|i| shown(asked(days[i], grid::month_grid))),
-        untouched!(|i| untouched::month_grid(days[i], today)),
+        Some(Box::new(|i| untouched::month_grid(days[i], today))),
     );
 }
 
