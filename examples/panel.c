@@ -1,5 +1,6 @@
 /*
- * A first program over the engine: today in Bikram Sambat, what the calendar prints under it, its festivals, and its month.
+ * A first program over the engine: today in Bikram Sambat, what the calendar prints under it, its festivals, and its month. It keeps a state, so that the
+ * festivals of the BS year are worked out once, for the day, and the month has them from the state.
  *
  *   panel                today by the clock
  *   panel YEAR MONTH DAY another Gregorian date
@@ -13,6 +14,7 @@
 #include <time.h>
 
 /* The year table: BS 2082 begins on 14 April 2025. For each year the lengths of its months, and their sum. A new year is one more row. */
+#define FIRST 2082, 2025, 4, 14
 static const uint16_t rows[] = {
     31, 31, 32, 31, 31, 31, 30, 29, 30, 29, 30, 30, 365, /* 2082 */
     31, 31, 32, 31, 31, 31, 30, 29, 30, 29, 30, 30, 365, /* 2083 */
@@ -23,7 +25,6 @@ static const uint16_t rows[] = {
     31, 32, 31, 32, 31, 30, 30, 30, 29, 29, 30, 31, 366, /* 2088 */
     30, 32, 31, 32, 31, 30, 30, 30, 29, 30, 29, 31, 365, /* 2089 */
 };
-#define TABLE 2082, 2025, 4, 14, rows, sizeof rows / sizeof *rows
 
 /* The festivals, each by its place in the list of names. */
 static const char *const names[] = {
@@ -50,6 +51,17 @@ static void expect(const char *question, uint16_t refusal)
         fprintf(stderr, "%s: refused with %u\n", question, (unsigned)refusal);
         exit(1);
     }
+}
+
+/* The state: the table, the rules, and what was worked out for the last question. */
+static uint16_t state[PANEL_KEPT];
+#define STATE state, PANEL_KEPT
+
+static void start(void)
+{
+    expect("start", panel_kept_start(FIRST, STATE));
+    expect("rules", panel_kept_take_rules(STATE, RULES));
+    for (size_t i = 0; i < sizeof rows / sizeof *rows; i += 13) expect("row", panel_kept_append_row(STATE, rows + i, 13));
 }
 
 static void print_minutes(const char *what, uint16_t minutes)
@@ -79,7 +91,7 @@ static void print_festivals(const uint16_t bs[3])
 {
     uint16_t festivals[2 * 384];
     size_t count;
-    expect("festivals", panel_festivals_on(TABLE, RULES, bs[0], bs[1], bs[2], festivals, sizeof festivals / sizeof *festivals, &count));
+    expect("festivals", panel_kept_festivals_on(STATE, bs[0], bs[1], bs[2], festivals, sizeof festivals / sizeof *festivals, &count));
     for (size_t i = 0; i < count; i++) printf("%s%s\n", names[festivals[2 * i]], festivals[2 * i + 1] ? ", a holiday" : "");
 }
 
@@ -90,9 +102,9 @@ static void print_month(const uint16_t today[3], uint16_t year, uint16_t month)
     static uint16_t festivals[2 * 12288];
     uint16_t cells[42 * 12], days, first[3], last[3];
     size_t cell_count, festival_count;
-    expect("month", panel_month_grid(TABLE, RULES, today[0], today[1], today[2], year, month, cells, sizeof cells / sizeof *cells, festivals,
-                                     sizeof festivals / sizeof *festivals, &days, &first[0], &first[1], &first[2], &last[0], &last[1], &last[2],
-                                     &cell_count, &festival_count));
+    expect("month", panel_kept_month_grid(STATE, today[0], today[1], today[2], year, month, cells, sizeof cells / sizeof *cells, festivals,
+                                          sizeof festivals / sizeof *festivals, &days, &first[0], &first[1], &first[2], &last[0], &last[1], &last[2],
+                                          &cell_count, &festival_count));
     printf("\n%u-%02u has %u days, from ", (unsigned)year, (unsigned)month, (unsigned)days);
     print_date(first);
     printf(" to ");
@@ -119,7 +131,8 @@ int main(int count, char **words)
     if (count == 4)
         for (int i = 0; i < 3; i++) ad[i] = (uint16_t)atoi(words[i + 1]);
     else read_clock(ad);
-    uint16_t refusal = panel_ad_to_bs(TABLE, ad[0], ad[1], ad[2], &bs[0], &bs[1], &bs[2], &before, &after);
+    start();
+    uint16_t refusal = panel_kept_ad_to_bs(STATE, ad[0], ad[1], ad[2], &bs[0], &bs[1], &bs[2], &before, &after);
     if (refusal == 7) printf("%lu days %s the table\n", (unsigned long)(before + after), before > 0 ? "before" : "after");
     expect("conversion", refusal);
     print_date(ad);
