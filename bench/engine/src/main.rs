@@ -1,5 +1,5 @@
-//! See `../run`. Prints a table: the time of a question to the port, to the parameterised Rust and to the Rust untouched, and the ratios; and one of questions to
-//! a kept state.
+//! See `../run`. Prints a table: the time of a question to the port, to the parameterised Rust and to the Rust untouched, and the ratios; and one of
+//! questions to a kept state.
 mod kept;
 mod port;
 mod timing;
@@ -117,17 +117,9 @@ impl Report {
         self.row(name, timed, untouched);
     }
 
-    /// A question to a kept state, beside the same question to the port without one, to a state of the parameterised Rust and to the Rust untouched, which keeps
-    /// what it has worked out by itself. Each input was asked before it is timed.
-    fn kept(
-        &mut self,
-        name: &str,
-        inputs: usize,
-        mut port: Ask,
-        mut lent: Ask,
-        mut rust: Ask,
-        mut untouched: Ask,
-    ) {
+    /// A question to a kept state, beside the same question to the port without one, to a state of the parameterised Rust and to the Rust untouched, which
+    /// keeps what it has worked out by itself. Each input was asked before it is timed.
+    fn kept(&mut self, name: &str, inputs: usize, mut port: Ask, mut lent: Ask, mut rust: Ask, mut untouched: Ask) {
         self.alike(name, inputs, &mut port, &mut rust);
         self.alike(name, inputs, &mut port, &mut lent);
         let lent = timing::rounds(COLD_ROUNDS, inputs, &mut port, &mut lent);
