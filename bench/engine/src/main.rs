@@ -135,7 +135,8 @@ impl Report {
 
 /// A time, and the ratio of the port's to it.
 fn beside(timed: Timed) -> String {
-    format!("{} | {:.2}", shown(timed.rust), timed.ratio)
+    let places = if timed.ratio < 0.1 { 4 } else { 2 };
+    format!("{} | {:.places$}", shown(timed.rust), timed.ratio)
 }
 
 fn sines(report: &mut Report, dice: &mut Dice) {
