@@ -407,7 +407,8 @@ QUESTIONS(DEFINED)
 static const struct {
     const char *tag, *letters;
     void (*ask)(const struct question *q);
-} questions[] = { QUESTIONS(LISTED) { "day", "nnn", ask_day }, { "starts", "nffn", ask_starts }, { "readrules", "n", ask_readrules }, { "writerules", "n", ask_writerules } };
+} questions[] = { QUESTIONS(LISTED) { "day", "nnn", ask_day }, { "starts", "nffn", ask_starts }, { "readrules", "n", ask_readrules },
+                  { "writerules", "n", ask_writerules } };
 
 /* A line that lends, or a question; whether it is in form. */
 static int take(struct question *q)

@@ -343,11 +343,11 @@ static size_t odd_room(size_t most)
 
 enum { BEHIND = 40 };
 
-/* An array that the calls alone have made, or another, and the table that it was made over. */
+/* An array that the calls alone have made, or one made of such a one, and the table of the first; whether that has a row. */
 struct state {
     struct slice array;
     struct table table;
-    int is_made;
+    int is_made, has_row;
 };
 
 static struct state made_states[40], odd_states[400];
@@ -359,13 +359,13 @@ static void must(uint16_t refusal)
     exit(2);
 }
 
-/* A date of a state's table: of its first days, with two years drawn where there are two, or of any. */
+/* Asks for a day, more often than not in one of the two months that draw computed rules from two years. */
 static void ask_state(uint16_t *array, const struct table *table)
 {
     static uint16_t festivals[768];
+    uint16_t year = (uint16_t)(table->first_year + below(table->years)), month = (uint16_t)from_to(1, below(2) ? 2 : 12);
     size_t count;
-    must(panel_kept_festivals_on(array, PANEL_KEPT, (uint16_t)(table->first_year + below(table->years)), (uint16_t)from_to(1, below(2) ? 2 : 12), (uint16_t)from_to(1, 29),
-                                 festivals, COUNT(festivals), &count));
+    must(panel_kept_festivals_on(array, PANEL_KEPT, year, month, (uint16_t)from_to(1, 29), festivals, COUNT(festivals), &count));
 }
 
 /* A state by the calls: with rows or with none, with rules or with none, with stored years or with none, and with other numbers behind it. */
@@ -376,8 +376,9 @@ static void make_state(struct state *made, const struct table *table, size_t i)
     const struct slice rules = good_lists[i % COUNT(good_lists)];
     for (size_t k = 0; k < COUNT(array); k++) array[k] = (uint16_t)bits();
     must(panel_kept_start((uint16_t)table->first_year, (uint16_t)table->year, (uint16_t)table->month, (uint16_t)table->day, array, PANEL_KEPT));
-    if (i % 4 > 0) must(panel_kept_take_rules(array, PANEL_KEPT, rules.at, rules.len));
-    for (size_t k = 0; i % 8 > 0 && k < table->years; k++) must(panel_kept_append_row(array, PANEL_KEPT, rows + 13 * k, 13));
+    made->has_row = i % 8 > 0;
+    if (i % 3 > 0) must(panel_kept_take_rules(array, PANEL_KEPT, rules.at, rules.len));
+    for (size_t k = 0; made->has_row && k < table->years; k++) must(panel_kept_append_row(array, PANEL_KEPT, rows + 13 * k, 13));
     if (i % 8 > 1) ask_state(array, table);
     if (i % 8 == 2) must(panel_kept_forget(array, PANEL_KEPT));
     made->array = lasting(array, PANEL_KEPT + (below(2) ? 0 : below(BEHIND + 1)));
@@ -422,7 +423,7 @@ void prepare_states(void)
 static const struct state *draw_state(int odd, int tame)
 {
     const struct state *state = odd ? &odd_states[below(COUNT(odd_states))] : &made_states[below(COUNT(made_states))];
-    return tame && ((const uint16_t *)state->array.at)[4] == 0 ? draw_state(odd, tame) : state;
+    return tame && !state->has_row ? draw_state(odd, tame) : state;
 }
 
 /* ---- drawing */

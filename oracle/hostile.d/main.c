@@ -33,15 +33,16 @@ static struct lent places[16], buffers[2], array;
 #define HB(i) (uint16_t *)buffers[i].at, a.room[i]
 #define FB(i) (double *)buffers[i].at, a.room[i]
 
-/* A lent buffer: the width of its elements, the most that an answer can write, and the place that tells how many times `each` were written; where `each` is 0 an
-   answer always writes the most. */
+/* A lent buffer: the width of its elements, the most that an answer can write, and the place that tells how many times `each` were written; where `each` is 0
+   every answer writes the most. */
 struct buffer {
     size_t width, most, place, each;
 };
 
 static const struct buffer no_buffer[2], starts[2] = { { sizeof(double), 40, 0, 1 } }, lists[2] = { { sizeof(uint16_t), 768, 0, 2 } },
                            rules[2] = { { sizeof(uint16_t), 2560, 0, 8 } }, texts[2] = { { sizeof(uint8_t), 29120, 0, 1 } },
-                           grids[2] = { { sizeof(uint16_t), 504, 7, 12 }, { sizeof(uint16_t), 768, 8, 2 } }, states[2] = { { sizeof(uint16_t), PANEL_KEPT, 0, 0 } };
+                           grids[2] = { { sizeof(uint16_t), 504, 7, 12 }, { sizeof(uint16_t), 768, 8, 2 } },
+                           states[2] = { { sizeof(uint16_t), PANEL_KEPT, 0, 0 } };
 
 /* The name; the letters of its arguments (arguments.h); the letters of its places: c a u8, h a u16, w a u32, z a size_t, f a double, y a u16 that is 0 or 1,
    o one that is 1 where the places behind it are written and 0 where they stay, l a size_t that refusal 12 alone writes, d a u32 that refusal 7 alone writes
