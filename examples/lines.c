@@ -35,13 +35,20 @@ static int is_started, is_of_table;
 #define STATE state, PANEL_KEPT
 #define OF_TABLE of_table, PANEL_KEPT
 
+static void stop(const char *why)
+{
+    fprintf(stderr, "lines: %s\n", why);
+    exit(1);
+}
+
 /* Makes the second of an accepted table, once for each table that is lent. */
 static void keep_table(void)
 {
+    uint16_t refusal;
     if (is_of_table) return;
-    if (panel_kept_start(HEAD, OF_TABLE) != 0) exit(1);
-    for (size_t i = 0; i < rows_len; i += 13)
-        if (panel_kept_append_row(OF_TABLE, rows + i, 13) != 0) exit(1);
+    refusal = panel_kept_start(HEAD, OF_TABLE);
+    for (size_t i = 0; refusal == 0 && i < rows_len; i += 13) refusal = panel_kept_append_row(OF_TABLE, rows + i, 13);
+    if (refusal != 0) stop("a kept state refuses a table that is accepted");
     is_of_table = 1;
 }
 
@@ -317,31 +324,25 @@ static void put_years(const uint16_t years[3])
     for (int i = 1; i <= years[0]; i++) put_number(years[i]);
 }
 
-/* Ends the program where a conversion over a kept state does not say what the same over a lent table said. */
-static void hold(uint16_t refusal, uint16_t kept, int is_same)
-{
-    if (kept == refusal && is_same) return;
-    fprintf(stderr, "lines: a kept state converts otherwise: %u and %u\n", (unsigned)refusal, (unsigned)kept);
-    exit(1);
-}
-
+/* Ends the program where a conversion over a kept state does not say what the same over the lent table has said. */
 static void hold_bs(const struct question *q, uint16_t refusal)
 {
-    uint16_t ad[3], kept;
+    uint16_t ad[3];
     if (refusal == 1) return;
     keep_table();
-    kept = panel_kept_bs_to_ad(OF_TABLE, DATE, PLACES(ad));
-    hold(refusal, kept, kept != 0 || memcmp(ad, numbers, sizeof ad) == 0);
+    if (panel_kept_bs_to_ad(OF_TABLE, DATE, PLACES(ad)) != refusal) stop("a kept state converts otherwise");
+    if (refusal == 0 && memcmp(ad, numbers, sizeof ad) != 0) stop("a kept state converts to another date");
 }
 
 static void hold_ad(const struct question *q, uint16_t refusal)
 {
-    uint16_t bs[3], kept;
+    uint16_t bs[3];
     uint32_t before, after;
     if (refusal == 1) return;
     keep_table();
-    kept = panel_kept_ad_to_bs(OF_TABLE, DATE, PLACES(bs), &before, &after);
-    hold(refusal, kept, kept == 7 ? before == outside[0] && after == outside[1] : kept != 0 || memcmp(bs, numbers, sizeof bs) == 0);
+    if (panel_kept_ad_to_bs(OF_TABLE, DATE, PLACES(bs), &before, &after) != refusal) stop("a kept state converts otherwise");
+    if (refusal == 0 && memcmp(bs, numbers, sizeof bs) != 0) stop("a kept state converts to another date");
+    if (refusal == 7 && (before != outside[0] || after != outside[1])) stop("a kept state tells another distance");
 }
 
 /* What is asked by a tag: the letters of its words, the call, what is printed where it answers, and what is printed after either. */
