@@ -2,14 +2,14 @@
  * The calendar engine for C and C++.
  *
  * Link target/staticlib/libpanel.a, which `rt staticlib panel` writes (x86-64), and the C library's mathematics, -lm: of other code the engine calls
- * fmod, memcpy and memset alone. It has no heap, no state and no threads, and each call ends.
+ * fmod, memcpy and memset alone. It has no heap, no state of its own and no threads, and each call ends.
  *
  * Every call answers 0 and writes what was asked for, or answers the number of a refusal and writes nothing; but 7 writes by how many days a date lies outside
  * the table, and 12 the number of a line, each to places of its own, which every other number leaves as they were, 0 too:
  *
  *    1  the year table breaks a rule             7  a Gregorian day before the first or after the last day of the table
  *    2  a festival rule breaks a rule            8  an instant out of range or no number; a tithi not 1 to 30
- *    3  no such Gregorian date in 1900 to 2149   9  a lent buffer is shorter than the answer
+ *    3  no such Gregorian date in 1900 to 2149   9  a lent buffer is shorter than the answer, or a kept state than PANEL_KEPT
  *    4  the BS year is not in the table         10  a month step that leaves the table
  *    5  the BS month is not 1 to 12             11  a search not ended after 1,024 steps
  *    6  the BS day is 0 or past the month       12  a line of a rule file is out of form

@@ -27,8 +27,8 @@ use Rattle.kept.specs.Held.{held, Ready, Holds, DoneAs, AskedAs, MonthAs}
 use Rattle.kept.specs.Converting.{TableHeld}
 use Rattle.shelf.specs.Numbers.{laid, Made}
 use Rattle.shelf.specs.Inner.{keptOf, placed, tableOf, rowsOf}
-use Rattle.panel.specs.Boundary.{code, gives, daysIn, givesTold, MonthPlaces, monthNumbers}
-use Rattle.panel.specs.Keeping.{Keeping, written, startIn, keptDone, keptList, keptListAd, keptMonth, placedBy}
+use Rattle.panel.specs.Boundary.{code, gives, MonthPlaces, monthNumbers}
+use Rattle.panel.specs.Keeping.{Keeping, written, startIn, keptDone, onArray, keptMonth, placedBy}
 use Rattle.shelf.proofs.Made.{made-holds, made-table, made-rows, put-laid}
 use Rattle.panel.proofs.Handing.{both}
 
@@ -113,21 +113,13 @@ module _ {a : List ℕ} {σ : State} {k : Kept} (m : Made a σ) (read : k ≡ ke
       let h = of-made (λ (τ : State). DoneAs r (does τ)) m read f in
       both (c ∙ ap code (h .answer)) (p ∙ placed-as (does σ .state) a (h .holds) (m .room) (h .answer))
 
-  pub handed-list : {n count : ℕ} {buffer after : List ℕ} (r : Asked) (asks : State → Reply) (old : ℕ) → (Ready k → AskedAs r buffer (asks (held k)))
-      → (n, count) ≡ gives (listSays (r .answer)) (λ x. x) old → after ≡ placedBy (listSays (r .answer)) (r .state) a
-      → _≡_ {A = ℕ × (ℕ × (List ℕ × List ℕ))} (n, (count, (buffer, after))) (keptList a (asks σ) old)
-  handed-list {buffer = buffer} r asks old f g p =
+  -- a day's list, whose answer `tells` the number and the places
+  pub handed-list : {P : Type 0} {n : ℕ} {places : P} {buffer after : List ℕ} (tells : Answer ℕ → ℕ × P) (r : Asked) (asks : State → Reply) → (Ready k → AskedAs r buffer (asks (held k)))
+      → (n, places) ≡ tells (listSays (r .answer)) → after ≡ placedBy (listSays (r .answer)) (r .state) a
+      → _≡_ {A = ℕ × (P × (List ℕ × List ℕ))} (n, (places, (buffer, after))) (onArray a (asks σ .state) (asks σ .listed .answer) (tells (asks σ .listed .answer), asks σ .listed .buffer))
+  handed-list {buffer = buffer} tells r asks f g p =
       let h = of-made (λ (τ : State). AskedAs r buffer (asks τ)) m read f in
-      let e = g ∙ ap (λ (x : Answer ℕ). gives x (λ n. n) old) (h .answer) in
-      let q = p ∙ placed-as (asks σ .state) a (h .holds) (m .room) (h .answer) in
-      λ i. (e i .0, (e i .1, (h .written i, q i)))
-
-  pub handed-list-ad : {n : ℕ} {places : ℕ × (ℕ × ℕ)} {buffer after : List ℕ} (r : Asked) (asks : State → Reply) (old : ℕ × (ℕ × ℕ)) → (Ready k → AskedAs r buffer (asks (held k)))
-      → (n, places) ≡ givesTold daysIn (listSays (r .answer)) (λ x. x) old → after ≡ placedBy (listSays (r .answer)) (r .state) a
-      → _≡_ {A = ℕ × ((ℕ × (ℕ × ℕ)) × (List ℕ × List ℕ))} (n, (places, (buffer, after))) (keptListAd a (asks σ) old)
-  handed-list-ad {buffer = buffer} r asks old f g p =
-      let h = of-made (λ (τ : State). AskedAs r buffer (asks τ)) m read f in
-      let e = g ∙ ap (λ (x : Answer ℕ). givesTold daysIn x (λ n. n) old) (h .answer) in
+      let e = g ∙ ap tells (h .answer) in
       let q = p ∙ placed-as (asks σ .state) a (h .holds) (m .room) (h .answer) in
       λ i. (e i .0, (e i .1, (h .written i, q i)))
 

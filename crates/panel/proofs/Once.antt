@@ -1,6 +1,6 @@
--- NO SECOND ANSWER, AND A REFUSAL LEAVES WHAT WAS LENT, for each C function: two numbers that meet its contract are equal, and so is all that they leave
--- in the lent places and buffers; a number other than 0 leaves these as they were, but that 7 writes its days and 12 its line to places of their own. Three functions are lent nothing
--- to write to. Assumes nothing.
+-- NO SECOND ANSWER, AND A REFUSAL LEAVES WHAT WAS LENT, for each C function but those over a kept array (Holding.antt): two numbers that meet its contract are
+-- equal, and so is all that they leave in the lent places and buffers; a number other than 0 leaves these as they were, but that 7 writes its days and 12 its line
+-- to places of their own. Three functions are lent nothing to write to. Assumes nothing.
 use Prim.Native.Nat.{ℕ}
 use mathlib.Core.Path.{sym, _∙_}
 use mathlib.Core.List.{List}

@@ -1,5 +1,7 @@
 // The engine for C: numbers, lent slices and lent places alone. Each function answers 0 or the number of a refusal (docs/RULES.md); a refusal changes
 // no lent place, but that 7 tells its days and 12 its line. Each promises what the engine's function of that name promises, by the same definition.
+// The calls panel_kept_.. are lent a kept state as an array (crate shelf). Of an array that is long enough and that they did not make they promise alone that they
+// end and stay inside it.
 ghost use mathlib.Core.Path.{_≡_};
 ghost use Rattle.panel.specs.Boundary.{code, daysIn, numberAnd, accepting, table};
 use conversion::Table;
