@@ -175,7 +175,7 @@ fn day_in_row(rows: &[u16], i: usize, first: u32, month: u16, day: u16) -> u32
     requires { ⌜ InRow (now rows) i first month day ⌝ }
     ensures { λ r. ⌜ r ≡ first + sum (lens (now (rows .entry)) i) (month - 1) + (day - 1) ⌝ }
 {
-    let months = columns::span(rows, 13 * i, 1, (month - 1) as usize);
+    let months = columns::months_span(rows, 13 * i, (month - 1) as usize);
     first + months + (day - 1) as u32
 }
 
