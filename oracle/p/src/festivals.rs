@@ -1,6 +1,7 @@
 //! festivals.rs over a lent rule list; every lunar year is resolved afresh.
 use crate::conversion::{BsDate, Table, ad_to_bs, bs_month_len, bs_to_ad, validate_bs_date};
 use crate::gregorian::{Date, SATURDAY};
+use crate::mode::Mode;
 use crate::panchanga::{self, KALAS, Kala, Ut};
 use crate::{Answer, Refusal};
 
@@ -85,7 +86,7 @@ pub fn check_rules(rules: &[u16]) -> Answer<()> {
 }
 
 /// The new moons that open a year's lunar months: the last one in each solar month.
-pub fn lunar_month_starts(table: &Table, year: u16) -> [Option<Ut>; 12] {
+pub fn lunar_month_starts(table: &Table, mode: Mode, year: u16) -> [Option<Ut>; 12] {
     let mut places = [None; 12];
     let length = match bs_month_len(table, year, 12) {
         Ok(length) => length,
@@ -96,7 +97,7 @@ pub fn lunar_month_starts(table: &Table, year: u16) -> [Option<Ut>; 12] {
         (Ok(first), Ok(last)) => (first, last),
         _ => return places,
     };
-    let (moons, _) = panchanga::tithi_starts(1, Ut(first - 35.0), Ut(last + 5.0))
+    let (moons, _) = panchanga::tithi_starts(mode, 1, Ut(first - 35.0), Ut(last + 5.0))
         .expect("a table year can be searched");
     for moon in moons {
         let ad = panchanga::npt_date(moon).ok();
@@ -112,39 +113,39 @@ pub fn lunar_month_starts(table: &Table, year: u16) -> [Option<Ut>; 12] {
 }
 
 /// Whether a tithi from `start` to `end` claims a day.
-fn claims(day: Date, kala: Kala, start: Ut, end: Ut) -> bool {
+fn claims(mode: Mode, day: Date, kala: Kala, start: Ut, end: Ut) -> bool {
     if kala == Kala::Nishita {
-        let window = panchanga::nishita_window(day).ok().flatten();
+        let window = panchanga::nishita_window(mode, day).ok().flatten();
         window.map_or(false, |(from, to)| start <= from && to <= end)
     } else {
-        let instant = panchanga::kala_instant(day, kala).ok().flatten();
+        let instant = panchanga::kala_instant(mode, day, kala).ok().flatten();
         instant.map_or(false, |instant| start <= instant && instant < end)
     }
 }
 
 /// The day that a tithi which begins at `start` is kept on.
-fn festival_date(start: Ut, tithi: u16, kala: Kala) -> Option<Date> {
+fn festival_date(mode: Mode, start: Ut, tithi: u16, kala: Kala) -> Option<Date> {
     let begin = panchanga::npt_date(start).ok()?;
     if kala == Kala::Begins {
         return Some(begin);
     }
     let next = panchanga::next_tithi(tithi);
-    let end = panchanga::first_start(next, Ut(start.0 + 0.1), Ut(start.0 + 2.5)).ok()??;
+    let end = panchanga::first_start(mode, next, Ut(start.0 + 0.1), Ut(start.0 + 2.5)).ok()??;
     for offset in -1..=2 {
         let day = Date::from_day_number(begin.day_number().ok()? + offset).ok()?;
-        if claims(day, kala, start, end) {
+        if claims(mode, day, kala, start, end) {
             return Some(day);
         }
     }
     if kala != Kala::Udaya {
-        return festival_date(start, tithi, Kala::Udaya);
+        return festival_date(mode, start, tithi, Kala::Udaya);
     }
     Some(begin)
 }
 
 /// A year's computed entries, in the order of the list.
-pub fn computed_for_year(table: &Table, rules: &[u16], year: u16) -> Resolved {
-    let moons = lunar_month_starts(table, year);
+pub fn computed_for_year(table: &Table, rules: &[u16], mode: Mode, year: u16) -> Resolved {
+    let moons = lunar_month_starts(table, mode, year);
     let mut found = Vec::new();
     for rule in of_kind(rules, 3) {
         let moon = match moons[rule.month as usize - 1] {
@@ -155,11 +156,11 @@ pub fn computed_for_year(table: &Table, rules: &[u16], year: u16) -> Resolved {
         let start = if tithi == 1 {
             Some(moon)
         } else {
-            panchanga::first_start(tithi, Ut(moon.0 + 0.5), Ut(moon.0 + 30.0))
+            panchanga::first_start(mode, tithi, Ut(moon.0 + 0.5), Ut(moon.0 + 30.0))
                 .expect("a lunar month can be searched")
         };
         let kala = KALAS[rule.kala as usize];
-        let ad = match start.and_then(|start| festival_date(start, tithi, kala)) {
+        let ad = match start.and_then(|start| festival_date(mode, start, tithi, kala)) {
             Some(ad) => ad,
             None => continue,
         };
@@ -210,36 +211,47 @@ pub fn written(found: &[Entry], out: &mut [u16]) -> Answer<usize> {
     Ok(found.len())
 }
 
-fn list(table: &Table, rules: &[u16], bs: BsDate, ad: Date) -> Vec<Entry> {
-    festivals_on(rules, bs, ad, &mut |year| computed_for_year(table, rules, year))
+fn list(table: &Table, rules: &[u16], mode: Mode, bs: BsDate, ad: Date) -> Vec<Entry> {
+    festivals_on(rules, bs, ad, &mut |year| computed_for_year(table, rules, mode, year))
 }
 
-/// A day's list by its BS date. 1, 2, 4, 5, 6, 9.
-pub fn day_list_bs(table: &Table, rules: &[u16], bs: BsDate, out: &mut [u16]) -> Answer<usize> {
+/// The table, the rules and the mode's number that a question is over: the mode. 1, 2, 14.
+pub fn accepted(table: &Table, rules: &[u16], mode: u16) -> Answer<Mode> {
     table.check()?;
     check_rules(rules)?;
+    Mode::of(mode)
+}
+
+/// A day's list by its BS date. 1, 2, 14, 4, 5, 6, 9.
+pub fn day_list_bs(
+    table: &Table,
+    rules: &[u16],
+    mode: u16,
+    bs: BsDate,
+    out: &mut [u16],
+) -> Answer<usize> {
+    let mode = accepted(table, rules, mode)?;
     validate_bs_date(table, bs)?;
-    written(&list(table, rules, bs, bs_to_ad(table, bs)?), out)
+    written(&list(table, rules, mode, bs, bs_to_ad(table, bs)?), out)
 }
 
 /// Whether a BS date is a holiday: a Saturday, for which no lunar year is resolved, or a day whose list
-/// shows an entry that has the mark. 1, 2, 4, 5, 6.
-pub fn is_holiday(table: &Table, rules: &[u16], bs: BsDate) -> Answer<bool> {
-    table.check()?;
-    check_rules(rules)?;
+/// shows an entry that has the mark. 1, 2, 14, 4, 5, 6.
+pub fn is_holiday(table: &Table, rules: &[u16], mode: u16, bs: BsDate) -> Answer<bool> {
+    let mode = accepted(table, rules, mode)?;
     let ad = bs_to_ad(table, bs)?;
     let marked = |entry: &Entry| entry.holiday == 1;
-    Ok(ad.weekday()? == SATURDAY || list(table, rules, bs, ad).iter().any(marked))
+    Ok(ad.weekday()? == SATURDAY || list(table, rules, mode, bs, ad).iter().any(marked))
 }
 
-/// A day's list by its Gregorian date. 1, 2, 3, 7 with the distance, 9.
+/// A day's list by its Gregorian date. 1, 2, 14, 3, 7 with the distance, 9.
 pub fn day_list_ad(
     table: &Table,
     rules: &[u16],
+    mode: u16,
     ad: Date,
     out: &mut [u16],
 ) -> Result<usize, Refusal> {
-    table.check()?;
-    check_rules(rules)?;
-    Ok(written(&list(table, rules, ad_to_bs(table, ad)?, ad), out)?)
+    let mode = accepted(table, rules, mode)?;
+    Ok(written(&list(table, rules, mode, ad_to_bs(table, ad)?, ad), out)?)
 }

@@ -1,8 +1,9 @@
 //! grid.rs: a month as flat cells, and steps from month to month.
 use crate::Answer;
 use crate::conversion::{BsDate, Table, bs_month_len, bs_to_ad};
-use crate::festivals::{Entry, Resolved, check_rules, computed_for_year, festivals_on};
+use crate::festivals::{Entry, Resolved, accepted, computed_for_year, festivals_on};
 use crate::gregorian::{Date, SATURDAY};
+use crate::mode::Mode;
 use crate::panchanga;
 
 const CELL: usize = 12;
@@ -17,10 +18,10 @@ pub struct Month {
     pub festivals: usize,
 }
 
-fn cell(day: u16, ad: Date, today: Date, festivals: &[Entry]) -> Answer<[u16; CELL]> {
+fn cell(mode: Mode, day: u16, ad: Date, today: Date, festivals: &[Entry]) -> Answer<[u16; CELL]> {
     let weekday = ad.weekday()?;
     let holiday = weekday == SATURDAY || festivals.iter().any(|entry| entry.holiday == 1);
-    let reading = panchanga::reading(ad)?;
+    let reading = panchanga::reading(mode, ad)?;
     Ok([
         day,
         ad.year,
@@ -42,6 +43,7 @@ fn cell(day: u16, ad: Date, today: Date, festivals: &[Entry]) -> Answer<[u16; CE
 pub fn month_by(
     table: &Table,
     rules: &[u16],
+    mode: Mode,
     today: Date,
     (year, month): (u16, u16),
     [cell_buffer, festival_buffer]: [&mut [u16]; 2],
@@ -57,7 +59,7 @@ pub fn month_by(
     for day in 1..=days {
         let ad = ad_of(day)?;
         let list = festivals_on(rules, BsDate { year, month, day }, ad, computed);
-        cells.extend(cell(day, ad, today, &list)?);
+        cells.extend(cell(mode, day, ad, today, &list)?);
         festivals.extend(list.iter().flat_map(|entry| [entry.name, entry.holiday]));
     }
     while cells.len() % (7 * CELL) > 0 {
@@ -72,28 +74,28 @@ pub fn month_by(
     Ok(Month { days, first, last, cells: cells.len() / CELL, festivals: festivals.len() / 2 })
 }
 
-/// 1, 2, 3 for today, 4, 5, 9 for either buffer.
+/// 1, 2, 14, 3 for today, 4, 5, 9 for either buffer.
 pub fn month_grid(
     table: &Table,
     rules: &[u16],
+    mode: u16,
     today: Date,
     year: u16,
     month: u16,
     cells: &mut [u16],
     festivals: &mut [u16],
 ) -> Answer<Month> {
-    table.check()?;
-    check_rules(rules)?;
+    let mode = accepted(table, rules, mode)?;
     // Each lunar year is resolved once in a call: the answer is as if each day resolved it afresh.
     let mut resolved: Vec<(u16, Resolved)> = Vec::new();
     let mut computed = |year: u16| match resolved.iter().find(|(known, _)| *known == year) {
         Some((_, entries)) => entries.clone(),
         None => {
-            resolved.push((year, computed_for_year(table, rules, year)));
+            resolved.push((year, computed_for_year(table, rules, mode, year)));
             resolved[resolved.len() - 1].1.clone()
         }
     };
-    month_by(table, rules, today, (year, month), [cells, festivals], &mut computed)
+    month_by(table, rules, mode, today, (year, month), [cells, festivals], &mut computed)
 }
 
 /// 1, 10.

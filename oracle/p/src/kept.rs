@@ -1,4 +1,5 @@
-//! The kept state, by document 02's A4: a table, rules and up to two lunar years that were resolved.
+//! The kept state, by document 02's A4: a table, rules and up to two lunar years that were resolved; and
+//! by A5 the mode that it was started with.
 //! Each question is answered from the years that are stored; only what is not stored is resolved.
 use crate::conversion::{
     BsDate, Table, accepted_from_ad, accepted_to_ad, ad_to_bs, bs_to_ad, validate_bs_date,
@@ -6,6 +7,7 @@ use crate::conversion::{
 use crate::festivals::{self, Resolved, check_rules, computed_for_year, festivals_on};
 use crate::gregorian::{Date, date};
 use crate::grid::{Month, month_by};
+use crate::mode::Mode;
 use crate::{Answer, Refusal};
 
 /// The table may have no row yet; else it is accepted, and so are the rules.
@@ -13,7 +15,8 @@ use crate::{Answer, Refusal};
 pub struct Kept {
     pub table: Table,
     pub rules: Vec<u16>,
-    /// BS years of the table, rising, each with what it resolves to by this table and these rules.
+    pub mode: Mode,
+    /// BS years of the table, rising, each with what it resolves to by this table, these rules and this mode.
     pub stored: Vec<(u16, Resolved)>,
 }
 
@@ -26,7 +29,7 @@ struct Drawn<'a> {
 
 impl Drawn<'_> {
     fn year(&mut self, year: u16) -> Resolved {
-        let Kept { table, rules, stored } = self.state;
+        let Kept { table, rules, mode, stored } = self.state;
         let of_year = |(known, _): &&(u16, Resolved)| *known == year;
         if year < table.first_year {
             return Resolved::new();
@@ -36,7 +39,7 @@ impl Drawn<'_> {
         }
         let entries = match stored.iter().find(of_year) {
             Some((_, entries)) => entries.clone(),
-            None => computed_for_year(table, rules, year),
+            None => computed_for_year(table, rules, *mode, year),
         };
         self.years.push((year, entries.clone()));
         entries
@@ -44,14 +47,16 @@ impl Drawn<'_> {
 }
 
 impl Kept {
-    /// A state with no rows, no rules and nothing stored. 1.
-    pub fn start(first_year: u16, first_day: Date) -> Answer<Kept> {
+    /// A state with no rows, no rules and nothing stored. 1, 14.
+    pub fn start(first_year: u16, first_day: Date, mode: u16) -> Answer<Kept> {
         let is_good = (1..=3000).contains(&first_year)
             && first_day.check().is_ok()
             && (date(1901, 1, 1)..=date(2099, 12, 31)).contains(&first_day);
-        let table = Table { first_year, first_day, rows: Vec::new() };
-        let state = Kept { table, rules: Vec::new(), stored: Vec::new() };
-        if is_good { Ok(state) } else { Err(1) }
+        if !is_good {
+            return Err(1);
+        }
+        let (table, mode) = (Table { first_year, first_day, rows: Vec::new() }, Mode::of(mode)?);
+        Ok(Kept { table, rules: Vec::new(), mode, stored: Vec::new() })
     }
 
     /// Other rules in the place of those held; nothing is stored then. 2.
@@ -85,9 +90,9 @@ impl Kept {
         self.stored.iter().map(|(year, _)| *year).collect()
     }
 
-    /// The stored years, worked out afresh from the table and the rules that are held.
+    /// The stored years, worked out afresh from the table, the rules and the mode that are held.
     pub fn afresh(&self) -> Vec<(u16, Resolved)> {
-        let of = |year| (year, computed_for_year(&self.table, &self.rules, year));
+        let of = |year| (year, computed_for_year(&self.table, &self.rules, self.mode, year));
         self.stored_years().into_iter().map(of).collect()
     }
 
@@ -143,7 +148,8 @@ impl Kept {
         self.has_row()?;
         let mut drawn = Drawn { state: self, years: Vec::new() };
         let mut computed = |year| drawn.year(year);
-        let shown = month_by(&self.table, &self.rules, today, month, buffers, &mut computed)?;
+        let Kept { table, rules, mode, .. } = &*self;
+        let shown = month_by(table, rules, *mode, today, month, buffers, &mut computed)?;
         self.stored = drawn.years;
         Ok(shown)
     }

@@ -10,6 +10,7 @@ pub mod festivals;
 pub mod gregorian;
 pub mod grid;
 pub mod kept;
+pub mod mode;
 pub mod panchanga;
 pub mod rulefile;
 pub mod trig;

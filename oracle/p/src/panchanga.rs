@@ -1,12 +1,13 @@
-//! panchanga.rs, operation by operation, over typed instants.
+//! panchanga.rs, operation by operation, over typed instants. What follows the sun takes a mode.
 use crate::Answer;
 use crate::gregorian::Date;
+use crate::mode::Mode;
 use crate::trig::{acos, asin, cos, powi, sin, tan};
 
 pub const KATHMANDU_LAT: f64 = 27.7172;
 pub const KATHMANDU_LON: f64 = 85.3240;
 pub const NPT_OFFSET: f64 = 5.75 / 24.0;
-const DEG: f64 = std::f64::consts::PI / 180.0;
+pub const DEG: f64 = std::f64::consts::PI / 180.0;
 const SCAN_STEP: f64 = 0.75;
 /// The most steps that a search walks.
 const STEPS: u16 = 1024;
@@ -95,20 +96,25 @@ fn norm360(x: f64) -> f64 {
     x.rem_euclid(360.0)
 }
 
-/// The sun's mean longitude, its mean anomaly, and its true longitude.
+/// The sun's mean longitude, its mean anomaly, and its true longitude before it is brought into one turn.
 fn sun_angles(t: f64) -> (f64, f64, f64) {
     let l0 = 280.46646 + 36000.76983 * t + 0.0003032 * t * t;
     let m = 357.52911 + 35999.05029 * t - 0.0001537 * t * t;
     let c = (1.914602 - 0.004817 * t - 0.000014 * t * t) * sin(m * DEG)
         + (0.019993 - 0.000101 * t) * sin(2.0 * m * DEG)
         + 0.000289 * sin(3.0 * m * DEG);
-    (l0, m, norm360(l0 + c))
+    (l0, m, l0 + c)
 }
 
-/// The sun's longitude in degrees. 8.
-pub fn sun_longitude(tt: Tt) -> Answer<f64> {
+/// The sun's longitude in degrees that a mode has for tithis. 8.
+fn sun_for_tithi(mode: Mode, tt: Tt) -> Answer<f64> {
     let (_, _, longitude) = sun_angles(julian_centuries(tt_day(tt.0)?));
-    Ok(longitude)
+    Ok(norm360(mode.for_tithi(longitude)))
+}
+
+/// The sun's true longitude in degrees. 8.
+pub fn sun_longitude(tt: Tt) -> Answer<f64> {
+    sun_for_tithi(Mode::True, tt)
 }
 
 /// D, M, M', F and the coefficient in millionths of a degree: Meeus table 47.A.
@@ -165,9 +171,9 @@ pub fn moon_longitude(tt: Tt) -> Answer<f64> {
 }
 
 /// 8.
-pub fn elongation(ut: Ut) -> Answer<f64> {
+pub fn elongation(mode: Mode, ut: Ut) -> Answer<f64> {
     let tt = tt_from_ut(ut)?;
-    Ok(norm360(moon_longitude(tt)? - sun_longitude(tt)?))
+    Ok(norm360(moon_longitude(tt)? - sun_for_tithi(mode, tt)?))
 }
 
 /// 1 plus how many of 12, 24, .., 348 are not above the elongation.
@@ -176,8 +182,8 @@ pub fn tithi_of(elongation: f64) -> u16 {
 }
 
 /// 8.
-pub fn tithi_at(ut: Ut) -> Answer<u16> {
-    Ok(tithi_of(elongation(ut)?))
+pub fn tithi_at(mode: Mode, ut: Ut) -> Answer<u16> {
+    Ok(tithi_of(elongation(mode, ut)?))
 }
 
 /// The tithi that follows another.
@@ -186,8 +192,8 @@ pub fn next_tithi(tithi: u16) -> u16 {
 }
 
 /// From the target to the instant's elongation: above -180 and at most 180.
-fn elongation_offset(ut: Ut, target: f64) -> Answer<f64> {
-    let mut x = elongation(ut)? - target;
+fn elongation_offset(mode: Mode, ut: Ut, target: f64) -> Answer<f64> {
+    let mut x = elongation(mode, ut)? - target;
     if x <= -180.0 {
         x += 360.0;
     }
@@ -198,10 +204,10 @@ fn elongation_offset(ut: Ut, target: f64) -> Answer<f64> {
     Ok(x)
 }
 
-fn bisect_crossing(target: f64, mut a: f64, mut b: f64) -> Answer<f64> {
+fn bisect_crossing(mode: Mode, target: f64, mut a: f64, mut b: f64) -> Answer<f64> {
     for _ in 0..30 {
         let mid = (a + b) / 2.0;
-        if elongation_offset(Ut(mid), target)? <= 0.0 {
+        if elongation_offset(mode, Ut(mid), target)? <= 0.0 {
             a = mid;
         } else {
             b = mid;
@@ -211,7 +217,7 @@ fn bisect_crossing(target: f64, mut a: f64, mut b: f64) -> Answer<f64> {
 }
 
 /// The starts of a tithi and the number of steps walked. 8, 11.
-pub fn tithi_starts(tithi: u16, from: Ut, to: Ut) -> Answer<(Vec<Ut>, u16)> {
+pub fn tithi_starts(mode: Mode, tithi: u16, from: Ut, to: Ut) -> Answer<(Vec<Ut>, u16)> {
     let (Ut(from), Ut(to)) = (instant(from.0)?, instant(to.0)?);
     if !(1..=30).contains(&tithi) {
         return Err(8);
@@ -220,16 +226,16 @@ pub fn tithi_starts(tithi: u16, from: Ut, to: Ut) -> Answer<(Vec<Ut>, u16)> {
     let mut found = Vec::new();
     let mut steps = 0;
     let mut lo = from;
-    let mut f_lo = elongation_offset(Ut(lo), target)?;
+    let mut f_lo = elongation_offset(mode, Ut(lo), target)?;
     while lo < to {
         if steps == STEPS {
             return Err(11);
         }
         steps += 1;
         let hi = (lo + SCAN_STEP).min(to);
-        let f_hi = elongation_offset(Ut(hi), target)?;
+        let f_hi = elongation_offset(mode, Ut(hi), target)?;
         if f_lo <= 0.0 && f_hi > 0.0 {
-            found.push(Ut(bisect_crossing(target, lo, hi)?));
+            found.push(Ut(bisect_crossing(mode, target, lo, hi)?));
         }
         lo = hi;
         f_lo = f_hi;
@@ -238,13 +244,19 @@ pub fn tithi_starts(tithi: u16, from: Ut, to: Ut) -> Answer<(Vec<Ut>, u16)> {
 }
 
 /// The first start of a tithi. 8, 11.
-pub fn first_start(tithi: u16, from: Ut, to: Ut) -> Answer<Option<Ut>> {
-    Ok(tithi_starts(tithi, from, to)?.0.first().copied())
+pub fn first_start(mode: Mode, tithi: u16, from: Ut, to: Ut) -> Answer<Option<Ut>> {
+    Ok(tithi_starts(mode, tithi, from, to)?.0.first().copied())
 }
 
 /// How many starts are written, and the number of steps walked. 8, 11, 9.
-pub fn tithi_starts_between(tithi: u16, from: Ut, to: Ut, out: &mut [f64]) -> Answer<(usize, u16)> {
-    let (found, steps) = tithi_starts(tithi, from, to)?;
+pub fn tithi_starts_between(
+    mode: Mode,
+    tithi: u16,
+    from: Ut,
+    to: Ut,
+    out: &mut [f64],
+) -> Answer<(usize, u16)> {
+    let (found, steps) = tithi_starts(mode, tithi, from, to)?;
     if out.len() < found.len() {
         return Err(9);
     }
@@ -255,10 +267,11 @@ pub fn tithi_starts_between(tithi: u16, from: Ut, to: Ut, out: &mut [f64]) -> An
 }
 
 /// Sunrise and sunset. 3.
-pub fn sun_events(date: Date) -> Answer<Option<(Ut, Ut)>> {
+pub fn sun_events(mode: Mode, date: Date) -> Answer<Option<(Ut, Ut)>> {
     let jd_noon = julian_day(date, 0.5)?.0 - KATHMANDU_LON / 360.0;
     let t = julian_centuries(tt_from_ut(Ut(jd_noon))?);
-    let (l0, m, lambda) = sun_angles(t);
+    let (l0, m, longitude) = sun_angles(t);
+    let lambda = norm360(mode.for_events(longitude, t));
     let e = 0.016708634 - 0.000042037 * t - 0.0000001267 * t * t;
     let eps = 23.439291 - 0.0130042 * t;
 
@@ -285,19 +298,19 @@ pub fn sun_events(date: Date) -> Answer<Option<(Ut, Ut)>> {
 }
 
 /// 3.
-pub fn sunrise(date: Date) -> Answer<Option<Ut>> {
-    Ok(sun_events(date)?.map(|(rise, _)| rise))
+pub fn sunrise(mode: Mode, date: Date) -> Answer<Option<Ut>> {
+    Ok(sun_events(mode, date)?.map(|(rise, _)| rise))
 }
 
 /// 3.
-pub fn sunset(date: Date) -> Answer<Option<Ut>> {
-    Ok(sun_events(date)?.map(|(_, set)| set))
+pub fn sunset(mode: Mode, date: Date) -> Answer<Option<Ut>> {
+    Ok(sun_events(mode, date)?.map(|(_, set)| set))
 }
 
 /// 3, for nishita also on the last date.
-pub fn kala_instant(date: Date, kala: Kala) -> Answer<Option<Ut>> {
+pub fn kala_instant(mode: Mode, date: Date, kala: Kala) -> Answer<Option<Ut>> {
     if kala == Kala::Nishita {
-        let window = nishita_window(date)?;
+        let window = nishita_window(mode, date)?;
         return Ok(window.map(|(from, to)| Ut((from.0 + to.0) / 2.0)));
     }
     let instant = |(Ut(rise), Ut(set))| match kala {
@@ -306,13 +319,13 @@ pub fn kala_instant(date: Date, kala: Kala) -> Answer<Option<Ut>> {
         Kala::Pradosh => set + 45.0 / 1440.0,
         _ => rise,
     };
-    Ok(sun_events(date)?.map(instant).map(Ut))
+    Ok(sun_events(mode, date)?.map(instant).map(Ut))
 }
 
 /// 3, also on the last date.
-pub fn nishita_window(date: Date) -> Answer<Option<(Ut, Ut)>> {
+pub fn nishita_window(mode: Mode, date: Date) -> Answer<Option<(Ut, Ut)>> {
     let next = date.next()?;
-    let events = sun_events(date)?.zip(sun_events(next)?);
+    let events = sun_events(mode, date)?.zip(sun_events(mode, next)?);
     Ok(events.map(|((_, Ut(set)), (Ut(next_rise), _))| {
         let night = next_rise - set;
         (Ut(set + night * 7.0 / 15.0), Ut(set + night * 8.0 / 15.0))
@@ -344,10 +357,10 @@ pub fn npt_clock(ut: Ut) -> Answer<u16> {
 }
 
 /// When the running tithi ends. 8, also where 2.5 days on passes the range.
-pub fn tithi_end(ut: Ut) -> Answer<Option<Ut>> {
+pub fn tithi_end(mode: Mode, ut: Ut) -> Answer<Option<Ut>> {
     let Ut(jd) = instant(ut.0)?;
     let to = instant(jd + 2.5)?;
-    first_start(next_tithi(tithi_at(ut)?), ut, to)
+    first_start(mode, next_tithi(tithi_at(mode, ut)?), ut, to)
 }
 
 /// What a day's cell shows: the sunrise tithi and three clock minutes.
@@ -360,16 +373,16 @@ pub struct Reading {
 }
 
 /// 3.
-pub fn reading(date: Date) -> Answer<Reading> {
-    let events = sun_events(date)?;
+pub fn reading(mode: Mode, date: Date) -> Answer<Reading> {
+    let events = sun_events(mode, date)?;
     let reference = match events {
         Some((rise, _)) => rise,
         None => julian_day(date, 0.25 - NPT_OFFSET)?,
     };
     let clock = |at: Option<Ut>| at.map_or(Ok(NONE), npt_clock);
     Ok(Reading {
-        tithi: tithi_at(reference)?,
-        end: clock(tithi_end(reference)?.filter(|end| npt_date(*end) == Ok(date)))?,
+        tithi: tithi_at(mode, reference)?,
+        end: clock(tithi_end(mode, reference)?.filter(|end| npt_date(*end) == Ok(date)))?,
         sunrise: clock(events.map(|(rise, _)| rise))?,
         sunset: clock(events.map(|(_, set)| set))?,
     })

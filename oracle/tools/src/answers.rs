@@ -4,6 +4,7 @@ use parameterised::conversion::{self, BsDate};
 use parameterised::gregorian::Date;
 use parameterised::grid::Month;
 use parameterised::kept::Kept;
+use parameterised::mode::Mode;
 use parameterised::panchanga::{self, KALAS, Tt, Ut};
 use parameterised::{Answer, Refusal, festivals, grid, rulefile, trig};
 
@@ -47,14 +48,16 @@ fn day_words(date: Date) -> Answer<String> {
     Ok(format!("{} {} {next}", date.day_number()?, date.weekday()?))
 }
 
-fn reading_words(date: Date) -> Answer<String> {
-    let r = panchanga::reading(date)?;
+fn reading_words(mode: Mode, date: Date) -> Answer<String> {
+    let r = panchanga::reading(mode, date)?;
     Ok(format!("{} {} {} {}", r.tithi, r.end, r.sunrise, r.sunset))
 }
 
-fn starts_line(tithi: u16, from: f64, to: f64, length: u16) -> String {
+fn starts_line(mode: Answer<Mode>, tithi: u16, (from, to): (f64, f64), length: u16) -> String {
     let mut buffer = vec![FILL as f64; length as usize];
-    let answer = panchanga::tithi_starts_between(tithi, Ut(from), Ut(to), &mut buffer);
+    let answer = mode.and_then(|mode| {
+        panchanga::tithi_starts_between(mode, tithi, Ut(from), Ut(to), &mut buffer)
+    });
     let answer = told(answer.map(|(count, steps)| format!("{count} {steps}")));
     with_buffer(answer, buffer.into_iter().map(float_word))
 }
@@ -112,21 +115,39 @@ pub fn state_line(state: &mut Kept, rules: &[u16], operation: Operation) -> Stri
 
 /// A state anew, in place of the one there is; none where it is refused.
 fn start_line(lent: &mut Lent, first_year: u16, first_day: Date) -> String {
-    let started = Kept::start(first_year, first_day);
+    let started = Kept::start(first_year, first_day, lent.mode);
     let answer = told(started.as_ref().map(|_| String::new()).map_err(|number| *number));
     lent.state = started.ok();
     answer
 }
 
+/// The answers that follow the mode but those with a buffer.
+fn sky_words(mode: Mode, query: Query) -> Answer<String> {
+    match query {
+        Query::Elongation(ut) => panchanga::elongation(mode, Ut(ut)).map(float_word),
+        Query::Tithi(ut) => panchanga::tithi_at(mode, Ut(ut)).map(|tithi| tithi.to_string()),
+        Query::End(ut) => panchanga::tithi_end(mode, Ut(ut)).map(instant_word),
+        Query::Events(date) => panchanga::sun_events(mode, date).map(pair_words),
+        Query::Rise(date) => panchanga::sunrise(mode, date).map(instant_word),
+        Query::Set(date) => panchanga::sunset(mode, date).map(instant_word),
+        Query::Kala(date, kala) => {
+            panchanga::kala_instant(mode, date, KALAS[kala as usize]).map(instant_word)
+        }
+        Query::Nishita(date) => panchanga::nishita_window(mode, date).map(pair_words),
+        Query::Read(date) => reading_words(mode, date),
+        _ => unreachable!("no question on the sky"),
+    }
+}
+
 pub fn answer(lent: &mut Lent, query: Query) -> String {
-    let (table, rules) = (&lent.table, &lent.rules);
+    let (table, rules, mode) = (&lent.table, &lent.rules, lent.mode);
     told(match query {
         Query::Check => table.check().map(|()| String::new()),
         Query::CheckRules => festivals::check_rules(rules).map(|()| String::new()),
         Query::Bs(bs) => conversion::bs_to_ad(table, bs).map(date_words),
         Query::Ad(ad) => return told(conversion::ad_to_bs(table, ad).map(bs_words)),
         Query::Holiday(bs) => {
-            festivals::is_holiday(table, rules, bs).map(|yes| (yes as u16).to_string())
+            festivals::is_holiday(table, rules, mode, bs).map(|yes| (yes as u16).to_string())
         }
         Query::Len(year, month) => {
             conversion::bs_month_len(table, year, month).map(|days| days.to_string())
@@ -144,21 +165,10 @@ pub fn answer(lent: &mut Lent, query: Query) -> String {
         Query::Tt(ut) => panchanga::tt_from_ut(Ut(ut)).map(|tt| float_word(tt.0)),
         Query::Sun(tt) => panchanga::sun_longitude(Tt(tt)).map(float_word),
         Query::Moon(tt) => panchanga::moon_longitude(Tt(tt)).map(float_word),
-        Query::Elongation(ut) => panchanga::elongation(Ut(ut)).map(float_word),
-        Query::Tithi(ut) => panchanga::tithi_at(Ut(ut)).map(|tithi| tithi.to_string()),
         Query::TithiOf(elongation) => Ok(panchanga::tithi_of(elongation).to_string()),
-        Query::End(ut) => panchanga::tithi_end(Ut(ut)).map(instant_word),
-        Query::Events(date) => panchanga::sun_events(date).map(pair_words),
-        Query::Rise(date) => panchanga::sunrise(date).map(instant_word),
-        Query::Set(date) => panchanga::sunset(date).map(instant_word),
-        Query::Kala(date, kala) => {
-            panchanga::kala_instant(date, KALAS[kala as usize]).map(instant_word)
-        }
-        Query::Nishita(date) => panchanga::nishita_window(date).map(pair_words),
         Query::NptDate(ut) => panchanga::npt_date(Ut(ut)).map(date_words),
         Query::Clock(ut) => panchanga::npt_clock(Ut(ut)).map(|minute| minute.to_string()),
         Query::Minutes(fraction) => Ok(panchanga::minutes_of(fraction).to_string()),
-        Query::Read(date) => reading_words(date),
         Query::Sin(x) => Ok(float_word(trig::sin(x))),
         Query::Cos(x) => Ok(float_word(trig::cos(x))),
         Query::Asin(x) => Ok(float_word(trig::asin(x))),
@@ -168,17 +178,19 @@ pub fn answer(lent: &mut Lent, query: Query) -> String {
             return count_line(length, |out| rulefile::read_rules(&lent.text, out));
         }
         Query::WriteRules(length) => return write_rules_line(rules, length),
-        Query::Starts(tithi, from, to, length) => return starts_line(tithi, from, to, length),
+        Query::Starts(tithi, from, to, length) => {
+            return starts_line(Mode::of(mode), tithi, (from, to), length);
+        }
         Query::ListBs(bs, length) => {
-            return count_line(length, |out| festivals::day_list_bs(table, rules, bs, out));
+            return count_line(length, |out| festivals::day_list_bs(table, rules, mode, bs, out));
         }
         Query::ListAd(ad, length) => {
-            return count_line(length, |out| festivals::day_list_ad(table, rules, ad, out));
+            return count_line(length, |out| festivals::day_list_ad(table, rules, mode, ad, out));
         }
         Query::Grid(asked) => {
             let Grid { today, year, month, .. } = asked;
             return grid_line(asked, |[cells, names]| {
-                grid::month_grid(table, rules, today, year, month, cells, names)
+                grid::month_grid(table, rules, mode, today, year, month, cells, names)
             });
         }
         Query::Start(first_year, first_day) => return start_line(lent, first_year, first_day),
@@ -186,5 +198,6 @@ pub fn answer(lent: &mut Lent, query: Query) -> String {
             Some(state) => return state_line(state, rules, operation),
             None => return "?".into(),
         },
+        on_sky => Mode::of(mode).and_then(|mode| sky_words(mode, on_sky)),
     })
 }

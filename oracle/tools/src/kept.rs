@@ -22,10 +22,10 @@ fn plain(table: &Table, operation: &Operation) -> Option<(Query, Option<(u16, u1
     }
 }
 
-/// The answer and its buffers without a state: over the table and the rules that are held.
+/// The answer and its buffers without a state: over the table, the rules and the mode that are held.
 fn without_state(state: &Kept, query: Query) -> String {
-    let (table, rules) = (state.table.clone(), state.rules.clone());
-    answer(&mut Lent { table, rules, ..Lent::default() }, query)
+    let (table, rules, mode) = (state.table.clone(), state.rules.clone(), state.mode.number());
+    answer(&mut Lent { table, rules, mode, ..Lent::default() }, query)
 }
 
 /// The table years that a day or a month draws computed rules from.
@@ -100,8 +100,8 @@ pub fn wrong(
         return Some(format!("answered {line}, without a state {expected}"));
     }
     let (state, years) = due(before, rules, operation, line);
-    if (&state.table, &state.rules) != (&after.table, &after.rules) {
-        return Some("another table or other rules are held".into());
+    if (&state.table, &state.rules, state.mode) != (&after.table, &after.rules, after.mode) {
+        return Some("another table, other rules or another mode are held".into());
     }
     if after.stored_years() != years {
         return Some(format!("{:?} are stored, not {years:?}", after.stored_years()));
@@ -195,7 +195,7 @@ fn answered(state: &Kept, operation: &Operation, line: &str) -> Option<(u16, u16
 }
 
 fn resolve_before(after: &mut Kept, year: u16) {
-    let entries = computed_for_year(&after.table, &after.rules, year);
+    let entries = computed_for_year(&after.table, &after.rules, after.mode, year);
     after.stored.insert(0, (year, entries));
 }
 

@@ -12,6 +12,7 @@ pub enum Line {
     Rule(Vec<u16>),
     Text,
     Octets(Vec<u8>),
+    Mode(u16),
     Query(Query),
 }
 
@@ -188,6 +189,7 @@ pub fn parse(line: &[u8]) -> Option<Line> {
         "rule" => Line::Rule(w.some_numbers(8)?),
         "text" => Line::Text,
         "octets" => Line::Octets(w.octets(OCTETS)?),
+        "mode" => Line::Mode(w.number()?),
         tag => Line::Query(query(tag, w)?),
     };
     words.rest.next().is_none().then_some(line)
@@ -251,13 +253,15 @@ pub struct Lent {
     pub table: Table,
     pub rules: Vec<u16>,
     pub text: Vec<u8>,
+    /// A number that need not be a mode.
+    pub mode: u16,
     pub state: Option<Kept>,
 }
 
 impl Default for Lent {
     fn default() -> Self {
         let table = Table { first_year: 0, first_day: date(0, 0, 0), rows: Vec::new() };
-        Lent { table, rules: Vec::new(), text: Vec::new(), state: None }
+        Lent { table, rules: Vec::new(), text: Vec::new(), mode: 0, state: None }
     }
 }
 
@@ -273,6 +277,7 @@ impl Lent {
             Line::Rule(numbers) => self.rules.extend(numbers),
             Line::Text => self.text.clear(),
             Line::Octets(bytes) => self.text.extend(bytes),
+            Line::Mode(number) => self.mode = number,
             Line::Query(query) => return Some(query),
         }
         None

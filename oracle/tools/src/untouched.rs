@@ -7,6 +7,7 @@ use chrono::{Datelike, Duration, NaiveDate};
 use parameterised::conversion::{BsDate, Table};
 use parameterised::gregorian::Date;
 use parameterised::kept::Kept;
+use parameterised::mode::Mode;
 use untouched_nepal as rust;
 use untouched_nepal::panchanga::{self, Kala};
 
@@ -166,6 +167,27 @@ macro_rules! lists {
 lists!(nepal, untouched_nepal);
 lists!(stress, untouched_stress);
 
+/// Whether a question follows the mode that is lent: the Rust has mode 0 alone.
+fn follows_mode(query: &Query) -> bool {
+    matches!(
+        query,
+        Query::Elongation(_)
+            | Query::Tithi(_)
+            | Query::Starts(..)
+            | Query::End(_)
+            | Query::Events(_)
+            | Query::Rise(_)
+            | Query::Set(_)
+            | Query::Kala(..)
+            | Query::Nishita(_)
+            | Query::Read(_)
+            | Query::ListBs(..)
+            | Query::ListAd(..)
+            | Query::Holiday(_)
+            | Query::Grid(_)
+    )
+}
+
 /// Answers as the Rust untouched does.
 pub struct Untouched {
     table: Table,
@@ -278,14 +300,20 @@ impl Untouched {
                 return None;
             }
         };
+        if state.mode != Mode::True {
+            return None;
+        }
         self.of_table(&state.table, &state.rules, plain)
     }
 
     /// The answer, or nothing where the Rust has none or document 01 has another.
     pub fn answer(&self, lent: &mut Lent, query: Query) -> Option<String> {
+        if lent.mode != 0 && follows_mode(&query) {
+            return None;
+        }
         match query {
             Query::Start(first_year, first_day) => {
-                lent.state = Kept::start(first_year, first_day).ok();
+                lent.state = Kept::start(first_year, first_day, lent.mode).ok();
                 None
             }
             Query::State(operation) => self.of_state(lent, operation),

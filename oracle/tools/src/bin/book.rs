@@ -1,9 +1,11 @@
 //! Asks oracle P document 01's checked examples and Meeus's 7.a, 25.a and 47.a, whose answers stand
-//! here as the paper and the book print them, and rule files, holidays and a kept state read by hand.
+//! here as the paper and the book print them, and rule files, holidays, a kept state and what is no mode
+//! read by hand.
 //!
 //!   book [recipe|host]
 use parameterised::convert;
 use parameterised::gregorian::date;
+use parameterised::mode::Mode::Apparent;
 use parameterised::panchanga::{self, Tt};
 use parameterised::trig::{self, Mode};
 use std::process::ExitCode;
@@ -116,6 +118,41 @@ const STATE: [(&str, &str); 33] = [
     ("stored", "?"),
 ];
 
+/// What is no mode, read by hand: where 14 stands among the refusals, and who does not give it.
+const NO_MODE: [(&str, &str); 31] = [
+    ("table 100 1950 1 1", ""),
+    ("cells 31 31 32 31 31 31 30 29 30 29 30 30 365", ""),
+    ("rules", ""),
+    ("mode 1", ""),
+    ("start 100 1950 1 1", "0"),
+    ("mode 2", ""),
+    ("askbs 100 1 1 0", "13 |"),
+    ("append 31 31 32 31 31 31 30 29 30 29 30 30 365", "0"),
+    ("askbs 100 1 1 0", "0 0 |"),
+    ("bs 100 1 1", "0 1950 1 1"),
+    ("tithiof 0x0000000000000000", "0 1"),
+    ("holiday 100 1 7", "14"),
+    ("listbs 99 13 40 1", "14 | 7"),
+    ("listad 1900 2 29 0", "14 |"),
+    ("grid 1900 2 29 99 13 0 0", "14 | |"),
+    ("read 1900 2 29", "14"),
+    ("nishita 2149 12 31", "14"),
+    ("kala 1900 2 29 5", "14"),
+    ("elong 0x7ff8000000000000", "14"),
+    ("end 0x0000000000000000", "14"),
+    ("starts 31 0x0000000000000000 0x0000000000000000 0", "14 |"),
+    ("rule 5", ""),
+    ("listbs 99 13 40 1", "2 | 7"),
+    ("take", "2"),
+    ("cells 31", ""),
+    ("listbs 99 13 40 1", "1 | 7"),
+    ("start 0 1950 1 1", "1"),
+    ("start 100 1950 1 1", "14"),
+    ("stored", "?"),
+    ("mode 0", ""),
+    ("read 1900 2 29", "3"),
+];
+
 /// Questions on floats, which the paper writes as decimals.
 fn on_floats() -> Vec<(String, String)> {
     vec![
@@ -178,6 +215,7 @@ fn month_differs() -> bool {
     let month = parameterised::grid::month_grid(
         &convert::own_table(),
         &[],
+        0,
         date(1950, 2, 14),
         100,
         2,
@@ -208,16 +246,18 @@ fn meeus_differs(name: &str, answer: f64, book: f64, last_digit: f64) -> bool {
 fn main() -> ExitCode {
     let host = std::env::args().nth(1).as_deref() == Some("host") || !trig::has_recipe();
     trig::set_mode(if host { Mode::Host } else { Mode::Recipe });
-    let paper = PAPER.iter().chain(&HOLIDAYS).chain(&STATE);
+    let paper = PAPER.iter().chain(&HOLIDAYS).chain(&STATE).chain(&NO_MODE);
     let paper = paper.map(|(line, answer)| (line.to_string(), answer.to_string()));
     let julian_day = panchanga::julian_day(date(1957, 10, 4), 0.81).expect("an instant").0;
     let sun = panchanga::sun_longitude(Tt(2448908.5)).expect("a longitude");
+    let apparent = Apparent.for_events(sun, (2448908.5 - 2451545.0) / 36525.0);
     let moon = panchanga::moon_longitude(Tt(2448724.5)).expect("a longitude");
     let checks = [
         month_differs(),
         convert_differs(),
         meeus_differs("7.a, 1957 October 4.81", julian_day, 2436116.31, 1e-9),
         meeus_differs("25.a, the sun's true longitude", sun, 199.90987, 2e-5),
+        meeus_differs("25.a, the sun's apparent longitude", apparent, 199.90895, 2e-5),
         meeus_differs("47.a, the moon's geometric longitude", moon, 133.162655, 2e-6),
     ];
     let pairs = paper.chain(on_floats()).chain(on_rule_files());

@@ -6,25 +6,31 @@ use parameterised::conversion::{BsDate, Table, ad_to_bs, bs_month_len, bs_to_ad}
 use parameterised::convert::own_table;
 use parameterised::festivals::{Entry, check_rules, computed_for_year, festivals_on, records};
 use parameterised::gregorian::{Date, date};
+use parameterised::mode::Mode;
 use std::ops::RangeInclusive;
 
 /// A table and a rule list with the years that were resolved, so that lists can be looked through.
 pub struct Almanac {
     pub table: Table,
     pub rules: Vec<u16>,
+    mode: Mode,
     resolved: Vec<(u16, Vec<(BsDate, Entry)>)>,
 }
 
 impl Almanac {
     pub fn new(table: Table, rules: Vec<u16>) -> Self {
-        Almanac { table, rules, resolved: Vec::new() }
+        Almanac::by(Mode::True, table, rules)
+    }
+
+    pub fn by(mode: Mode, table: Table, rules: Vec<u16>) -> Self {
+        Almanac { table, rules, mode, resolved: Vec::new() }
     }
 
     fn computed(&mut self, year: u16) -> Vec<(BsDate, Entry)> {
         if let Some((_, entries)) = self.resolved.iter().find(|(known, _)| *known == year) {
             return entries.clone();
         }
-        let entries = computed_for_year(&self.table, &self.rules, year);
+        let entries = computed_for_year(&self.table, &self.rules, self.mode, year);
         self.resolved.push((year, entries.clone()));
         entries
     }

@@ -5,6 +5,7 @@ use crate::lines::bits_word;
 use crate::random::neighbour;
 use crate::tables::{Months, Place, nepal_rules, owner_table, random_table, stress_rules};
 use ::parameterised::gregorian::{Date, FIRST, LAST};
+use ::parameterised::mode::Mode;
 use ::parameterised::panchanga::NPT_OFFSET;
 
 /// All dates: day number, weekday, next, Julian days, sun events, a kala, nishita and reading.
@@ -45,7 +46,7 @@ pub fn instants(maker: &mut Maker) {
         maker.around("clock", midnight, 1);
     }
     for i in 0..6_000 {
-        let start = panchanga::some_start(maker, i % 30 + 1);
+        let start = panchanga::some_start(maker, Mode::True, i % 30 + 1);
         maker.around("tithi", start, 3);
         maker.around("elong", start, 3);
         maker.at("end", start);

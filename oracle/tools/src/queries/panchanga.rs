@@ -3,6 +3,7 @@ use super::{BAD_DATES, Maker, NO_NUMBERS};
 use crate::lines::bits_word;
 use crate::random::neighbour;
 use parameterised::gregorian::{Date, date};
+use parameterised::mode::Mode;
 use parameterised::panchanga::{self as panchanga, Ut};
 
 /// Meeus 25.a and 47.a first: the sun at JDE 2448908.5, the moon at JDE 2448724.5.
@@ -76,17 +77,17 @@ fn random_instants(maker: &mut Maker) {
     }
 }
 
-/// Some start of a tithi after a random instant.
-pub fn some_start(maker: &mut Maker, tithi: u16) -> f64 {
+/// Some start of a tithi after a random instant, by a mode.
+pub fn some_start(maker: &mut Maker, mode: Mode, tithi: u16) -> f64 {
     let from = maker.random.between(2400000.0, 2509960.0);
-    let start = panchanga::first_start(tithi, Ut(from), Ut(from + 31.0)).expect("a search");
+    let start = panchanga::first_start(mode, tithi, Ut(from), Ut(from + 31.0)).expect("a search");
     start.expect("a tithi in each lunation").0
 }
 
 /// Instants within three places of a tithi's start.
 fn tithi_boundaries(maker: &mut Maker) {
     for tithi in 1..=30 {
-        let start = some_start(maker, tithi);
+        let start = some_start(maker, Mode::True, tithi);
         maker.around("tithi", start, 3);
         maker.around("elong", start, 1);
         maker.at("end", start);
@@ -116,7 +117,7 @@ pub fn search(maker: &mut Maker, tithi: u16, from: f64, to: f64, buffer: usize) 
 
 /// How many starts a search finds.
 fn found(tithi: u16, from: f64, to: f64) -> usize {
-    panchanga::tithi_starts(tithi, Ut(from), Ut(to)).expect("a search").0.len()
+    panchanga::tithi_starts(Mode::True, tithi, Ut(from), Ut(to)).expect("a search").0.len()
 }
 
 pub fn searches(maker: &mut Maker) {
@@ -143,7 +144,7 @@ pub fn searches(maker: &mut Maker) {
     }
     // A start at either end of the window, and beside it.
     for tithi in [1, 2, 12, 29, 30] {
-        let start = some_start(maker, tithi);
+        let start = some_start(maker, Mode::True, tithi);
         for steps in -3..=3 {
             search(maker, tithi, start - 0.75, neighbour(start, steps), 1);
             search(maker, tithi, neighbour(start, steps), start + 1.5, 1);
@@ -194,7 +195,7 @@ pub fn search_refusals(maker: &mut Maker) {
 }
 
 /// The questions on a date but reading.
-fn of_date(maker: &mut Maker, date: Date) {
+pub fn of_date(maker: &mut Maker, date: Date) {
     for tag in ["events", "rise", "set", "nishita"] {
         maker.on(tag, date);
     }
