@@ -22,7 +22,7 @@ fn days_of_months(dice: &mut Dice, table: &Table, each: usize) -> Vec<BsDate> {
 
 /// A state of the parameterised Rust with a table and rules, nothing stored.
 fn of_rust(table: &Table, rules: &[u16]) -> Kept {
-    let mut state = Kept::start(table.first_year, table.first_day).expect("a start");
+    let mut state = Kept::start(table.first_year, table.first_day, 0).expect("a start");
     state.take_rules(rules).expect("rules");
     table.rows.chunks(13).for_each(|row| state.append_row(row).expect("a row"));
     state

@@ -9,6 +9,7 @@ use parameterised::conversion::{self, BsDate, Table};
 use parameterised::festivals;
 use parameterised::gregorian::Date;
 use parameterised::grid;
+use parameterised::mode::Mode;
 use parameterised::panchanga::{self, Ut};
 use parameterised::rulefile;
 use parameterised::trig;
@@ -187,7 +188,7 @@ fn elongations(report: &mut Report, dice: &mut Dice) {
         "elongation",
         instants.len(),
         Box::new(|i| port::elongation(instants[i]).expect("an instant").to_bits()),
-        Box::new(|i| panchanga::elongation(Ut(instants[i])).expect("an instant").to_bits()),
+        Box::new(|i| panchanga::elongation(Mode::True, Ut(instants[i])).expect("an instant").to_bits()),
         Some(Box::new(|i| untouched::elongation(instants[i]))),
     );
 }
@@ -201,7 +202,7 @@ fn readings(report: &mut Report, dice: &mut Dice) {
         dates.len(),
         Box::new(|i| numbers(port::reading(dates[i]).expect("a date"))),
         Box::new(|i| {
-            let reading = panchanga::reading(dates[i]).expect("a date");
+            let reading = panchanga::reading(Mode::True, dates[i]).expect("a date");
             numbers([reading.tithi, reading.end, reading.sunrise, reading.sunset])
         }),
         Some(Box::new(|i| untouched::reading(dates[i]))),
@@ -228,7 +229,7 @@ fn searches(report: &mut Report, dice: &mut Dice) {
         Box::new(|i| {
             let (tithi, from) = years[i];
             let (from, to) = (Ut(from), Ut(from + 365.25));
-            let found = panchanga::tithi_starts_between(tithi, from, to, &mut *out.borrow_mut());
+            let found = panchanga::tithi_starts_between(Mode::True, tithi, from, to, &mut *out.borrow_mut());
             let (count, steps) = found.expect("a search");
             starts(count, steps.into())
         }),
@@ -267,7 +268,7 @@ fn day_lists(report: &mut Report, dice: &mut Dice, table: &Table) {
         &format!("cold day list, {computed} computed rules"),
         days.len(),
         Box::new(|i| entries(asked(days[i], port::festivals_on))),
-        Box::new(|i| entries(asked(days[i], festivals::day_list_bs))),
+        Box::new(|i| entries(asked(days[i], |table, rules, bs, out| festivals::day_list_bs(table, rules, 0, bs, out)))),
         Some(Box::new(|i| untouched::festivals_on(days[i]))),
     );
 }
@@ -291,7 +292,7 @@ fn month_grids(report: &mut Report, dice: &mut Dice, table: &Table) {
         "cold month grid, the same rules",
         days.len(),
         Box::new(|i| shown(asked(days[i], port::month_grid))),
-        Box::new(|i| shown(asked(days[i], grid::month_grid))),
+        Box::new(|i| shown(asked(days[i], |table, rules, today, y, m, cells, names| grid::month_grid(table, rules, 0, today, y, m, cells, names)))),
         Some(Box::new(|i| untouched::month_grid(days[i], today))),
     );
 }
@@ -306,7 +307,7 @@ fn holidays(report: &mut Report, dice: &mut Dice, table: &Table) {
         "holiday on a Saturday",
         saturdays.len(),
         Box::new(|i| port::is_holiday(table, &rules, saturdays[i]).expect("a day").into()),
-        Box::new(|i| festivals::is_holiday(table, &rules, saturdays[i]).expect("a day").into()),
+        Box::new(|i| festivals::is_holiday(table, &rules, 0, saturdays[i]).expect("a day").into()),
         None,
     );
     report.compared(
@@ -326,7 +327,7 @@ fn holidays(report: &mut Report, dice: &mut Dice, table: &Table) {
         "holiday on another day, the same rules",
         40,
         Box::new(|i| port::is_holiday(table, &rules, others[i]).expect("a day").into()),
-        Box::new(|i| festivals::is_holiday(table, &rules, others[i]).expect("a day").into()),
+        Box::new(|i| festivals::is_holiday(table, &rules, 0, others[i]).expect("a day").into()),
         None,
     );
 }
