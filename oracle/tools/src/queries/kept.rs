@@ -30,27 +30,27 @@ fn append(maker: &mut Maker, row: &[u16]) {
 }
 
 /// A state that holds a table, its rows appended one at a time.
-fn hold(maker: &mut Maker, table: &Table) {
+pub fn hold(maker: &mut Maker, table: &Table) {
     start(maker, table.first_year, table.first_day);
     for row in table.rows.chunks(13) {
         append(maker, row);
     }
 }
 
-fn take(maker: &mut Maker, rules: &[u16]) {
+pub fn take(maker: &mut Maker, rules: &[u16]) {
     maker.rules(rules);
     maker.line("take");
 }
 
-fn stored(maker: &mut Maker) {
+pub fn stored(maker: &mut Maker) {
     maker.line("stored");
 }
 
-fn ask_bs(maker: &mut Maker, bs: BsDate, length: usize) {
+pub fn ask_bs(maker: &mut Maker, bs: BsDate, length: usize) {
     maker.line(format_args!("askbs {} {} {} {length}", bs.year, bs.month, bs.day));
 }
 
-fn ask_ad(maker: &mut Maker, ad: Date, length: usize) {
+pub fn ask_ad(maker: &mut Maker, ad: Date, length: usize) {
     maker.line(format_args!("askad {} {} {} {length}", ad.year, ad.month, ad.day));
 }
 
@@ -76,7 +76,7 @@ fn some_day(maker: &mut Maker, almanac: &mut Almanac, day: BsDate) {
 }
 
 /// A month with buffers that are exactly long enough.
-fn exact_month(maker: &mut Maker, almanac: &mut Almanac, year: u16, month: u16) {
+pub fn exact_month(maker: &mut Maker, almanac: &mut Almanac, year: u16, month: u16) {
     let (cells, festivals) = lengths(almanac, year, month);
     let today = some_today(maker, almanac, year, month);
     ask_grid(maker, today, (year, month), cells, festivals);
@@ -626,7 +626,7 @@ fn out_of_form(maker: &mut Maker) {
 
 /// One operation after another over a random table, most of them accepted; days that were asked are
 /// asked again after each row.
-fn walk(maker: &mut Maker, steps: usize) {
+pub fn walk(maker: &mut Maker, steps: usize) {
     let months =
         maker.random.one_of(&[Months::Real, Months::Any, Months::All(29), Months::All(32)]);
     let place = maker.random.one_of(&[Place::First, Place::Last, Place::Anywhere]);

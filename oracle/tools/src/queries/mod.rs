@@ -16,6 +16,7 @@ mod gregorian;
 mod grid;
 mod holidays;
 mod kept;
+mod modes;
 mod panchanga;
 mod texts;
 mod trig;
@@ -29,7 +30,7 @@ pub struct Maker<'a> {
 type Set = (&'static str, fn(&mut Maker));
 
 /// The samples: of `convert`, and the parts of the sample of `ask`, its own questions first.
-pub const SAMPLES: [Set; 11] = [
+pub const SAMPLES: [Set; 12] = [
     ("ask", ask::sample),
     ("gregorian", gregorian::sample),
     ("conversion", conversion::sample),
@@ -41,10 +42,11 @@ pub const SAMPLES: [Set; 11] = [
     ("texts", texts::sample),
     ("holidays", holidays::sample),
     ("kept", kept::sample),
+    ("modes", modes::sample),
 ];
 
 /// The sets at full scale.
-pub const FULL: [Set; 13] = [
+pub const FULL: [Set; 14] = [
     ("dates", full::dates),
     ("instants", full::instants),
     ("angles", full::angles),
@@ -58,6 +60,7 @@ pub const FULL: [Set; 13] = [
     ("kept", kept::full),
     ("texts", texts::full),
     ("words", full::words),
+    ("modes", modes::full),
 ];
 
 /// The maker of a set, by `sample NAME` or `full NAME`.
