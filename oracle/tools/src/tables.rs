@@ -15,37 +15,37 @@ pub fn owner_table() -> Table {
     }
 }
 
-/// The numbers of a table file; `#` starts a comment.
-fn numbers(text: &str) -> Vec<u16> {
+/// The table of a table file; `#` starts a comment.
+pub fn table_of(text: &str) -> Table {
     let bodies = text.lines().filter_map(|line| line.split('#').next());
     let words = bodies.flat_map(str::split_whitespace);
-    words.map(|word| word.parse().expect("a number")).collect()
+    let all: Vec<u16> = words.map(|word| word.parse().expect("a number")).collect();
+    Table { first_year: all[0], first_day: date(all[1], all[2], all[3]), rows: all[4..].to_vec() }
 }
 
 /// The numbers of a rule file in form.
-fn rules(text: &[u8]) -> Vec<u16> {
+pub fn rules_of(text: &[u8]) -> Vec<u16> {
     rulefile::numbers(text).expect("a rule file in form")
 }
 
 /// oracle/rules/nepal.rules.
 pub fn nepal_rules() -> Vec<u16> {
-    rules(include_bytes!("../../rules/nepal.rules"))
+    rules_of(include_bytes!("../../rules/nepal.rules"))
 }
 
 /// The table of `ask`'s sample.
 pub fn ask_table() -> Table {
-    let all = numbers(include_str!("../../../crates/ask/data/table"));
-    Table { first_year: all[0], first_day: date(all[1], all[2], all[3]), rows: all[4..].to_vec() }
+    table_of(include_str!("../../../crates/ask/data/table"))
 }
 
 /// The rules of `ask`'s sample.
 pub fn ask_rules() -> Vec<u16> {
-    rules(include_bytes!("../../../crates/ask/data/rules"))
+    rules_of(include_bytes!("../../../crates/ask/data/rules"))
 }
 
 /// oracle/rules/stress.rules: as many rules of each kind as are accepted, few names.
 pub fn stress_rules() -> Vec<u16> {
-    rules(include_bytes!("../../rules/stress.rules"))
+    rules_of(include_bytes!("../../rules/stress.rules"))
 }
 
 /// How the months of a random table are drawn.
