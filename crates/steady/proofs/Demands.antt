@@ -50,6 +50,8 @@ pub use Rattle.kept.proofs.stored.Met.{met as kept-stored}
 pub use Rattle.kept.proofs.asking.ask_bs.Met.{met as kept-bs}
 pub use Rattle.kept.proofs.asking.ask_ad.Met.{met as kept-ad}
 pub use Rattle.kept.proofs.months.ask_month.Met.{met as kept-month}
+pub use Rattle.kept.proofs.converting.bs_to_ad.Met.{met as kept-to-ad}
+pub use Rattle.kept.proofs.converting.ad_to_bs.Met.{met as kept-to-bs}
 pub use Rattle.steady.proofs.Refusals.{list-left, month-left, starts-left}
 -- DEMAND 2: for every accepted table the BS dates and the table days match one to one, in order, and all else is refused with its number; a table that
 -- is not accepted answers nothing
