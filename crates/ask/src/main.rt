@@ -1,4 +1,6 @@
 // Answers the lines of standard input over the year table and the rules that two files hold: ask TABLE RULES.
+#![tactic(auto)]
+
 use conversion::Table;
 use files::{RulesRead, TableRead};
 use lending::Lent;

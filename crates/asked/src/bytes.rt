@@ -8,7 +8,7 @@ ghost use Rattle.asked.specs.Octets.{octets, known, octets_in, held, octet_of, b
 use text::{Cursor, Passed, Read};
 
 // So many bytes, at the front of the places; the places behind them hold 0.
-#[derive(Drop)]
+#[derive(Clone, Copy)]
 pub struct Octets {
     pub count: usize,
     pub bytes: [u8; 64],

@@ -12,7 +12,7 @@ use output::Out;
 // A turn of a program: how many are left, 0 at the end, the length of the line to be answered, whether the input is over behind it, and what was
 // answered so far. A line that was too long for its buffer has length 0, since no program serves either; a read that fails ends the input. The
 // turns are counted down from a number that no run uses up.
-#[derive(Drop)]
+#[derive(Clone, Copy)]
 pub struct Turn {
     pub left: u64,
     pub len: usize,

@@ -10,7 +10,7 @@ use text::{Cursor, Passed, Read};
 // The tag's code, the kinds of the words after it as decimal digits, the first first, and the value of each of the first fifteen words at its place, from 1
 // on. The kinds are 1 for a number up to 65,535, 2 for a larger one, 3 for one with a minus sign, 4 for the bits of a float. Numbers up to 65,535 behind
 // sixteen words leave the form as it is. A line out of form has tag 0.
-#[derive(Drop)]
+#[derive(Clone, Copy)]
 pub struct Words {
     pub tag: u64,
     pub form: u64,
@@ -18,14 +18,14 @@ pub struct Words {
 }
 
 // A whole number, or that it does not fit an i32.
-#[derive(Drop)]
+#[derive(Clone, Copy)]
 pub enum Whole {
     Is(i32),
     TooLarge,
 }
 
 // A word's kind and value and the place after it, or that none stands there.
-#[derive(Drop)]
+#[derive(Clone, Copy)]
 pub enum Found {
     Word(u64, u64, Cursor),
     Not,

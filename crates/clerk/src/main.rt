@@ -1,5 +1,7 @@
 // Says how many rules of each kind a rule file has, and warns of what the clerk may not have meant: clerk RULES TABLE NAMES. What is wrong with a file is told
 // as it is read.
+#![tactic(auto)]
+
 ghost use Rattle.std.specs.Prelude.{◌≡◌};
 ghost use Rattle.text.specs.Written.{Wrote};
 ghost use Rattle.rules.specs.Rules.{rules_of, count_kind};

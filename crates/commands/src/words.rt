@@ -6,7 +6,7 @@ use gregorian::Date;
 use text::{Numbers, Whole};
 
 // A BS month, a BS date or a Gregorian date.
-#[derive(Drop)]
+#[derive(Clone, Copy)]
 pub enum Asked {
     Month(u16, u16),
     Day(u16, u16, u16),
@@ -14,28 +14,28 @@ pub enum Asked {
 }
 
 // What words ask, or that they are of another form.
-#[derive(Drop)]
+#[derive(Clone, Copy)]
 pub enum Words {
     Ask(Asked),
     Other,
 }
 
 // A date in form, or none. Whether there is such a date is not asked here.
-#[derive(Drop)]
+#[derive(Clone, Copy)]
 pub enum InForm {
     Is(Date),
     Not,
 }
 
 // A BS year, or none.
-#[derive(Drop)]
+#[derive(Clone, Copy)]
 pub enum Year {
     Is(u16),
     Not,
 }
 
 // Two numbers, or none.
-#[derive(Drop)]
+#[derive(Clone, Copy)]
 pub enum Pair {
     Are(u16, u16),
     Not,

@@ -6,7 +6,7 @@ use super::{Table, first_day};
 
 // What one pass over the rows of a table finds: the days of all of them, 0 where one breaks a rule; and how many rows, with how many days,
 // lie before a row and a day that it was asked for.
-#[derive(Drop)]
+#[derive(Clone, Copy)]
 pub struct Passed {
     pub days: u32,
     pub row: usize,

@@ -3,7 +3,7 @@ ghost use Rattle.std.specs.Prelude.{◌≡◌, cond, ◌+◌, ◌≤◌, length}
 ghost use Rattle.conversion.specs.Inner.{column, Inside, Summed, FoundAt};
 
 // A place in a row of lengths, and what is left there.
-#[derive(Drop)]
+#[derive(Clone, Copy)]
 pub struct Spot {
     pub index: usize,
     pub rest: u32,

@@ -1,4 +1,6 @@
 // Conversion between Bikram Sambat and Gregorian dates, over a lent year table.
+#![tactic(auto)]
+
 ghost use Rattle.std.specs.Prelude.{◌≡◌, true, ◌+◌, ◌-◌, ◌<◌};
 ghost use Rattle.paper.specs.Sums.{sum};
 ghost use Rattle.gregorian.specs.Calendar.{date_of};
@@ -16,7 +18,7 @@ use gregorian::{Date, DateAnswer, NumberAnswer};
 use paper::Refusal;
 
 // What a table says besides its rows: the first BS year, and the Gregorian date of its first day.
-#[derive(Drop)]
+#[derive(Clone, Copy)]
 pub struct Table {
     pub first_year: u16,
     pub year: u16,
@@ -25,7 +27,7 @@ pub struct Table {
 }
 
 // A BS date as three numbers; the calls say whether it is one of a table.
-#[derive(Drop)]
+#[derive(Clone, Copy)]
 pub struct BsDate {
     pub year: u16,
     pub month: u16,
@@ -33,28 +35,28 @@ pub struct BsDate {
 }
 
 // The length of a month, or a refusal.
-#[derive(Drop)]
+#[derive(Clone, Copy)]
 pub enum MonthDays {
     Days(u16),
     Refused(Refusal),
 }
 
 // Whether there is such a date: yes, or a refusal.
-#[derive(Drop)]
+#[derive(Clone, Copy)]
 pub enum Validity {
     Valid,
     Refused(Refusal),
 }
 
 // A BS date, or a refusal.
-#[derive(Drop)]
+#[derive(Clone, Copy)]
 pub enum BsAnswer {
     Is(BsDate),
     Refused(Refusal),
 }
 
 // A date of the table, or how many days before its first day or after its last.
-#[derive(Drop)]
+#[derive(Clone, Copy)]
 pub enum Placed {
     Inside(BsDate),
     Before(u32),

@@ -5,7 +5,7 @@ ghost use Rattle.convert.specs.Lines.{as_bs, as_ad, line_form};
 use text::{Numbers, Passed};
 
 // What a line is, without its line feed.
-#[derive(Drop)]
+#[derive(Clone, Copy)]
 pub enum Line {
     Bs(u16, u16, u16),
     Ad(u16, u16, u16),

@@ -1,4 +1,6 @@
 // Reads lines bs=Y-M-D and ad=YYYY-MM-DD, and writes both dates of each, the refusal, and how far outside the table a date lies.
+#![tactic(auto)]
+
 ghost use Rattle.std.specs.Prelude.{◌≡◌, ◌≤◌, length};
 ghost use Rattle.output.specs.Gathered.{gathered};
 ghost use Rattle.asked.specs.Runs.{TurnDone, Run};

@@ -15,14 +15,14 @@ use gregorian::DateAnswer;
 use paper::Told;
 
 // A date as it is shown, or none.
-#[derive(Drop)]
+#[derive(Clone, Copy)]
 pub enum Shown {
     Date(u16, u16, u16),
     Nothing,
 }
 
 // The two dates, the refusal, 0 for none, and what it tells.
-#[derive(Drop)]
+#[derive(Clone, Copy)]
 pub struct Reply {
     pub bs: Shown,
     pub ad: Shown,

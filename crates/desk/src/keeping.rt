@@ -19,21 +19,21 @@ use questions::{lists, months};
 use replies::Reply;
 
 // A kept state, or none: then what stands in its place is no state.
-#[derive(Drop)]
+#[derive(Clone, Copy)]
 pub struct Keeper {
     pub has: bool,
     pub kept: Kept,
 }
 
 // What was answered, and the state after it.
-#[derive(Drop)]
+#[derive(Clone, Copy)]
 pub struct Said {
     pub out: Out,
     pub keeper: Keeper,
 }
 
 // A question to a state.
-#[derive(Drop)]
+#[derive(Clone, Copy)]
 pub enum Question {
     Take,
     Append,
@@ -45,7 +45,7 @@ pub enum Question {
 }
 
 // A new state, a question to the one that is kept, or another line.
-#[derive(Drop)]
+#[derive(Clone, Copy)]
 pub enum Keeping {
     Start,
     Ask(Question),

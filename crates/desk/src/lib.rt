@@ -1,4 +1,6 @@
 // The desk at which lines are answered: what lines lend, the state that is kept, and the run over all lines.
+#![tactic(auto)]
+
 ghost use Rattle.std.specs.Prelude.{length};
 ghost use Rattle.lending.specs.Lending.{loan_of};
 ghost use Rattle.desk.specs.Keeping.{state_in, Sound, Says};
@@ -12,7 +14,7 @@ use lending::Lent;
 use output::Out;
 
 // The turn after a line, what is lent after it, and the state.
-#[derive(Drop)]
+#[derive(Clone, Copy)]
 struct Stepped {
     turn: Turn,
     lent: Lent,

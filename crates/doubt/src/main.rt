@@ -1,4 +1,6 @@
 // Which new moons of BS years to check against the gazette: those near the beginning of a solar month.
+#![tactic(auto)]
+
 ghost use Rattle.std.specs.Prelude.{◌≡◌, true};
 ghost use Rattle.conversion.specs.Flat.{accepted, flat};
 ghost use Rattle.rules.specs.Rules.{rules_of};

@@ -1,4 +1,6 @@
 // New moons beside the beginning of a solar month, where the engine's rule and the almanac may part: a page of them, year by year.
+#![tactic(auto)]
+
 mod page;
 mod years;
 

@@ -8,7 +8,7 @@ use output::Out;
 
 // What is written, whether the year of the lines has its heading, and how many new moons are near a boundary, of these on a month's first day; how many
 // open nothing; and how many lunar months none opens.
-#[derive(Drop)]
+#[derive(Clone, Copy)]
 pub struct Page {
     pub out: Out,
     pub headed: bool,

@@ -7,7 +7,7 @@ ghost use Rattle.faults.specs.Faults.{number_in, first_field, is_nothing, first_
 use rules::Rule;
 
 // A field of a rule that can break a rule; the name is free and has no place here.
-#[derive(Drop)]
+#[derive(Clone, Copy)]
 pub enum Field {
     Nothing,
     Kind,
@@ -21,7 +21,7 @@ pub enum Field {
 
 // What a list breaks first: its numbers are no whole rules; a field of the rule that so many come before, with that rule; or the rule with so many
 // before it is one more of its kind than allowed.
-#[derive(Drop)]
+#[derive(Clone, Copy)]
 pub enum Fault {
     Nothing,
     Uneven,

@@ -1,5 +1,7 @@
 // What is wrong with a rule file (docs/RULES.md), in words too: the line that is not the one due; or where its rules first break a rule of acceptance,
 // which rule, which field and what is allowed there.
+#![tactic(auto)]
+
 mod first;
 mod lines;
 mod words;

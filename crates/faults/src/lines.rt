@@ -7,7 +7,7 @@ ghost use Rattle.faults.specs.Lines.{key_text, number_reason, end_byte, key_reas
 use text::{Cursor, Passed, Read};
 
 // What is plainly wrong with a line, or nothing that is plain.
-#[derive(Drop)]
+#[derive(Clone, Copy)]
 pub enum Reason {
     Plain,
     FileEnds,

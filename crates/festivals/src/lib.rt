@@ -1,4 +1,6 @@
 // The festivals of a day over Kathmandu, asked by BS date or by Gregorian date.
+#![tactic(auto)]
+
 pub mod days;
 pub mod months;
 pub mod years;
@@ -18,14 +20,14 @@ use rules::lists;
 use rules::lists::{Day, Years};
 
 // A day by its number, or nothing.
-#[derive(Drop)]
+#[derive(Clone, Copy)]
 pub enum DayFound {
     Day(u32),
     Nothing,
 }
 
 // How many festivals were written, or a refusal.
-#[derive(Drop)]
+#[derive(Clone, Copy)]
 pub enum ListAnswer {
     Count(usize),
     Refused(Refusal),

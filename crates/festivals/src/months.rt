@@ -12,14 +12,14 @@ use gregorian::{NumberAnswer, UtDay};
 use sky::search;
 
 // The new moon that opens each lunar month, and whether one does; 0.0 where none does.
-#[derive(Drop)]
+#[derive(Clone, Copy)]
 pub struct Months {
     pub moon: [f64; 12],
     pub has: [bool; 12],
 }
 
 // The first and the last day of a BS year, by their numbers, or nothing.
-#[derive(Drop)]
+#[derive(Clone, Copy)]
 pub enum YearDays {
     Days(u32, u32),
     Nothing,

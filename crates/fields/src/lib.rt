@@ -1,4 +1,6 @@
 // A line of a year table, taken apart as specs/Line.antt says: its numbers, and the year that its comment says.
+#![tactic(auto)]
+
 mod comments;
 mod row;
 

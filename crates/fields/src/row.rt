@@ -7,7 +7,7 @@ ghost use Rattle.fields.specs.Line.{skip, row_of, judged_as};
 use text::{Cursor, Read};
 
 // How many numbers a line has; or that a word is no number up to 65,535; or that there are more than thirteen words.
-#[derive(Drop)]
+#[derive(Clone, Copy)]
 pub enum Form {
     Numbers(usize),
     NoNumber,
@@ -15,14 +15,14 @@ pub enum Form {
 }
 
 // A line's form and its numbers from the front.
-#[derive(Drop)]
+#[derive(Clone, Copy)]
 pub struct Row {
     pub form: Form,
     pub values: [u16; 13],
 }
 
 // What a line is where so many numbers are wanted.
-#[derive(Drop)]
+#[derive(Clone, Copy)]
 pub enum Judged {
     Blank,
     Good,

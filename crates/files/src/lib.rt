@@ -1,6 +1,8 @@
 // The data files of the engine: a year table and a list of rules, read into lent buffers, and a file of names. What a line of a table is, `fields` says,
 // and specs/File.antt what a whole table is; what rules are, `rulefile`; what names are, `naming`. What a file holds is outside every contract: for
 // some file each answer and each lent element is that.
+#![tactic(auto)]
+
 mod arguments;
 mod listing;
 mod problems;
@@ -19,14 +21,14 @@ pub use problems::{Expected, Problem, put_problem};
 use reading::{Fault, Reading};
 
 // A table's first line and how many numbers its rows have, from the front of the lent buffer; or what is wrong.
-#[derive(Drop)]
+#[derive(Clone, Copy)]
 pub enum TableRead {
     Is(Table, usize),
     Not(Problem),
 }
 
 // What is wrong with a file that was read, where something is.
-#[derive(Drop)]
+#[derive(Clone, Copy)]
 enum Wrong {
     Is(Problem),
     Nothing,

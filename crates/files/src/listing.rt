@@ -9,7 +9,7 @@ use paper::Refusal;
 use rulefile::FileRead;
 
 // How many numbers the rules have, from the front of the lent buffer; that they are in form and refused with 2; or that there are none.
-#[derive(Drop)]
+#[derive(Clone, Copy)]
 pub enum RulesRead {
     Are(usize),
     Refused,
@@ -17,7 +17,7 @@ pub enum RulesRead {
 }
 
 // How many bytes a file of names has, from the front of the lent buffer; or that it is none.
-#[derive(Drop)]
+#[derive(Clone, Copy)]
 pub enum NamesRead {
     Are(usize),
     Not,

@@ -3,7 +3,7 @@ ghost use Rattle.text.specs.Written.{Wrote};
 ghost use Rattle.files.specs.Problems.{expected_text, at_line, what_text, problem_text};
 
 // What was expected in a line.
-#[derive(Drop)]
+#[derive(Clone, Copy)]
 pub enum Expected {
     ShortLine,
     Numbers,
@@ -13,7 +13,7 @@ pub enum Expected {
 }
 
 // What is wrong: the file as a whole, or the line of a number, from 1 on.
-#[derive(Drop)]
+#[derive(Clone, Copy)]
 pub enum Problem {
     NotOpened,
     NotRead,

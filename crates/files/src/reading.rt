@@ -10,7 +10,7 @@ use fields::Judged;
 use lines::Input;
 
 // What is wrong with the line that was read last, or with the file.
-#[derive(Drop)]
+#[derive(Clone, Copy)]
 pub enum Fault {
     Nothing,
     LongLine,
@@ -23,7 +23,7 @@ pub enum Fault {
 
 // Where a reading stands: the number of its line; whether a table's first line is awaited; that line; how many numbers are stored; what is wrong,
 // which ends the reading.
-#[derive(Drop)]
+#[derive(Clone, Copy)]
 pub struct Reading {
     pub line: u32,
     pub awaits: bool,

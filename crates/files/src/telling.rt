@@ -19,7 +19,7 @@ use text::{Cursor, Whole};
 
 // What is sought among the lines that have a word: the one that so many come before; or, in a table that begins with this year, the first row
 // whose comment says another year.
-#[derive(Drop)]
+#[derive(Clone, Copy)]
 pub enum Sought {
     Line(u64),
     OtherYear(u16),
@@ -27,7 +27,7 @@ pub enum Sought {
 
 // The number of the line that was looked at last, from 1 on; how many lines with a word come before it; the year that it says, 0 for none, and whether
 // it is the one sought.
-#[derive(Drop)]
+#[derive(Clone, Copy)]
 pub struct Place {
     pub line: u64,
     pub before: u64,
@@ -210,7 +210,7 @@ fn report_table(path: &[u8], p: Place, table: Table, b: Broken) {
 }
 
 // How many lines of a text are the ones due in a rule file, and the place behind them.
-#[derive(Drop)]
+#[derive(Clone, Copy)]
 struct Walked {
     count: usize,
     at: usize,

@@ -4,7 +4,7 @@ ghost use Rattle.files.specs.Texts.{Inside};
 use crate::problems::Problem;
 
 // How many bytes a file has, or what is wrong.
-#[derive(Drop)]
+#[derive(Clone, Copy)]
 pub enum TextRead {
     Is(usize),
     Not(Problem),

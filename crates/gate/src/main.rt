@@ -1,5 +1,7 @@
 // Says whether a date is a holiday, and why. Its arguments: the files of the year table, of the rules and of the names, and then a BS date or a
 // Gregorian date.
+#![tactic(auto)]
+
 mod lines;
 mod reasons;
 

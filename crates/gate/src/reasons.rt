@@ -16,7 +16,7 @@ use paper::Refusal;
 use rules::lists::put_day_list;
 
 // Why a day is a holiday: nothing, that it is a Saturday, or a festival by its name.
-#[derive(Drop)]
+#[derive(Clone, Copy)]
 pub enum Reason {
     Nothing,
     Saturday,
@@ -24,7 +24,7 @@ pub enum Reason {
 }
 
 // A reason, or a refusal.
-#[derive(Drop)]
+#[derive(Clone, Copy)]
 pub enum ReasonAnswer {
     Is(Reason),
     Refused(Refusal),

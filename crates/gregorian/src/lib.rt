@@ -1,4 +1,6 @@
 // Gregorian dates from 1900-01-01 to 2149-12-31.
+#![tactic(auto)]
+
 ghost use Rattle.std.specs.Prelude.{◌≡◌, ◌+◌, ◌<◌, ◌≤◌, T};
 ghost use Rattle.paper.specs.Floats.{floor_of};
 ghost use Rattle.gregorian.specs.Calendar.{leap, month_length, month_start, year_start, year_length, all_days, is_date, day_number, weekday_of, date_after};
@@ -8,7 +10,7 @@ ghost use Rattle.gregorian.specs.Answers.{date_says, number_says, new_date, numb
 use paper::Refusal;
 
 // A date as three numbers. A record that is no date is refused by every call, with 3.
-#[derive(Drop)]
+#[derive(Clone, Copy)]
 pub struct Date {
     pub year: u16,
     pub month: u16,
@@ -16,25 +18,25 @@ pub struct Date {
 }
 
 // A date, or a refusal.
-#[derive(Drop)]
+#[derive(Clone, Copy)]
 pub enum DateAnswer {
     Is(Date),
     Refused(Refusal),
 }
 
 // The number of a day or of a weekday, or a refusal.
-#[derive(Drop)]
+#[derive(Clone, Copy)]
 pub enum NumberAnswer {
     Number(u32),
     Refused(Refusal),
 }
 
 // A Julian day of universal time.
-#[derive(Drop)]
+#[derive(Clone, Copy)]
 pub struct UtDay(pub f64);
 
 // An instant, or a refusal.
-#[derive(Drop)]
+#[derive(Clone, Copy)]
 pub enum JulianAnswer {
     At(UtDay),
     Refused(Refusal),

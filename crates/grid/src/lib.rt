@@ -1,4 +1,6 @@
 // Months: stepping from one to another, and the cells of one laid out in weeks.
+#![tactic(auto)]
+
 pub mod cells;
 pub mod page;
 pub mod plan;
@@ -20,21 +22,21 @@ use festivals::years::years_for;
 use gregorian::{Date, NumberAnswer};
 use paper::Refusal;
 
-#[derive(Drop)]
+#[derive(Clone, Copy)]
 pub struct BsMonth {
     pub year: u16,
     pub month: u8,
 }
 
 // A month, or a refusal.
-#[derive(Drop)]
+#[derive(Clone, Copy)]
 pub enum StepAnswer {
     Month(BsMonth),
     Refused(Refusal),
 }
 
 // A month's days, its first and last Gregorian date, and how many cells and festivals were written.
-#[derive(Drop)]
+#[derive(Clone, Copy)]
 pub struct Month {
     pub days: u16,
     pub first: Date,
@@ -44,7 +46,7 @@ pub struct Month {
 }
 
 // A month, or a refusal.
-#[derive(Drop)]
+#[derive(Clone, Copy)]
 pub enum GridAnswer {
     Is(Month),
     Refused(Refusal),

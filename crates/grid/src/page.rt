@@ -16,7 +16,7 @@ use paper::Refusal;
 use rules::lists::{Years, put_day_list};
 
 // A month of an accepted table: its first day's number, its days, and the two resolved years that its lists come from.
-#[derive(Drop)]
+#[derive(Clone, Copy)]
 pub struct Plan {
     pub today: Date,
     pub year: u16,

@@ -1,4 +1,6 @@
 // Whether a BS date is a holiday: yes or no, as the month's cell of that date has it.
+#![tactic(auto)]
+
 ghost use Rattle.std.specs.Prelude.{◌≡◌, true};
 ghost use Rattle.gregorian.specs.Answers.{numbered};
 ghost use Rattle.conversion.specs.Flat.{accepted, flat};
@@ -16,7 +18,7 @@ use paper::Refusal;
 use rules::lists::put_day_list;
 
 // Yes or no, or a refusal.
-#[derive(Drop)]
+#[derive(Clone, Copy)]
 pub enum HolidayAnswer {
     Is(bool),
     Refused(Refusal),

@@ -19,7 +19,7 @@ use gregorian::{Date, NumberAnswer};
 use paper::Refusal;
 
 // A day's answer, and what is stored after it: a refused question leaves it as it was.
-#[derive(Drop)]
+#[derive(Clone, Copy)]
 struct Drawn {
     answer: ListAnswer,
     store: Store,

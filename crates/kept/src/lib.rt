@@ -1,4 +1,6 @@
 // One state that keeps a year table, rules and the resolved years of the last answered question.
+#![tactic(auto)]
+
 pub mod asking;
 pub mod converting;
 pub mod months;
@@ -20,7 +22,7 @@ use paper::Refusal;
 use rules::lists::Years;
 
 // The resolved years that are stored: none (count 0), a year (1), or the year before it and the year (2).
-#[derive(Drop)]
+#[derive(Clone, Copy)]
 pub struct Store {
     pub count: u16,
     pub year: u16,
@@ -28,7 +30,7 @@ pub struct Store {
 }
 
 // The state: the first row_len numbers of rows are the year table's, the first rule_len of rules the rules'.
-#[derive(Drop)]
+#[derive(Clone, Copy)]
 pub struct Kept {
     pub table: Table,
     pub rows: [u16; 1664],
@@ -39,35 +41,35 @@ pub struct Kept {
 }
 
 // Whether a state was started, and the state; after a refusal it is not to be asked.
-#[derive(Drop)]
+#[derive(Clone, Copy)]
 pub struct Started {
     pub answer: Validity,
     pub state: Kept,
 }
 
 // Whether an operation was done, and the state after it: a refused one leaves it as it was.
-#[derive(Drop)]
+#[derive(Clone, Copy)]
 pub struct Done {
     pub answer: Validity,
     pub state: Kept,
 }
 
 // A day's answer, and the state after it: a refused question leaves it as it was.
-#[derive(Drop)]
+#[derive(Clone, Copy)]
 pub struct Asked {
     pub answer: ListAnswer,
     pub state: Kept,
 }
 
 // A month's answer, and the state after it: a refused question leaves it as it was.
-#[derive(Drop)]
+#[derive(Clone, Copy)]
 pub struct AskedMonth {
     pub answer: GridAnswer,
     pub state: Kept,
 }
 
 // Which BS years are stored, rising.
-#[derive(Drop)]
+#[derive(Clone, Copy)]
 pub enum StoredYears {
     Nothing,
     One(u16),

@@ -21,7 +21,7 @@ use grid::plan::plan_of;
 use paper::Refusal;
 
 // A month's answer, and what is stored after it: a refused question leaves it as it was.
-#[derive(Drop)]
+#[derive(Clone, Copy)]
 struct DrawnMonth {
     answer: GridAnswer,
     store: Store,

@@ -1,4 +1,6 @@
 // Lines `key=NUMBER`, each ended by a line feed, read off a text by a cursor and written into a lent buffer. The caller gives the key.
+#![tactic(auto)]
+
 ghost use Rattle.std.specs.Prelude.{drop};
 ghost use Rattle.text.specs.Reading.{Says};
 ghost use Rattle.text.specs.Written.{Wrote};
@@ -8,7 +10,7 @@ ghost use Rattle.keyed.specs.Reading.{line_says, line_end};
 use text::{Cursor, Passed, Read};
 
 // The number of the line that is due and the place after it, or that another text stands there.
-#[derive(Drop)]
+#[derive(Clone, Copy)]
 pub enum Line {
     Number(u16, Cursor),
     NotDue,

@@ -1,5 +1,7 @@
 // What lines lend: `table` begins a table and `cells` adds numbers to it, `rules` begins a rule list and `rule` adds numbers to it, `text` begins a text and
 // `octets` adds bytes to it.
+#![tactic(auto)]
+
 ghost use Rattle.std.specs.Prelude.{◌≡◌, ◌≤◌, [], ◌∷◌};
 ghost use Rattle.text.specs.Written.{Wrote};
 ghost use Rattle.lending.specs.Lending.{numbers_in, lending_of, lends, numbers_of, line_numbers, table_in, no_loan, loan_of, loan_after};
@@ -8,7 +10,7 @@ use asked::{Octets, Words, tags};
 use conversion::Table;
 
 // A table, how many numbers its rows have, how many the rule list has, and how many bytes the text has.
-#[derive(Drop)]
+#[derive(Clone, Copy)]
 pub struct Lent {
     pub table: Table,
     pub cells: usize,
@@ -17,7 +19,7 @@ pub struct Lent {
 }
 
 // What a line lends: a new table, a new rule list, a new text, so many cells more, so many numbers of rules more, bytes of the text more, or nothing.
-#[derive(Drop)]
+#[derive(Clone, Copy)]
 pub enum Lending {
     Table,
     Rules,

@@ -1,4 +1,6 @@
 // What a descriptor brings, a line at a time: each line stands at the start of a lent buffer.
+#![tactic(auto)]
+
 ghost use Rattle.std.specs.Prelude.{◌≡◌, false, drop};
 ghost use Rattle.text.specs.Kept.{Fills};
 ghost use Rattle.lines.specs.Lines.{started, ended, given, last_of, front, waiting, has_feed, NextLine};
@@ -9,7 +11,7 @@ use text::{Filled, Held};
 // is 0; whether a read failed, or the steps were used up, before the input was over; whether nothing comes behind the line, since the input is over;
 // and which bytes of the piece that was read last are still to be taken in. A proved loop has to end, and nothing says that an input does: so the
 // steps are counted down.
-#[derive(Drop)]
+#[derive(Clone, Copy)]
 pub struct Input {
     pub left: u64,
     pub len: usize,
@@ -21,7 +23,7 @@ pub struct Input {
 }
 
 // What a read brought: bytes at the start of the piece, or nothing, since the input is over or the read failed.
-#[derive(Drop)]
+#[derive(Clone, Copy)]
 enum Came {
     Bytes(usize),
     Over,

@@ -7,7 +7,7 @@ use crate::lines;
 use crate::lines::{Fault, Line};
 
 // In form, or the first line that is not, counted from 1, and what is wrong there.
-#[derive(Drop)]
+#[derive(Clone, Copy)]
 pub enum Checked {
     InForm,
     At(usize, Fault),

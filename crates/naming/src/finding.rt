@@ -8,14 +8,14 @@ use crate::lines;
 use text::Read;
 
 // The place in a line at which the text of a number begins, or that the line has another number or none.
-#[derive(Drop)]
+#[derive(Clone, Copy)]
 enum Begin {
     At(usize),
     Not,
 }
 
 // The place of a name's text in the file, and the place after it; or that there is no such name.
-#[derive(Drop)]
+#[derive(Clone, Copy)]
 enum Found {
     Text(usize, usize),
     Nothing,

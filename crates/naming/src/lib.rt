@@ -1,4 +1,6 @@
 // A file of festivals' names, lines `NUMBER=TEXT`: whether it is in form, and the name of a number. specs/Names.antt says what the file is.
+#![tactic(auto)]
+
 mod checking;
 mod finding;
 mod lines;

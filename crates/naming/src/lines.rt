@@ -8,7 +8,7 @@ use text::{Passed, Read};
 use utf8::Found;
 
 // What is wrong with a line; of several the first.
-#[derive(Drop)]
+#[derive(Clone, Copy)]
 pub enum Fault {
     // The file begins with a byte order mark.
     Mark,
@@ -27,7 +27,7 @@ pub enum Fault {
 }
 
 // The number of a name, or what is wrong with its line.
-#[derive(Drop)]
+#[derive(Clone, Copy)]
 pub enum Line {
     Name(u16),
     Wrong(Fault),

@@ -1,4 +1,6 @@
 // Notes on a new moon: how near it lies to the beginning of a solar month, and the lines that say so, with the rules that hang on it.
+#![tactic(auto)]
+
 mod lines;
 mod moons;
 

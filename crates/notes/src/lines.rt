@@ -33,7 +33,7 @@ fn put_rule_line(o: Out, out: &mut [u8], name: u16, names: &[u8]) -> Out
 }
 
 // What is written, and whether a rule stands there.
-#[derive(Drop)]
+#[derive(Clone, Copy)]
 struct Listed {
     out: Out,
     some: bool,

@@ -9,14 +9,14 @@ use gregorian::UtDay;
 use panchanga::clock;
 
 // The day in Nepal of an instant, by its number and its BS date, or nothing.
-#[derive(Drop)]
+#[derive(Clone, Copy)]
 pub enum Dated {
     On(u32, BsDate),
     Nothing,
 }
 
 // Beside the beginning of a month, and by how many minutes: after it, on the month's first day; or else before it, at most 720. Or far from it.
-#[derive(Drop)]
+#[derive(Clone, Copy)]
 pub enum Nearness {
     Beside(bool, u32),
     Far,

@@ -1,5 +1,7 @@
 // What a program writes: lines of words, and pages of texts, numbers and dates. It is gathered in a lent buffer, which is written to standard output
 // when it is nearly full.
+#![tactic(auto)]
+
 ghost use Rattle.std.specs.Prelude.{◌≡◌, true, false, [], ◌∷◌, ◌++◌, ◌+◌, ◌≤◌, length};
 ghost use Rattle.text.specs.Digits.{digits};
 ghost use Rattle.text.specs.Quoted.{bytes};
@@ -19,7 +21,7 @@ pub use page::{
 };
 
 // How many bytes of the buffer are taken, whether the line has a word, and whether a write failed.
-#[derive(Drop)]
+#[derive(Clone, Copy)]
 pub struct Out {
     pub at: usize,
     pub begun: bool,

@@ -1,5 +1,7 @@
 // Sun events over Kathmandu, kalas, the clock and a date's reading.
 // Here are the public calls, which refuse. The modules hold what they work out.
+#![tactic(auto)]
+
 pub mod clock;
 pub mod kalas;
 pub mod lunar;
@@ -19,7 +21,7 @@ use paper::Refusal;
 use sky::{InstantAnswer, SmallAnswer};
 
 // A place on the Earth, in degrees: north and east are above 0.
-#[derive(Drop)]
+#[derive(Clone, Copy)]
 pub struct Place {
     pub latitude: f64,
     pub longitude: f64,
@@ -32,7 +34,7 @@ pub const KATHMANDU: Place = Place {
 };
 
 // When in a day a festival rule is evaluated; the numbers 0 to 5 of a rule's kala, in their order.
-#[derive(Drop)]
+#[derive(Clone, Copy)]
 pub enum Kala {
     Udaya,
     Madhyanna,
@@ -43,14 +45,14 @@ pub enum Kala {
 }
 
 // Two instants, one after the other, or none: sunrise and sunset, or the ends of a nishita.
-#[derive(Drop)]
+#[derive(Clone, Copy)]
 pub enum Span {
     Is { from: UtDay, to: UtDay },
     Nothing,
 }
 
 // The same, or a refusal.
-#[derive(Drop)]
+#[derive(Clone, Copy)]
 pub enum SpanAnswer {
     Is { from: UtDay, to: UtDay },
     Nothing,
@@ -58,7 +60,7 @@ pub enum SpanAnswer {
 }
 
 // A date's reading, or a refusal.
-#[derive(Drop)]
+#[derive(Clone, Copy)]
 pub enum ReadingAnswer {
     Is(Reading),
     Refused(Refusal),

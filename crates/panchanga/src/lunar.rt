@@ -12,7 +12,7 @@ use sky::search::{FirstStart, end_of};
 use sky::tithi::{elongation_of, tithi_of};
 
 // The tithi that names a day, 1 to 30, and the minutes of the day at which it ends, the sun rises and the sun sets; 1,440 for none.
-#[derive(Drop)]
+#[derive(Clone, Copy)]
 pub struct Reading {
     pub tithi: u16,
     pub end: u16,

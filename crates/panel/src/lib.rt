@@ -2,6 +2,8 @@
 // no lent place, but that 7 tells its days and 12 its line. Each promises what the engine's function of that name promises, by the same definition.
 // The calls panel_kept_.. are lent a kept state as an array (crate shelf). Of an array that is long enough and that they did not make they promise alone that they
 // end and stay inside it.
+#![tactic(auto)]
+
 ghost use Rattle.std.specs.Prelude.{◌≡◌};
 ghost use Rattle.panel.specs.Boundary.{code, days_in, number_and, accepting, table};
 

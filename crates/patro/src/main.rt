@@ -1,5 +1,7 @@
 // Writes a BS month as a wall calendar, all months of a BS year, or a day in full. Its arguments: the files of the year table, of the rules and of
 // the names, today's Gregorian date, and then a BS year, a BS year and month, a BS date or a Gregorian date.
+#![tactic(auto)]
+
 mod laying;
 mod pages;
 mod wanted;

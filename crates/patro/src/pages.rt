@@ -14,21 +14,21 @@ use paper::Refusal;
 use wall::Page;
 
 // The place after a page in a lent buffer, or why there is no page.
-#[derive(Drop)]
+#[derive(Clone, Copy)]
 pub enum Laid {
     Bytes(usize),
     Refused(Refusal),
 }
 
 // A page of a state, and the state after it.
-#[derive(Drop)]
+#[derive(Clone, Copy)]
 pub struct Drawn {
     pub laid: Laid,
     pub state: Kept,
 }
 
 // The whole month, or one of its days.
-#[derive(Drop)]
+#[derive(Clone, Copy)]
 enum Part {
     Whole,
     Day(u16),

@@ -7,14 +7,14 @@ use commands::words;
 use commands::words::{Asked, Words, Year};
 
 // A page of a month or of a day, or the page of a year.
-#[derive(Drop)]
+#[derive(Clone, Copy)]
 pub enum Wanted {
     Page(Asked),
     Year(u16),
 }
 
 // What words want, or that they are of another form.
-#[derive(Drop)]
+#[derive(Clone, Copy)]
 pub enum Wish {
     Is(Wanted),
     Other,

@@ -1,4 +1,6 @@
 // What each question of the line language is answered over what is lent.
+#![tactic(auto)]
+
 ghost use Rattle.std.specs.Prelude.{◌≡◌, min};
 ghost use Rattle.conversion.specs.Flat.{flat};
 ghost use Rattle.output.specs.Gathered.{Gathers};

@@ -1,4 +1,6 @@
 // What a question is answered, and its words.
+#![tactic(auto)]
+
 ghost use Rattle.std.specs.Prelude.{◌≡◌};
 ghost use Rattle.text.specs.Digits.{digits};
 ghost use Rattle.output.specs.Gathered.{Gathers};
@@ -12,7 +14,7 @@ use panchanga::lunar::Reading;
 use paper::{Refusal, Told};
 
 // A question mark for a line out of form, the number of a refusal and what is told with it, or 0 and values.
-#[derive(Drop)]
+#[derive(Clone, Copy)]
 pub enum Reply {
     Unformed,
     Refused(Refusal),

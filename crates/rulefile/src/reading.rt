@@ -12,14 +12,14 @@ use rules::lists::set_at;
 use text::Cursor;
 
 // How many rules were read, or a refusal.
-#[derive(Drop)]
+#[derive(Clone, Copy)]
 pub enum FileRead {
     Rules(usize),
     Refused(Refusal),
 }
 
 // How many lines stand before the first that is not the one due, and whether the file is in form.
-#[derive(Drop)]
+#[derive(Clone, Copy)]
 pub struct Seen {
     pub count: usize,
     pub whole: bool,

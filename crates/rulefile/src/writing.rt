@@ -8,7 +8,7 @@ use keyed::put_line;
 use paper::Refusal;
 
 // How many bytes were written, or a refusal.
-#[derive(Drop)]
+#[derive(Clone, Copy)]
 pub enum FileWritten {
     Bytes(usize),
     Refused(Refusal),

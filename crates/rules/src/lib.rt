@@ -1,4 +1,6 @@
 // The lent rules, records of eight numbers, and which lists of numbers are good.
+#![tactic(auto)]
+
 pub mod lists;
 
 ghost use Rattle.std.specs.Prelude.{◌≡◌, ◌+◌, ◌*◌, ◌/◌, ◌≤◌, length};
@@ -11,7 +13,7 @@ use conversion::{Table, Validity};
 use paper::Refusal;
 
 // A rule: fixed BS date (kind 1), fixed Gregorian date (2), computed (3) or override (4).
-#[derive(Drop)]
+#[derive(Clone, Copy)]
 pub struct Rule {
     pub kind: u16,
     pub year: u16,

@@ -11,20 +11,20 @@ use conversion::BsDate;
 use gregorian::Date;
 
 // A resolved year: the day number of each computed rule, in list order; 0 for nothing.
-#[derive(Drop)]
+#[derive(Clone, Copy)]
 pub struct Resolved {
     pub days: [u32; 64],
 }
 
 // The two resolved years that the lists of a month come from: the year before, which counts in months 1 and 2 alone, and the month's own.
-#[derive(Drop)]
+#[derive(Clone, Copy)]
 pub struct Years {
     pub before: Resolved,
     pub this: Resolved,
 }
 
 // A day: its BS date, its Gregorian date and its number.
-#[derive(Drop)]
+#[derive(Clone, Copy)]
 pub struct Day {
     pub bs: BsDate,
     pub ad: Date,
@@ -32,7 +32,7 @@ pub struct Day {
 }
 
 // How many pairs stand in the buffer, whether one of them is of this day, and the last name.
-#[derive(Drop)]
+#[derive(Clone, Copy)]
 pub struct Kept {
     pub n: usize,
     pub any: bool,

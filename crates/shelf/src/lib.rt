@@ -1,6 +1,8 @@
 // The kept state as a list of 4,488 numbers of sixteen bits, as a caller in C keeps it.
 // 0 to 3 the table's first year and first day; 4 and 5 how many numbers the rows and the rules have; 6 how many years are stored; 7 the last of them;
 // from 8 the rows; from 1,672 the rules; from 4,232 the days of the year before; from 4,360 those of the year. A day is its low half, its high half.
+#![tactic(auto)]
+
 ghost use Rattle.std.specs.Prelude.{◌≡◌, ◌++◌, ◌+◌, ◌*◌, ◌/◌, ◌%◌, ◌≤◌, length, get_or, take, drop};
 ghost use Rattle.std.proofs.lemmas.List.Edits.{sets};
 ghost use Rattle.shelf.specs.Numbers.{halves, head_of, numbers_of};

@@ -1,5 +1,7 @@
 // The sky: time, the longitudes of sun and moon, the elongation, tithis and where they begin.
 // Here are the public calls, which refuse. The modules hold what they work out, on every f64.
+#![tactic(auto)]
+
 pub mod angles;
 pub mod moon;
 pub mod search;
@@ -19,39 +21,39 @@ pub use time::delta_t;
 pub use tithi::tithi_of;
 
 // A Julian day of terrestrial time.
-#[derive(Drop)]
+#[derive(Clone, Copy)]
 pub struct TtDay(pub f64);
 
 // A day of terrestrial time, or a refusal.
-#[derive(Drop)]
+#[derive(Clone, Copy)]
 pub enum TtAnswer {
     At(TtDay),
     Refused(Refusal),
 }
 
 // An angle in degrees, or a refusal.
-#[derive(Drop)]
+#[derive(Clone, Copy)]
 pub enum DegreesAnswer {
     Is(f64),
     Refused(Refusal),
 }
 
 // A small number, as that of a tithi or of the minutes of a day, or a refusal.
-#[derive(Drop)]
+#[derive(Clone, Copy)]
 pub enum SmallAnswer {
     Is(u16),
     Refused(Refusal),
 }
 
 // The number of starts and the number of steps walked, or a refusal.
-#[derive(Drop)]
+#[derive(Clone, Copy)]
 pub enum StartsAnswer {
     Found { count: usize, steps: usize },
     Refused(Refusal),
 }
 
 // An instant, or none, or a refusal.
-#[derive(Drop)]
+#[derive(Clone, Copy)]
 pub enum InstantAnswer {
     At(UtDay),
     Nothing,

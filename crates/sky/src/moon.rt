@@ -11,7 +11,7 @@ use super::terms::MOON_TERMS;
 
 // The moon's mean longitude L', the mean elongation D, the anomalies M of the sun and M' of the moon and the
 // argument of latitude F, which counts from the node, in degrees, and the factor E of terms in M.
-#[derive(Drop)]
+#[derive(Clone, Copy)]
 pub struct MoonArgs {
     pub mean: f64,
     pub elongation: f64,
@@ -22,7 +22,7 @@ pub struct MoonArgs {
 }
 
 // The multiples of D, M, M' and F in the angle of a periodic term, and its coefficient in millionths of a degree.
-#[derive(Drop)]
+#[derive(Clone, Copy)]
 pub struct Term {
     pub elongation: i32,
     pub sun: i32,

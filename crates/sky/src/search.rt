@@ -9,14 +9,14 @@ use super::tithi::elongation_of;
 use gregorian::UtDay;
 
 // The first instant of some, if there is one.
-#[derive(Drop)]
+#[derive(Clone, Copy)]
 pub enum FirstStart {
     At(UtDay),
     Nothing,
 }
 
 // How many starts a walk found, how many steps it took, and whether it came to the end.
-#[derive(Drop)]
+#[derive(Clone, Copy)]
 pub struct Walked {
     pub count: usize,
     pub steps: usize,
@@ -24,7 +24,7 @@ pub struct Walked {
 }
 
 // Whether a walk came to a start and which it is, where the walk stands then, the offset there, and how many steps are left.
-#[derive(Drop)]
+#[derive(Clone, Copy)]
 pub struct Next {
     pub found: bool,
     pub at: f64,

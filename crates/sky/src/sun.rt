@@ -5,7 +5,7 @@ ghost use Rattle.sky.specs.Sun.{mean_longitude, anomaly, center, true_longitude,
 use super::angles::{DEG, norm360};
 
 // The sun's mean longitude, mean anomaly and true longitude, in degrees.
-#[derive(Drop)]
+#[derive(Clone, Copy)]
 pub struct SunPlace {
     pub mean: f64,
     pub anomaly: f64,

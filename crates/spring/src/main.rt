@@ -1,4 +1,6 @@
 // Appends a year's row without fear: what a longer year table adds, what it cannot change, and which of its new moons are doubtful.
+#![tactic(auto)]
+
 ghost use Rattle.std.specs.Prelude.{◌≡◌, true, ◌≤◌, length};
 ghost use Rattle.conversion.specs.Flat.{accepted};
 ghost use Rattle.growth.specs.Growth.{same_first, Grown};

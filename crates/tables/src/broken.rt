@@ -7,7 +7,7 @@ use conversion::Table;
 // The first rule on year tables (docs/RULES.md) that a table breaks: the first year is not 1 to 3,000; no row; more than 128; no such
 // Gregorian date, or one before 1901; in a row, counted from 0, the column of a month that has not 29 to 32 days, or 12 for a sum that is another,
 // with the number that stands there; or the last day is after 2099.
-#[derive(Drop)]
+#[derive(Clone, Copy)]
 pub enum Broken {
     Nothing,
     FirstYear,

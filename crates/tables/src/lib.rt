@@ -1,4 +1,6 @@
 // Two year tables before they are used: the first rule that one breaks, in words too, and how far one is the beginning of the other.
+#![tactic(auto)]
+
 mod broken;
 mod words;
 

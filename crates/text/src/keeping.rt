@@ -3,14 +3,14 @@ ghost use Rattle.std.specs.Prelude.{◌≡◌, false};
 ghost use Rattle.text.specs.Kept.{Pushed, Fills};
 
 // How many bytes of the line are kept, or that it is too long and skipped to its line feed.
-#[derive(Drop)]
+#[derive(Clone, Copy)]
 pub struct Held {
     pub kept: usize,
     pub skipping: bool,
 }
 
 // Whether the line came to its line feed, and then the place in the piece after that.
-#[derive(Drop)]
+#[derive(Clone, Copy)]
 pub enum Filled {
     Feed(Held, usize),
     Open(Held),

@@ -5,34 +5,34 @@ ghost use Rattle.text.specs.Digits.{starts_digit, starts, is_end, past, fixed, w
 ghost use Rattle.text.specs.Reading.{Says, read_says, read_end, signed_says, signed_end, passed_says, passed_end, whole_says};
 
 // A place in a text.
-#[derive(Drop)]
+#[derive(Clone, Copy)]
 pub struct Cursor {
     pub at: usize,
 }
 
 // A number and the place after it, or none.
-#[derive(Drop)]
+#[derive(Clone, Copy)]
 pub enum Read {
     Number(u64, Cursor),
     NotOne,
 }
 
 // The same of a number that may have a minus sign.
-#[derive(Drop)]
+#[derive(Clone, Copy)]
 pub enum Signed {
     Number(i32, Cursor),
     NotOne,
 }
 
 // The place after a text that was expected, or that it does not stand there.
-#[derive(Drop)]
+#[derive(Clone, Copy)]
 pub enum Passed {
     To(Cursor),
     Not,
 }
 
 // The number that a whole text is, or none.
-#[derive(Drop)]
+#[derive(Clone, Copy)]
 pub enum Whole {
     Is(u16),
     Not,

@@ -7,7 +7,7 @@ ghost use Rattle.text.specs.Dashed.{dash, number, numbers, ended};
 use crate::reading::{Cursor, Passed, Read};
 
 // Three numbers, or not.
-#[derive(Drop)]
+#[derive(Clone, Copy)]
 pub enum Numbers {
     Are(u16, u16, u16),
     Not,

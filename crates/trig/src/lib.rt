@@ -1,4 +1,6 @@
 // Sine, cosine, the arcs and tangent on every f64, as the fixed sequences of f64 operations of docs/TRIG.md.
+#![tactic(auto)]
+
 ghost use Rattle.std.specs.Prelude.{◌≡◌};
 ghost use Rattle.trig.specs.Trig as Trig;
 

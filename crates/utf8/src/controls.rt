@@ -4,7 +4,7 @@ ghost use Rattle.utf8.specs.Controls as Controls;
 ghost use Rattle.utf8.specs.Controls.{found_says, first_control, clear};
 
 // The first control character of a text, or that it has none.
-#[derive(Drop)]
+#[derive(Clone, Copy)]
 pub enum Found {
     Control(u8),
     Nothing,

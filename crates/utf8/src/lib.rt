@@ -1,4 +1,6 @@
 // Texts of bytes as characters: whether a text is UTF-8, its first characters, and the control characters in it.
+#![tactic(auto)]
+
 mod controls;
 mod fronts;
 mod sequences;

@@ -12,7 +12,7 @@ use rules::Rule;
 
 // What there is to warn of: the rule is the same as the one that so many come before; its name is that of another festival, of that rule; its name has no
 // text; the rule gives a day of a month that has only so many; its name is that of a rule with a fixed date, of that one.
-#[derive(Drop)]
+#[derive(Clone, Copy)]
 pub enum Warning {
     Nothing,
     Twice(usize),

@@ -7,7 +7,7 @@ ghost use Rattle.warnings.specs.Warnings.{festival, yearly, first_like};
 use rules::Rule;
 
 // How another rule stands to a rule: it is the same; it has its name; and it is another festival; and its date is the same every year.
-#[derive(Drop)]
+#[derive(Clone, Copy)]
 pub enum Like {
     Same,
     Named,
@@ -16,7 +16,7 @@ pub enum Like {
 }
 
 // How many rules come before the one that was sought, or that there is none.
-#[derive(Drop)]
+#[derive(Clone, Copy)]
 pub enum Found {
     At(usize),
     Nothing,
