@@ -55,7 +55,15 @@ def declared(text):
     """The names that a file declares at its left edge, the names of fields and constructors, and the names of modules that it brings."""
     tops, fields, brought = set(), set(), set()
     inside = None
+    margin = ""
     for line in text.split("\n"):
+        if line[:1].strip():
+            margin = "  " if line.startswith("module ") else ""
+            inside = None
+        if line.startswith("module ") or margin and line.startswith(margin) and line[2:3].strip():
+            line = line[2:] if line.startswith("  ") else ""
+        elif margin and line.startswith("    "):
+            line = line[2:]
         if line[:1].strip():
             head = re.match(r"(?:(?:abbrev|unfoldable|opaque|pub|ruleset) )*(record |data )?([^\s:(){]+)", line)
             inside = head[1] if head else None

@@ -34,16 +34,16 @@ unfolding worth
 padded_is a b = refl
 
 module _ (a b : ℕ) (t : List ℕ) where
-  pair-got : (n : ℕ) {rest : List ℕ} → fixed 16 2 0 (a ∷ b ∷ []) ≡ got n rest → got n t ≡ fixed 16 2 0 (a ∷ b ∷ t)
-  pair-got n {rest} e = go (digit 16 a) (digit 16 b) ((0 * 16 + worth a) * 16 + worth b) e
+  pair_got : (n : ℕ) {rest : List ℕ} → fixed 16 2 0 (a ∷ b ∷ []) ≡ got n rest → got n t ≡ fixed 16 2 0 (a ∷ b ∷ t)
+  pair_got n {rest} e = go (digit 16 a) (digit 16 b) ((0 * 16 + worth a) * 16 + worth b) e
     where
       go : (f g : Bool) (v : ℕ) → cond f (cond g (got v []) no) no ≡ got n rest → got n t ≡ cond f (cond g (got v t) no) no
       go true true v e = let q : n ≡ v = cc in rw q
       go true false v e = absurd (never e)
       go false g v e = absurd (never e)
 
-  pair-no : fixed 16 2 0 (a ∷ b ∷ []) ≡ no → no ≡ fixed 16 2 0 (a ∷ b ∷ t)
-  pair-no e = go (digit 16 a) (digit 16 b) ((0 * 16 + worth a) * 16 + worth b) e
+  pair_no : fixed 16 2 0 (a ∷ b ∷ []) ≡ no → no ≡ fixed 16 2 0 (a ∷ b ∷ t)
+  pair_no e = go (digit 16 a) (digit 16 b) ((0 * 16 + worth a) * 16 + worth b) e
     where
       go : (f g : Bool) (v : ℕ) → cond f (cond g (got v []) no) no ≡ no → no ≡ cond f (cond g (got v t) no) no
       go true true v e = absurd (never (sym e))
@@ -51,11 +51,11 @@ module _ (a b : ℕ) (t : List ℕ) where
       go false g v e = refl
 
 module _ (s : List ℕ) (at : ℕ) where
-  pub octet-over : length s ≤ at → no ≡ fixed 16 2 0 (drop at s)
-  octet-over h = rw (over s at h)
+  pub octet_over : length s ≤ at → no ≡ fixed 16 2 0 (drop at s)
+  octet_over h = rw (over s at h)
 
-  pub octet-half : at < length s → length s ≤ at + 1 → no ≡ fixed 16 2 0 (drop at s)
-  octet-half h l = rw (cut s at h, over s (at + 1) l) (go (digit 16 (get_or s at 0)))
+  pub octet_half : at < length s → length s ≤ at + 1 → no ≡ fixed 16 2 0 (drop at s)
+  octet_half h l = rw (cut s at h, over s (at + 1) l) (go (digit 16 (get_or s at 0)))
     where
       go : (f : Bool) → ◌≡◌ {A = Got ℕ} no (cond f no no)
       go true = refl
@@ -70,10 +70,10 @@ module _ (s : List ℕ) (at : ℕ) where
         rw (cut s at l, cut s (at + 1) k, e)
 
     pub octet-said : (n : ℕ) {rest : List ℕ} → fixed 16 16 0 (padded (get_or s at 0) (get_or s (at + 1) 0)) ≡ got n rest → got n (drop (at + 2) s) ≡ fixed 16 2 0 (drop at s)
-    octet-said n e = rw both (pair-got (get_or s at 0) (get_or s (at + 1) 0) (drop (at + 2) s) n (sym (padded_is (get_or s at 0) (get_or s (at + 1) 0)) ∙ e))
+    octet-said n e = rw both (pair_got (get_or s at 0) (get_or s (at + 1) 0) (drop (at + 2) s) n (sym (padded_is (get_or s at 0) (get_or s (at + 1) 0)) ∙ e))
 
     pub octet-unsaid : fixed 16 16 0 (padded (get_or s at 0) (get_or s (at + 1) 0)) ≡ no → no ≡ fixed 16 2 0 (drop at s)
-    octet-unsaid e = rw both (pair-no (get_or s at 0) (get_or s (at + 1) 0) (drop (at + 2) s) (sym (padded_is (get_or s at 0) (get_or s (at + 1) 0)) ∙ e))
+    octet-unsaid e = rw both (pair_no (get_or s at 0) (get_or s (at + 1) 0) (drop (at + 2) s) (sym (padded_is (get_or s at 0) (get_or s (at + 1) 0)) ∙ e))
 
 -- and it is a byte
 pub octet_small : (s : List ℕ) (n : ℕ) (t : List ℕ) → fixed 16 2 0 s ≡ got n t → n ≤ 255
@@ -105,14 +105,14 @@ module _ (s : List ℕ) where
   pub left_first : (at : ℕ) → Left s at 0 (replicate 64 0) ≡ held (known (octets 64 (drop at s)))
   left_first at = held_all (octets 64 (drop at s))
 
-  octets-over : (most : ℕ) → octets most [] ≡ some []
+  octets_over : (most : ℕ) → octets most [] ≡ some []
   unfolding octets
-  octets-over zero = refl
-  octets-over (suc most) = refl
+  octets_over zero = refl
+  octets_over (suc most) = refl
 
   module _ (at k : ℕ) (values : List ℕ) where
     pub left_over : length s ≤ at → record { count = k; bytes = values } ≡ Left s at k values
-    left_over h = rw (over s at h, octets-over (64 - k), add-zero k)
+    left_over h = rw (over s at h, octets_over (64 - k), add-zero k)
 
     module _ (h : at < length s) where
       pub left-full : k ≡ 64 → held [] ≡ Left s at k values
@@ -127,9 +127,9 @@ module _ (s : List ℕ) where
         unfolding octets
         left-bad e = rw one_less (rw (cut s at h) (rw (rw (cut s at h) at e)))
 
-        pub left-turn : (b next : ℕ) → fixed 16 2 0 (drop at s) ≡ got b (drop next s) → Left s next (k + 1) (set values k b) ≡ Left s at k values
+        pub left_turn : (b next : ℕ) → fixed 16 2 0 (drop at s) ≡ got b (drop next s) → Left s next (k + 1) (set values k b) ≡ Left s at k values
         unfolding octets
-        left-turn b next e = led_held k b values (octets (64 - (k + 1)) (drop next s)) ∙ rw one_less (rw (cut s at h) (rw (rw (cut s at h) at e)))
+        left_turn b next e = led_held k b values (octets (64 - (k + 1)) (drop next s)) ∙ rw one_less (rw (cut s at h) (rw (rw (cut s at h) at e)))
 
 -- ---- a line
 

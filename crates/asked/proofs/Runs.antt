@@ -14,7 +14,7 @@ use Rattle.output.specs.Gathered.{Gathered, gathered, ended}
 use Rattle.asked.specs.declared.input.Turn.{Turn}
 use Rattle.asked.specs.Turns.{input_of, no_turn, heard, fresh, TurnAfter}
 use Rattle.asked.specs.Runs.{Program, Came, lines_in, holds_next, gathers_next, holds_after, gathers_after, TurnDone, over, unread, unwritten, Ends, Run}
-use Rattle.asked.proofs.Turns.{turn-buffer, turn-goes}
+use Rattle.asked.proofs.Turns.{turn_buffer, turn_goes}
 
 -- ---- one line more
 
@@ -27,9 +27,9 @@ module _ {S : Type 0} (p : Program S) where
   holds_more x [] l = refl
   holds_more x (k ∷ ls) l = holds_more (holds_next p x k) ls l
 
-  gathers-more : (x : S) (g : Gathered) (ls : List Came) (l : Came) → gathers_after p x g (ls ++ (l ∷ [])) ≡ gathers_next p (holds_after p x ls) (gathers_after p x g ls) l
-  gathers-more x g [] l = refl
-  gathers-more x g (k ∷ ls) l = gathers-more (holds_next p x k) (gathers_next p x g k) ls l
+  gathers_more : (x : S) (g : Gathered) (ls : List Came) (l : Came) → gathers_after p x g (ls ++ (l ∷ [])) ≡ gathers_next p (holds_after p x ls) (gathers_after p x g ls) l
+  gathers_more x g [] l = refl
+  gathers_more x g (k ∷ ls) l = gathers_more (holds_next p x k) (gathers_next p x g k) ls l
 
 -- ---- the turn after some lines
 
@@ -58,8 +58,8 @@ module _ {before : Input} {bytes piece line piece' line' out : List ℕ} {g : Ga
       go false e = rw e (here (rw (ap (λ (x : Turn). x.left) e) at h) (stand_next s t.read))
 
   -- or these were all, or the first of all
-  turn-ends : Ends (length line) lines
-  turn-ends = go t.answered.failed (stand_next s t.read)
+  turn_ends : Ends (length line) lines
+  turn_ends = go t.answered.failed (stand_next s t.read)
     where
       go : (failed : Bool) → Later (length line) lines piece' line' t.input → Ends (length line) lines
       go true l = record { bytes = bytes; ending = unwritten (length lines); same = begins_front (stand_begins s) }
@@ -82,28 +82,28 @@ pub runs_first : {S : Type 0} (p : Program S) {room : ℕ} (first : S) (steps : 
     → TurnAfter (started steps) piece line piece' line' out (fresh out) r → Runs p room first out first piece' line' out r
 runs_first p first steps {piece} {line} k t =
     let s = stand_first (length line) steps piece in
-    rw (← k) (record { lines = []; holds = refl; buffer = refl; gathers = turn-goes t; goes = turn_at s t; ends = turn-ends s t })
+    rw (← k) (record { lines = []; holds = refl; buffer = refl; gathers = turn_goes t; goes = turn_at s t; ends = turn_ends s t })
 
 module _ {S : Type 0} {p : Program S} {room : ℕ} {first : S} {out₀ : List ℕ} {x : S} {piece line out : List ℕ} {t : Turn}
     (a : Runs p room first out₀ x piece line out t) where
-  pub runs-turn : 0 < t.left → length line ≡ room → {y : S} {piece' line' out' : List ℕ} {r : Turn} → TurnDone p t x piece line out y piece' line' out' r
+  pub runs_turn : 0 < t.left → length line ≡ room → {y : S} {piece' line' out' : List ℕ} {r : Turn} → TurnDone p t x piece line out y piece' line' out' r
       → Runs p room first out₀ y piece' line' out' r
-  runs-turn h k {y} {piece'} {line'} {out'} {r} d =
+  runs_turn h k {y} {piece'} {line'} {out'} {r} d =
       let here = a.goes h in
       let l : Came = record { line = here.this; more = has_feed (waiting piece (input_of t)) } in
       let ls : List Came = a.lines ++ (l ∷ []) in
       let z : S = holds_after p first a.lines in
       let all : heard l.more (ended (p.reply x (gathered out t.out) (take t.len line))) ≡ gathers_after p first (fresh out₀) ls =
-      rw (here.text, a.gathers h, a.holds) (sym (gathers-more p first (fresh out₀) a.lines l)) in
+      rw (here.text, a.gathers h, a.holds) (sym (gathers_more p first (fresh out₀) a.lines l)) in
       let s : Stand (length line) here.bytes (lines_in ls) (input_of t).ends (waiting piece (input_of t)) = rw (k, lines_more a.lines l) here.stand in
       record {
         lines = ls;
         holds = d.holds ∙ rw (here.text, a.holds) (sym (holds_more p first a.lines l));
-        buffer = turn-buffer d.turn ∙ ap (λ (g : Gathered). g.buffer) all;
-        gathers = λ q. turn-goes d.turn q ∙ all;
+        buffer = turn_buffer d.turn ∙ ap (λ (g : Gathered). g.buffer) all;
+        gathers = λ q. turn_goes d.turn q ∙ all;
         goes = λ q. rw k at (turn_at s d.turn q);
-        ends = rw k at (turn-ends s d.turn);
+        ends = rw k at (turn_ends s d.turn);
       }
 
-  pub runs-all : {n : ℕ} → room ≡ n → Run p n first out₀ x out
-  runs-all k = rw (← k) (record { heard = record { answered = a.lines; ends = a.ends }; holds = a.holds; gathers = a.buffer })
+  pub runs_all : {n : ℕ} → room ≡ n → Run p n first out₀ x out
+  runs_all k = rw (← k) (record { heard = record { answered = a.lines; ends = a.ends }; holds = a.holds; gathers = a.buffer })

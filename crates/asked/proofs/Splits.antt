@@ -30,25 +30,25 @@ unfolding letter
 letter_is b e = (leb-true 97 b (and_left (leb 97 b) (leb b 122) e), leb-true b 122 (and_right (leb 97 b) (leb b 122) e))
 
 module _ (s : List ℕ) (i v : ℕ) where
-  pub letters-over : length s ≤ i → got v (drop i s) ≡ letters v (drop i s)
-  letters-over h = rw (over s i h)
+  pub letters_over : length s ≤ i → got v (drop i s) ≡ letters v (drop i s)
+  letters_over h = rw (over s i h)
 
-  pub letters-stop : i < length s → letter (get_or s i 0) ≡ false → got v (drop i s) ≡ letters v (drop i s)
-  letters-stop h d = rw (cut s i h, d)
+  pub letters_stop : i < length s → letter (get_or s i 0) ≡ false → got v (drop i s) ≡ letters v (drop i s)
+  letters_stop h d = rw (cut s i h, d)
 
-  pub letters-large : i < length s → letter (get_or s i 0) ≡ true → 18446744073709551615 < v * 64 + (get_or s i 0 - 96) → no ≡ letters v (drop i s)
-  letters-large h d l = rw (cut s i h, d, lt-leb (v * 64 + (get_or s i 0 - 96)) 18446744073709551615 l)
+  pub letters_large : i < length s → letter (get_or s i 0) ≡ true → 18446744073709551615 < v * 64 + (get_or s i 0 - 96) → no ≡ letters v (drop i s)
+  letters_large h d l = rw (cut s i h, d, lt-leb (v * 64 + (get_or s i 0 - 96)) 18446744073709551615 l)
 
-  pub letters-turn : i < length s → letter (get_or s i 0) ≡ true → v * 64 + (get_or s i 0 - 96) ≤ 18446744073709551615
+  pub letters_turn : i < length s → letter (get_or s i 0) ≡ true → v * 64 + (get_or s i 0 - 96) ≤ 18446744073709551615
       → letters (v * 64 + (get_or s i 0 - 96)) (drop (i + 1) s) ≡ letters v (drop i s)
-  letters-turn h d l = rw (cut s i h, d, le-leb (v * 64 + (get_or s i 0 - 96)) 18446744073709551615 l)
+  letters_turn h d l = rw (cut s i h, d, le-leb (v * 64 + (get_or s i 0 - 96)) 18446744073709551615 l)
 
 -- ---- a word
 
 module _ (s : List ℕ) where
-  pub word-bits : {t : List ℕ} → past (bytes "0x") s ≡ got tt t → word s ≡ item (λ n. 4) (fixed 16 16 0 t)
+  pub word_bits : {t : List ℕ} → past (bytes "0x") s ≡ got tt t → word s ≡ item (λ n. 4) (fixed 16 16 0 t)
   unfolding word
-  word-bits e = rw e
+  word_bits e = rw e
 
   module _ (e : past (bytes "0x") s ≡ no) where
     pub word-minus : {t : List ℕ} → past (bytes "-") s ≡ got tt t → word s ≡ item (λ n. 3) (decimal 2147483648 t)
@@ -96,11 +96,11 @@ no_word s x e w = (record { same = rw (w, e); inside = omega arith }, omega arit
 
 -- what read_word's answer tells
 module _ {s : List ℕ} {g : Got Item} (f : Found) (p : Says s (found_says s f) (found_end f) g) where
-  pub word-said : {k n : ℕ} {next : Cursor} → f ≡ Word k n next → g ≡ got (record { kind = k; value = n }) (drop next.at s)
-  word-said q = sym p.same ∙ ap (found_says s) q
+  pub word_said : {k n : ℕ} {next : Cursor} → f ≡ Word k n next → g ≡ got (record { kind = k; value = n }) (drop next.at s)
+  word_said q = sym p.same ∙ ap (found_says s) q
 
-  pub word-unsaid : f ≡ Not → g ≡ no
-  word-unsaid q = sym p.same ∙ ap (found_says s) q
+  pub word_unsaid : f ≡ Not → g ≡ no
+  word_unsaid q = sym p.same ∙ ap (found_says s) q
 
 pub word_kind : (f : Found) {k n : ℕ} {next : Cursor} → found_kind f ≤ 9 → f ≡ Word k n next → k ≤ 9
 word_kind f h q = subst (λ (y : Found). found_kind y ≤ 9) q h
@@ -108,10 +108,10 @@ word_kind f h q = subst (λ (y : Found). found_kind y ≤ 9) q h
 -- ---- a line
 
 module _ (s : List ℕ) where
-  others-over : (most : ℕ) → is_end s ≡ true → others most s ≡ got [] []
+  others_over : (most : ℕ) → is_end s ≡ true → others most s ≡ got [] []
   unfolding others
-  others-over zero e = rw e
-  others-over (suc most) e = rw e
+  others_over zero e = rw e
+  others_over (suc most) e = rw e
 
   module _ (e : is_end s ≡ false) where
     others-full : others 0 s ≡ no
@@ -144,7 +144,7 @@ Left s tag before values k at = packed tag before values k (others (4096 - k) (d
 
 module _ (s values : List ℕ) (tag before k at : ℕ) where
   pub left_over : length s ≤ at → record { tag = tag; form = before; values = values } ≡ Left s tag before values k at
-  left_over h = rw (over s at h, others-over [] (4096 - k) refl)
+  left_over h = rw (over s at h, others_over [] (4096 - k) refl)
 
   module _ (h : at < length s) where
     pub left-full : k ≡ 4096 → unformed ≡ Left s tag before values k at
@@ -161,9 +161,9 @@ module _ (s values : List ℕ) (tag before k at : ℕ) where
           let m : 4096 - k ≡ suc (4095 - k) = omega arith in
           rw (m, others-bad (drop at s) (at_place s at h) (4095 - k) t f w)
 
-      pub left-turn : {t : List ℕ} (x : Item) (next : ℕ) → past (bytes " ") (drop at s) ≡ got tt t → word t ≡ got x (drop next s)
+      pub left_turn : {t : List ℕ} (x : Item) (next : ℕ) → past (bytes " ") (drop at s) ≡ got tt t → word t ≡ got x (drop next s)
           → Left s tag (with_kind before x.kind) (set values k x.value) (k + 1) next ≡ Left s tag before values k at
-      left-turn {t} x next f w =
+      left_turn {t} x next f w =
           let m : 4096 - k ≡ suc (4095 - k) = omega arith in
           let n : 4096 - (k + 1) ≡ 4095 - k = omega arith in
           let o : k + 1 ≡ suc k = omega arith in
@@ -191,13 +191,13 @@ unfolding fitting
 fitting_large most v h = rw (lt-leb v most h)
 
 module _ (v : ℕ) where
-  pub above-fits : v ≤ 2147483647 → Is (pos v) ≡ whole_of false v
+  pub above_fits : v ≤ 2147483647 → Is (pos v) ≡ whole_of false v
   unfolding whole_of
-  above-fits h = rw (le-leb v 2147483647 h)
+  above_fits h = rw (le-leb v 2147483647 h)
 
-  pub above-large : 2147483647 < v → TooLarge ≡ whole_of false v
+  pub above_large : 2147483647 < v → TooLarge ≡ whole_of false v
   unfolding whole_of
-  above-large h = rw (lt-leb v 2147483647 h)
+  above_large h = rw (lt-leb v 2147483647 h)
 
 pub below_nought : (v : ℕ) → v ≡ 0 → Is (pos 0) ≡ whole_of true v
 unfolding whole_of

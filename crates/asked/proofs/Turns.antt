@@ -19,12 +19,12 @@ written at begun failed b p q = rw (p, q)
 
 module _ (input : Input) (o : Out) {r : Turn} where
   -- after a write that failed
-  pub turn-failed : (x : Out) → o.failed ≡ true → x.at ≡ 0 → x.begun ≡ o.begun → r ≡ no_turn x → r ≡ turn_of input o r.out.failed
-  turn-failed x f p q h = rw (h, f) (ap no_turn (written x.at x.begun x.failed o.begun p q))
+  pub turn_failed : (x : Out) → o.failed ≡ true → x.at ≡ 0 → x.begun ≡ o.begun → r ≡ no_turn x → r ≡ turn_of input o r.out.failed
+  turn_failed x f p q h = rw (h, f) (ap no_turn (written x.at x.begun x.failed o.begun p q))
 
   -- at the end of the input
-  pub turn-over : (x : Out) → o.failed ≡ false → input.left ≡ 0 → x.at ≡ 0 → x.begun ≡ o.begun → r ≡ no_turn x → r ≡ turn_of input o r.out.failed
-  turn-over x f z p q h = rw (h, f, eq-eqb input.left 0 z) (ap no_turn (written x.at x.begun x.failed o.begun p q))
+  pub turn_over : (x : Out) → o.failed ≡ false → input.left ≡ 0 → x.at ≡ 0 → x.begun ≡ o.begun → r ≡ no_turn x → r ≡ turn_of input o r.out.failed
+  turn_over x f z p q h = rw (h, f, eq-eqb input.left 0 z) (ap no_turn (written x.at x.begun x.failed o.begun p q))
 
 -- at a line
 pub turn_line : (input : Input) (o : Out) (failed : Bool) → o.failed ≡ false → (input.left ≡ 0 → ⊥)
@@ -53,12 +53,12 @@ turn_after {input = input} out o {r} n g e =
 
 module _ {before : Input} {piece line piece' line' out : List ℕ} {g : Gathered} {r : Turn} (t : TurnAfter before piece line piece' line' out g r) where
   -- the lent buffer holds what is gathered
-  pub turn-buffer : out ≡ g.buffer
-  turn-buffer = ap (λ (x : Gathered). x.buffer) t.gathers
+  pub turn_buffer : out ≡ g.buffer
+  turn_buffer = ap (λ (x : Gathered). x.buffer) t.gathers
 
   -- and while there are turns nothing of it is lost
-  pub turn-goes : 0 < r.left → gathered out r.out ≡ g
-  turn-goes h = go (t.answered.failed || eqb t.input.left 0) t.turn
+  pub turn_goes : 0 < r.left → gathered out r.out ≡ g
+  turn_goes h = go (t.answered.failed || eqb t.input.left 0) t.turn
     where
       go : (f : Bool) → r ≡ cond f (no_turn (record { at = 0; begun = t.answered.begun; failed = r.out.failed }))
           (record { left = t.input.left; len = t.input.len; ends = t.input.ends; from = t.input.from; to = t.input.to; out = t.answered }) → gathered out r.out ≡ g

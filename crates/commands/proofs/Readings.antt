@@ -10,10 +10,10 @@ module _ (s : List ℕ) (at : ℕ) (z : at ≡ 0) {r : Numbers} (p : r ≡ ended
   read_at : r ≡ ended (numbers 4 2 s)
   read_at = rw z at p
 
-  pub date-none : r ≡ N.Not → F.Not ≡ date_in s
+  pub date_none : r ≡ N.Not → F.Not ≡ date_in s
   unfolding date_in
-  date-none e = ap as_date (sym e ∙ read_at)
+  date_none e = ap as_date (sym e ∙ read_at)
 
-  pub date-some : {y m d : ℕ} → r ≡ N.Are y m d → F.Is (record { year = y; month = m; day = d }) ≡ date_in s
+  pub date_some : {y m d : ℕ} → r ≡ N.Are y m d → F.Is (record { year = y; month = m; day = d }) ≡ date_in s
   unfolding date_in
-  date-some e = ap as_date (sym e ∙ read_at)
+  date_some e = ap as_date (sym e ∙ read_at)

@@ -110,15 +110,15 @@ number_none false v k e = refl
 
 -- a number that is not 0 is a date's, and each is small
 module _ (y m d : ℕ) where
-  pub number-real : (n : ℕ) → n ≡ number_or_zero y m d → 0 < n → (is_date y m d ≡ true) × (n ≡ day_number (date y m d))
-  number-real n e h = go (is_date y m d) e
+  pub number_real : (n : ℕ) → n ≡ number_or_zero y m d → 0 < n → (is_date y m d ≡ true) × (n ≡ day_number (date y m d))
+  number_real n e h = go (is_date y m d) e
     where
       go : (b : Bool) → n ≡ cond b (day_number (date y m d)) 0 → (b ≡ true) × (n ≡ day_number (date y m d))
       go true q = (refl, q)
       go false q = absurd (omega arith)
 
-  pub number-no : number_or_zero y m d ≡ 0 → is_date y m d ≡ false
-  number-no e = go (is_date y m d) e
+  pub number_no : number_or_zero y m d ≡ 0 → is_date y m d ≡ false
+  number_no e = go (is_date y m d) e
     where
       go : (b : Bool) → cond b (day_number (date y m d)) 0 ≡ 0 → b ≡ false
       go true q = absurd (omega (arith, number_above (date y m d)))
@@ -147,11 +147,11 @@ pub years_in_law : (rows : List ℕ) (i : ℕ) → row_count rows ≤ 128 → i 
 years_in_law rows i n h = record { few = omega arith; small = omega arith; inside = λ k l. omega arith }
 
 module _ (t : Table) (rows : List ℕ) (f : Facts t rows) where
-  pub years-are : (i : ℕ) → i < row_count rows → column rows 12 13 i ≡ sum (lens rows i) 12
-  years-are i h = ap (λ (k : ℕ). get_or rows k 0) (add_comm 12 (13 * i)) ∙ row_total rows i (f.row i h)
+  pub years_are : (i : ℕ) → i < row_count rows → column rows 12 13 i ≡ sum (lens rows i) 12
+  years_are i h = ap (λ (k : ℕ). get_or rows k 0) (add_comm 12 (13 * i)) ∙ row_total rows i (f.row i h)
 
-  pub years-sum : (i : ℕ) → i ≤ row_count rows → sum (column rows 12 13) i ≡ row_days rows i
-  years-sum i h = sum_ext _ _ i (λ k l. years-are k (omega arith))
+  pub years_sum : (i : ℕ) → i ≤ row_count rows → sum (column rows 12 13) i ≡ row_days rows i
+  years_sum i h = sum_ext _ _ i (λ k l. years_are k (omega arith))
 
   -- the days before a row
   pub rows_before : (i : ℕ) → i ≤ row_count rows → day_number (first_day t) + row_days rows i ≤ 2488070
@@ -180,7 +180,7 @@ found_within f n r i s p h =
 
 -- what `find` found in the column of the sums, and in a row
 pub year_found : (t : Table) (rows : List ℕ) → Facts t rows → (r i s : ℕ) → FoundAt (column rows 12 13) (row_count rows) r i s → FoundAt (λ k. sum (lens rows k) 12) (row_count rows) r i s
-year_found t rows f r i s p = found_ext _ _ (row_count rows) r i s (λ k l. years-are t rows f k l) p
+year_found t rows f r i s p = found_ext _ _ (row_count rows) r i s (λ k l. years_are t rows f k l) p
 
 pub record RowDay (rows : List ℕ) (i r m d : ℕ) : Type 0 where
   pub within : Within (lens rows i) 12 r m

@@ -27,7 +27,7 @@ use Rattle.conversion.specs.Flat.{date, first_day, lens, row_count, accepted, fl
 use Rattle.conversion.specs.Claims.{first_of, last_of, TableDay}
 use Rattle.conversion.proofs.Rows.{row_lens}
 use Rattle.conversion.proofs.Accepted.{facts}
-use Rattle.conversion.proofs.Days.{Valid, OnTable, found, from_outside, from-before, from-after, in-date, of-date, date_refused, converts, converted, valid_on, number_of, from_to, to_from, to_order, from_order}
+use Rattle.conversion.proofs.Days.{Valid, OnTable, found, from_outside, from_before, from_after, in_date, of_date_law, date_refused, converts, converted, valid_on, number_of, from_to, to_from, to_order, from_order}
 
 -- a good calendar that has a day, and whose days are Gregorian dates
 pub record Served (c : Calendar) : Type 0 where
@@ -56,22 +56,22 @@ on_real c n s o = of_real n (le_trans s.from o.from) (omega (arith, s.to, o.to))
 
 -- ---- what `from_ad` answers: for a date what `from_day` does
 module _ (c : Calendar) (y m d : ℕ) where
-  pub from-ad : c.good ≡ true → is_date y m d ≡ true → from_ad c y m d ≡ from_day c (day_number (date y m d))
+  pub from_ad_law : c.good ≡ true → is_date y m d ≡ true → from_ad c y m d ≡ from_day c (day_number (date y m d))
   unfolding from_ad
-  from-ad g e = given_on c.good BadTable _ g ∙ given_on (is_date y m d) NoSuchDate _ e
+  from_ad_law g e = given_on c.good BadTable _ g ∙ given_on (is_date y m d) NoSuchDate _ e
 
-  pub ad-from : (t : BsDate) → from_ad c y m d ≡ answered t → (is_date y m d ≡ true) × (from_day c (day_number (date y m d)) ≡ answered t)
+  pub ad_from : (t : BsDate) → from_ad c y m d ≡ answered t → (is_date y m d ≡ true) × (from_day c (day_number (date y m d)) ≡ answered t)
   unfolding from_ad
-  ad-from t e = let a = given_answered c.good _ _ e in given_answered (is_date y m d) _ _ a.1
+  ad_from t e = let a = given_answered c.good _ _ e in given_answered (is_date y m d) _ _ a.1
 
   -- what is refused with 7 is a date, and `from_day` refuses its day
-  pub ad-refused : (k : Refusal) → c.good ≡ true → number k ≡ 7 → from_ad c y m d ≡ refused k
+  pub ad_refused : (k : Refusal) → c.good ≡ true → number k ≡ 7 → from_ad c y m d ≡ refused k
       → (is_date y m d ≡ true) × (from_day c (day_number (date y m d)) ≡ refused k)
   unfolding from_ad
-  ad-refused k g n e = go (is_date y m d) refl
+  ad_refused k g n e = go (is_date y m d) refl
     where
       go : (b : Bool) → is_date y m d ≡ b → (is_date y m d ≡ true) × (from_day c (day_number (date y m d)) ≡ refused k)
-      go true f = (f, sym (from-ad g f) ∙ e)
+      go true f = (f, sym (from_ad_law g f) ∙ e)
       go false f =
           absurd (let z = same_number (sym (given_on c.good BadTable _ g ∙ given_off (is_date y m d) NoSuchDate _ f) ∙ e) in let q : ⊥ = omega arith in q)
 
@@ -85,28 +85,28 @@ pub is_real : (x : Date) → is_date x.year x.month x.day ≡ true → IsReal x
 is_real x e = real_of x (subst⁻¹ T e tt)
 
 module _ (c : Calendar) (s : Served c) where
-  first-real : IsReal (first_of c) × (day_number (first_of c) ≡ c.start)
-  first-real = on_real c c.start s (record { good = s.good; from = omega arith; to = s.some })
+  first_real : IsReal (first_of c) × (day_number (first_of c) ≡ c.start)
+  first_real = on_real c c.start s (record { good = s.good; from = omega arith; to = s.some })
 
-  last-real : IsReal (last_of c) × (day_number (last_of c) ≡ end c - 1)
-  last-real = on_real c (end c - 1) s (record { good = s.good; from = omega (arith, s.some); to = omega (arith, s.some) })
+  last_real : IsReal (last_of c) × (day_number (last_of c) ≡ end c - 1)
+  last_real = on_real c (end c - 1) s (record { good = s.good; from = omega (arith, s.some); to = omega (arith, s.some) })
 
-  pub day-on : (x : Date) → TableDay c x → OnTable c (day_number x)
-  day-on x d =
+  pub day_on_law : (x : Date) → TableDay c x → OnTable c (day_number x)
+  day_on_law x d =
       let r = is_real x d.real in
-      let f = first-real in
-      let l = last-real in
+      let f = first_real in
+      let l = last_real in
       record {
         good = s.good;
         from = ⊎_elim (λ h. h) (λ h. absurd (d.from (earlier_of_lt x (first_of c) r f.0 (omega (arith, f.1))))) (split c.start (day_number x));
         to = ⊎_elim (λ h. absurd (d.to (earlier_of_lt (last_of c) x l.0 r (omega (arith, l.1, s.some))))) (λ h. h) (split (end c) (day_number x));
       }
 
-  pub on-day : (x : Date) → is_date x.year x.month x.day ≡ true → OnTable c (day_number x) → TableDay c x
-  on-day x e o =
+  pub on_day : (x : Date) → is_date x.year x.month x.day ≡ true → OnTable c (day_number x) → TableDay c x
+  on_day x e o =
       let r = is_real x e in
-      let f = first-real in
-      let l = last-real in
+      let f = first_real in
+      let l = last_real in
       record {
         real = e;
         from = λ h. omega (arith, o.from, f.1, number_lt x (first_of c) r f.0 h);
@@ -116,76 +116,76 @@ module _ (c : Calendar) (s : Served c) where
   -- ---- what `to_ad` answers
   pub to_ad_law : (y m d : ℕ) → Valid c y m d → to_ad c y m d ≡ answered (date_of (day_at c (y - c.first) (m - 1) (d - 1)))
   unfolding to_ad
-  to-ad y m d v = of-date c y m d _ v
+  to_ad_law y m d v = of_date_law c y m d _ v
 
-  pub ad-valid : (y m d : ℕ) (x : Date) → to_ad c y m d ≡ answered x → Valid c y m d
+  pub ad_valid : (y m d : ℕ) (x : Date) → to_ad c y m d ≡ answered x → Valid c y m d
   unfolding to_ad
-  ad-valid y m d x e = (in-date c y m d _ e).0
+  ad_valid y m d x e = (in_date c y m d _ e).0
 
   -- the answer is the date whose number `to_day` answers
-  pub ad-number : (y m d : ℕ) (x : Date) → to_ad c y m d ≡ answered x → (IsReal x) × (to_day c y m d ≡ answered (day_number x))
-  ad-number y m d x e =
-      let v = ad-valid y m d x e in
-      let q : date_of (day_at c (y - c.first) (m - 1) (d - 1)) ≡ x = answered_same (sym (to-ad y m d v) ∙ e) in
+  pub ad_number : (y m d : ℕ) (x : Date) → to_ad c y m d ≡ answered x → (IsReal x) × (to_day c y m d ≡ answered (day_number x))
+  ad_number y m d x e =
+      let v = ad_valid y m d x e in
+      let q : date_of (day_at c (y - c.first) (m - 1) (d - 1)) ≡ x = answered_same (sym (to_ad_law y m d v) ∙ e) in
       let r = on_real c _ s (valid_on c y m d v) in
       (subst IsReal q r.0, converts c y m d v ∙ ap answered (sym r.1 ∙ ap day_number q))
 
-  pub number-ad : (y m d n : ℕ) → to_day c y m d ≡ answered n → to_ad c y m d ≡ answered (date_of n)
-  number-ad y m d n e = to-ad y m d (converted c y m d n e) ∙ ap (λ (k : ℕ). answered (date_of k)) (sym (number_of c y m d n e))
+  pub number_ad : (y m d n : ℕ) → to_day c y m d ≡ answered n → to_ad c y m d ≡ answered (date_of n)
+  number_ad y m d n e = to_ad_law y m d (converted c y m d n e) ∙ ap (λ (k : ℕ). answered (date_of k)) (sym (number_of c y m d n e))
 
-  pub number-numbered : (y m d n : ℕ) → to_day c y m d ≡ answered n → numbered n ≡ true
-  number-numbered y m d n e = subst⁻¹ (λ (k : ℕ). numbered k ≡ true) (number_of c y m d n e) (on_numbered c _ s (valid_on c y m d (converted c y m d n e)))
+  pub number_numbered : (y m d n : ℕ) → to_day c y m d ≡ answered n → numbered n ≡ true
+  number_numbered y m d n e = subst⁻¹ (λ (k : ℕ). numbered k ≡ true) (number_of c y m d n e) (on_numbered c _ s (valid_on c y m d (converted c y m d n e)))
 
   -- it is a day of the table
-  pub ad-table : (y m d : ℕ) (x : Date) → to_ad c y m d ≡ answered x → TableDay c x
-  ad-table y m d x e =
-      let a = ad-number y m d x e in
-      on-day x (T_true _ (real_to x a.0)) (subst⁻¹ (OnTable c) (number_of c y m d _ a.1) (valid_on c y m d (ad-valid y m d x e)))
+  pub ad_table : (y m d : ℕ) (x : Date) → to_ad c y m d ≡ answered x → TableDay c x
+  ad_table y m d x e =
+      let a = ad_number y m d x e in
+      on_day x (T_true _ (real_to x a.0)) (subst⁻¹ (OnTable c) (number_of c y m d _ a.1) (valid_on c y m d (ad_valid y m d x e)))
 
   -- ---- there and back
-  pub ad-to-from : (y m d : ℕ) (x : Date) → to_ad c y m d ≡ answered x → from_ad c x.year x.month x.day ≡ answered (bs y m d)
-  ad-to-from y m d x e =
-      let a = ad-number y m d x e in
-      from-ad c _ _ _ s.good (T_true _ (real_to x a.0)) ∙ from_to c y m d _ a.1
+  pub ad_to_from : (y m d : ℕ) (x : Date) → to_ad c y m d ≡ answered x → from_ad c x.year x.month x.day ≡ answered (bs y m d)
+  ad_to_from y m d x e =
+      let a = ad_number y m d x e in
+      from_ad_law c _ _ _ s.good (T_true _ (real_to x a.0)) ∙ from_to c y m d _ a.1
 
-  pub ad-from-to : (y m d : ℕ) (t : BsDate) → from_ad c y m d ≡ answered t → to_ad c t.year t.month t.day ≡ answered (date y m d)
-  ad-from-to y m d t e =
-      let a = ad-from c y m d t e in
-      number-ad _ _ _ _ (to_from c _ t a.1) ∙ ap answered (of_number (date y m d) (is_real (date y m d) a.0))
+  pub ad_from_to : (y m d : ℕ) (t : BsDate) → from_ad c y m d ≡ answered t → to_ad c t.year t.month t.day ≡ answered (date y m d)
+  ad_from_to y m d t e =
+      let a = ad_from c y m d t e in
+      number_ad _ _ _ _ (to_from c _ t a.1) ∙ ap answered (of_number (date y m d) (is_real (date y m d) a.0))
 
   -- ---- in order
-  pub ad-order : (p q : BsDate) (a b : Date) → to_ad c p.year p.month p.day ≡ answered a → to_ad c q.year q.month q.day ≡ answered b → EarlierBs p q ↔ Earlier a b
-  ad-order p q a b e f =
-      let u = ad-number _ _ _ a e in
-      let v = ad-number _ _ _ b f in (
+  pub ad_order : (p q : BsDate) (a b : Date) → to_ad c p.year p.month p.day ≡ answered a → to_ad c q.year q.month q.day ≡ answered b → EarlierBs p q ↔ Earlier a b
+  ad_order p q a b e f =
+      let u = ad_number _ _ _ a e in
+      let v = ad_number _ _ _ b f in (
         (λ h. earlier_of_lt a b u.0 v.0 (to_order c p q _ _ u.1 v.1 h)),
         (λ h. from_order c p q _ _ (from_to c _ _ _ _ u.1) (from_to c _ _ _ _ v.1) (number_lt a b u.0 v.0 h)),
       )
 
   -- ---- a date outside the table
-  pub ad-outside : (y m d : ℕ) → is_date y m d ≡ true → (TableDay c (date y m d) → ⊥) → from_ad c y m d ≡ refused (outside c (day_number (date y m d)))
-  ad-outside y m d e h =
-      from-ad c y m d s.good e ∙ from_outside c _ s.good (λ o. h (on-day (date y m d) e o))
+  pub ad_outside : (y m d : ℕ) → is_date y m d ≡ true → (TableDay c (date y m d) → ⊥) → from_ad c y m d ≡ refused (outside c (day_number (date y m d)))
+  ad_outside y m d e h =
+      from_ad_law c y m d s.good e ∙ from_outside c _ s.good (λ o. h (on_day (date y m d) e o))
 
   -- by how many days
-  pub ad-before : (y m d : ℕ) → is_date y m d ≡ true → Earlier (date y m d) (first_of c)
+  pub ad_before : (y m d : ℕ) → is_date y m d ≡ true → Earlier (date y m d) (first_of c)
       → (k : ℕ) × ((1 ≤ k) × (day_number (date y m d) + k ≡ day_number (first_of c)) × (from_ad c y m d ≡ refused (Before k)))
-  ad-before y m d e h =
-      let f = first-real in
+  ad_before y m d e h =
+      let f = first_real in
       let l = number_lt (date y m d) (first_of c) (is_real (date y m d) e) f.0 h in
       let n : day_number (date y m d) < c.start = omega (arith, f.1) in
-      (c.start - day_number (date y m d), (omega arith, omega (arith, f.1), from-ad c y m d s.good e ∙ from-before c _ s.good n))
+      (c.start - day_number (date y m d), (omega arith, omega (arith, f.1), from_ad_law c y m d s.good e ∙ from_before c _ s.good n))
 
-  pub ad-after : (y m d : ℕ) → is_date y m d ≡ true → Earlier (last_of c) (date y m d)
+  pub ad_after : (y m d : ℕ) → is_date y m d ≡ true → Earlier (last_of c) (date y m d)
       → (k : ℕ) × ((1 ≤ k) × (day_number (last_of c) + k ≡ day_number (date y m d)) × (from_ad c y m d ≡ refused (After k)))
-  ad-after y m d e h =
-      let f = last-real in
+  ad_after y m d e h =
+      let f = last_real in
       let l = number_lt (last_of c) (date y m d) f.0 (is_real (date y m d) e) h in
       let n : end c ≤ day_number (date y m d) = omega (arith, f.1, s.some) in
-      (day_number (date y m d) - end c + 1, (omega arith, omega (arith, f.1, s.some), from-ad c y m d s.good e ∙ from-after c _ s.good n))
+      (day_number (date y m d) - end c + 1, (omega arith, omega (arith, f.1, s.some), from_ad_law c y m d s.good e ∙ from_after c _ s.good n))
 
-  pub ad-inside : (x : Date) → TableDay c x → (t : BsDate) × (from_ad c x.year x.month x.day ≡ answered t)
-  ad-inside x d = (_, from-ad c _ _ _ s.good d.real ∙ found c (day_number x) (day-on x d))
+  pub ad_inside : (x : Date) → TableDay c x → (t : BsDate) × (from_ad c x.year x.month x.day ≡ answered t)
+  ad_inside x d = (_, from_ad_law c _ _ _ s.good d.real ∙ found c (day_number x) (day_on_law x d))
 
 -- the first day of a lent table is the date that it names
 pub first_is : (t : Table) (rows : List ℕ) → accepted t rows ≡ true → first_of (flat t rows) ≡ first_day t

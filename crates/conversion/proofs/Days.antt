@@ -47,7 +47,7 @@ module _ {A : Type 0} (c : Calendar) (y m : ℕ) (a : Answer A) where
   no_table g = given_off c.good BadTable _ g
 
   pub no_year : c.good ≡ true → (c.first ≤ y → y < c.first + c.years → ⊥) → of_month c y m a ≡ refused NoYear
-  no-year g h =
+  no_year g h =
       given_on c.good BadTable _ g ∙ given_off (year_ok c y) NoYear _ (and_never _ _ (λ p q. h (leb-true _ _ p) (ltb-true _ _ q)))
 
   pub no_month : c.good ≡ true → c.first ≤ y → y < c.first + c.years → (1 ≤ m → m ≤ 12 → ⊥) → of_month c y m a ≡ refused NoMonth
@@ -56,14 +56,14 @@ module _ {A : Type 0} (c : Calendar) (y m : ℕ) (a : Answer A) where
       ∙ given_on (year_ok c y) NoYear _ (and_both _ _ (le-leb _ _ f) (lt-ltb _ _ t))
       ∙ given_off (month_ok m) NoMonth _ (and_never _ _ (λ p q. h (leb-true _ _ p) (leb-true _ _ q)))
 
-  pub of-month : InTable c y m → of_month c y m a ≡ a
-  of-month k =
+  pub of_month_law : InTable c y m → of_month c y m a ≡ a
+  of_month_law k =
       given_on c.good BadTable _ k.good
       ∙ given_on (year_ok c y) NoYear _ (and_both _ _ (le-leb _ _ k.year_from) (lt-ltb _ _ k.year_to))
       ∙ given_on (month_ok m) NoMonth _ (and_both _ _ (le-leb _ _ k.month_from) (le-leb _ _ k.month_to))
 
-  pub in-month : {x : A} → of_month c y m a ≡ answered x → InTable c y m × (a ≡ answered x)
-  in-month e =
+  pub in_month_law : {x : A} → of_month c y m a ≡ answered x → InTable c y m × (a ≡ answered x)
+  in_month_law e =
       let p = given_answered c.good _ _ e in
       let q = given_answered (year_ok c y) _ _ p.1 in
       let r = given_answered (month_ok m) _ _ q.1 in
@@ -81,7 +81,7 @@ module _ {A : Type 0} (c : Calendar) (y m : ℕ) (a : Answer A) where
 -- the length of a month tells that there is one
 pub len_told : (c : Calendar) (y m n : ℕ) → answered n ≡ month_len c y m → InTable c y m × (c.len (y - c.first) (m - 1) ≡ n)
 unfolding month_len
-len_told c y m n e = let k = in-month c y m _ (sym e) in (k.0, answered_same k.1)
+len_told c y m n e = let k = in_month_law c y m _ (sym e) in (k.0, answered_same k.1)
 
 -- ---- a date of the calendar
 pub record Valid (c : Calendar) (y m d : ℕ) : Type 0 where
@@ -92,16 +92,16 @@ pub record Valid (c : Calendar) (y m d : ℕ) : Type 0 where
 -- a question about a date: what is refused, and what is answered
 module _ {A : Type 0} (c : Calendar) (y m d : ℕ) (x : A) where
   pub no_day_law : InTable c y m → (1 ≤ d → d ≤ c.len (y - c.first) (m - 1) → ⊥) → of_date c y m d x ≡ refused NoDay
-  no-day k h =
-      of-month c y m _ k ∙ given_off (day_ok c y m d) NoDay _ (and_never _ _ (λ p q. h (leb-true _ _ p) (leb-true _ _ q)))
+  no_day_law k h =
+      of_month_law c y m _ k ∙ given_off (day_ok c y m d) NoDay _ (and_never _ _ (λ p q. h (leb-true _ _ p) (leb-true _ _ q)))
 
-  pub of-date : Valid c y m d → of_date c y m d x ≡ answered x
-  of-date v =
-      of-month c y m _ v.month ∙ given_on (day_ok c y m d) NoDay _ (and_both _ _ (le-leb _ _ v.day_from) (le-leb _ _ v.day_to))
+  pub of_date_law : Valid c y m d → of_date c y m d x ≡ answered x
+  of_date_law v =
+      of_month_law c y m _ v.month ∙ given_on (day_ok c y m d) NoDay _ (and_both _ _ (le-leb _ _ v.day_from) (le-leb _ _ v.day_to))
 
-  pub in-date : {z : A} → of_date c y m d x ≡ answered z → Valid c y m d × (x ≡ z)
-  in-date e =
-      let p = in-month c y m _ e in
+  pub in_date : {z : A} → of_date c y m d x ≡ answered z → Valid c y m d × (x ≡ z)
+  in_date e =
+      let p = in_month_law c y m _ e in
       let q = given_answered (day_ok c y m d) _ _ p.1 in (
         record {
           month = p.0;
@@ -112,24 +112,24 @@ module _ {A : Type 0} (c : Calendar) (y m d : ℕ) (x : A) where
       )
 
   -- by way of the length of the month; by way of whether it is a date at all
-  pub by-len : of_date c y m d x ≡ then (month_len c y m) (λ n. given (leb 1 d && leb d n) NoDay (answered x))
+  pub by_len : of_date c y m d x ≡ then (month_len c y m) (λ n. given (leb 1 d && leb d n) NoDay (answered x))
   unfolding month_len
-  by-len = simp (given_then, then_answered)
+  by_len = simp (given_then, then_answered)
 
-  pub by-valid : of_date c y m d x ≡ then (valid_bs c y m d) (λ u. answered x)
+  pub by_valid : of_date c y m d x ≡ then (valid_bs c y m d) (λ u. answered x)
   unfolding valid_bs
-  by-valid = simp (given_then, then_answered)
+  by_valid = simp (given_then, then_answered)
 
-  pub len-refused : (k : Refusal) → refused k ≡ month_len c y m → refused k ≡ of_date c y m d x
-  len-refused k e = rw (by-len, ← e) (sym (then_refused k _))
+  pub len_refused : (k : Refusal) → refused k ≡ month_len c y m → refused k ≡ of_date c y m d x
+  len_refused k e = rw (by_len, ← e) (sym (then_refused k _))
 
-  pub valid-refused : (k : Refusal) → refused k ≡ valid_bs c y m d → refused k ≡ of_date c y m d x
-  valid-refused k e = rw (by-valid, ← e) (sym (then_refused k _))
+  pub valid_refused : (k : Refusal) → refused k ≡ valid_bs c y m d → refused k ≡ of_date c y m d x
+  valid_refused k e = rw (by_valid, ← e) (sym (then_refused k _))
 
 -- a date that one question refuses every other refuses
 pub date_refused : {A B : Type 0} (c : Calendar) (y m d : ℕ) (x : A) (z : B) (k : Refusal) → refused k ≡ of_date c y m d x → refused k ≡ of_date c y m d z
 unfolding then
-date_refused {A} {B} c y m d x z k e = go (valid_bs c y m d) (e ∙ by-valid c y m d x) ∙ sym (by-valid c y m d z)
+date_refused {A} {B} c y m d x z k e = go (valid_bs c y m d) (e ∙ by_valid c y m d x) ∙ sym (by_valid c y m d z)
   where
     go : (a : Answer Unit) → refused k ≡ then a (λ u. answered x) → refused k ≡ then a (λ u. answered z)
     go (answered u) q = absurd (refused_answered (sym q) refl)
@@ -137,16 +137,16 @@ date_refused {A} {B} c y m d x z k e = go (valid_bs c y m d) (e ∙ by-valid c y
 
 pub valid_told : (c : Calendar) (y m d : ℕ) → answered tt ≡ valid_bs c y m d → Valid c y m d
 unfolding valid_bs
-valid_told c y m d e = (in-date c y m d tt (sym e)).0
+valid_told c y m d e = (in_date c y m d tt (sym e)).0
 
 -- exactly the dates have a number
 pub converts : (c : Calendar) (y m d : ℕ) → Valid c y m d → to_day c y m d ≡ answered (day_at c (y - c.first) (m - 1) (d - 1))
 unfolding to_day
-converts c y m d v = of-date c y m d _ v
+converts c y m d v = of_date_law c y m d _ v
 
 pub converted : (c : Calendar) (y m d n : ℕ) → to_day c y m d ≡ answered n → Valid c y m d
 unfolding to_day
-converted c y m d n e = (in-date c y m d _ e).0
+converted c y m d n e = (in_date c y m d _ e).0
 
 -- ---- a day of the table
 pub record OnTable (c : Calendar) (n : ℕ) : Type 0 where
@@ -186,17 +186,17 @@ module _ (c : Calendar) (i r n : ℕ) (hi : i < c.years) (hr : r < year_len c i)
       let w : Within (year_len c) c.years (sum (year_len c) i + r) i = record { below = hi; from = omega arith; to = omega arith } in
       rw (a, last_is (year_len c) c.years _ i w, b)
 
-  before-end : n < end c
-  before-end = omega (arith, sum_past (year_len c) i c.years hi)
+  before_end : n < end c
+  before_end = omega (arith, sum_past (year_len c) i c.years hi)
 
   pub from_in : c.good ≡ true → from_day c n ≡ answered (date_in_year c i r)
-  from_in g = found c n (record { good = g; from = omega arith; to = before-end }) ∙ ap answered in_year
+  from_in g = found c n (record { good = g; from = omega arith; to = before_end }) ∙ ap answered in_year
 
-  pub placed-in : placed c n ≡ P.Inside (date_in_year c i r)
+  pub placed_in : placed c n ≡ P.Inside (date_in_year c i r)
   unfolding placed
-  placed-in =
+  placed_in =
       let a : c.start ≤ n = omega arith in
-      simp (le-ltb _ _ a, lt-ltb _ _ before-end, in_year)
+      simp (le-ltb _ _ a, lt-ltb _ _ before_end, in_year)
 
 -- the date in a year
 pub date_is : (c : Calendar) (i m d r : ℕ) → Within (c.len i) 12 r m → r ≡ sum (c.len i) m + d → date_in_year c i r ≡ date_at c i m d
@@ -326,27 +326,27 @@ from_placed c n g = given_on c.good BadTable _ g ∙ go (leb c.start n) refl (lt
 -- ---- how far outside
 module _ (c : Calendar) (n : ℕ) (g : c.good ≡ true) where
   pub from_before : n < c.start → from_day c n ≡ refused (Before (c.start - n))
-  from-before h = from_placed c n g ∙ ap inside_only (placed_before c n h)
+  from_before h = from_placed c n g ∙ ap inside_only (placed_before c n h)
 
   pub from_after : end c ≤ n → from_day c n ≡ refused (After (n - end c + 1))
-  from-after h = let e : n ≡ end c + (n - end c) = omega arith in from_placed c n g ∙ ap inside_only (placed_after c n (n - end c) e)
+  from_after h = let e : n ≡ end c + (n - end c) = omega arith in from_placed c n g ∙ ap inside_only (placed_after c n (n - end c) e)
 
   -- what is told is exact
-  pub before-told : (k : ℕ) → from_day c n ≡ refused (Before k) → (n + k ≡ c.start) × (n < c.start)
-  before-told k e =
+  pub before_told : (k : ℕ) → from_day c n ≡ refused (Before k) → (n + k ≡ c.start) × (n < c.start)
+  before_told k e =
       ⊎_elim
       (λ l. ⊎_elim
-      (λ m. absurd (let z = after_before (sym (from-after m) ∙ e) in let q : ⊥ = omega arith in q))
+      (λ m. absurd (let z = after_before (sym (from_after m) ∙ e) in let q : ⊥ = omega arith in q))
       (λ m. absurd (refused_answered e (found c n (record { good = g; from = l; to = m })))) (split (end c) n))
-      (λ l. let z = same_before (sym (from-before l) ∙ e) in (omega arith, l)) (split c.start n)
+      (λ l. let z = same_before (sym (from_before l) ∙ e) in (omega arith, l)) (split c.start n)
 
-  pub after-told : (k : ℕ) → from_day c n ≡ refused (After k) → (n + 1 ≡ end c + k) × (end c ≤ n)
-  after-told k e =
+  pub after_told : (k : ℕ) → from_day c n ≡ refused (After k) → (n + 1 ≡ end c + k) × (end c ≤ n)
+  after_told k e =
       ⊎_elim
       (λ l. ⊎_elim
-      (λ m. let z = same_after (sym (from-after m) ∙ e) in (omega arith, m))
+      (λ m. let z = same_after (sym (from_after m) ∙ e) in (omega arith, m))
       (λ m. absurd (refused_answered e (found c n (record { good = g; from = l; to = m })))) (split (end c) n))
-      (λ l. absurd (let z = before_after (sym (from-before l) ∙ e) in let q : ⊥ = omega arith in q)) (split c.start n)
+      (λ l. absurd (let z = before_after (sym (from_before l) ∙ e) in let q : ⊥ = omega arith in q)) (split c.start n)
 
 pub outside_number : (c : Calendar) (n : ℕ) → number (outside c n) ≡ 7
 unfolding outside

@@ -45,8 +45,8 @@ module _ (rows : List ℕ) (i until day : ℕ) (p : Passed) (r : Reached rows i 
             (split (p.row + 1) i);
       }
 
-  pub reached-more : (days : ℕ) → days ≡ row_days rows (i + 1) → let q = further_of p (i + 1) days until day in Reached rows (i + 1) until day q.row q.before
-  reached-more days e = go (leb (i + 1) until) refl (leb days day) refl
+  pub reached_more : (days : ℕ) → days ≡ row_days rows (i + 1) → let q = further_of p (i + 1) days until day in Reached rows (i + 1) until day q.row q.before
+  reached_more days e = go (leb (i + 1) until) refl (leb days day) refl
     where
       go : (a : Bool) → leb (i + 1) until ≡ a → (b : Bool) → leb days day ≡ b → let q = advance (a && b) p (i + 1) days in Reached rows (i + 1) until day q.row q.before
       go true f true g = record { among = omega arith; to = leb-true _ _ f; days = e; day_to = leb-true _ _ g; next = λ h k. absurd (omega arith) }
@@ -78,7 +78,7 @@ going_more rows i until day len p g s h =
       days = f ∙ e;
       least = rw f (omega (arith, g.least));
       most = rw f (omega (arith, g.most, s.most));
-      reached = reached-more rows i until day p g.reached (p.days + len) e;
+      reached = reached_more rows i until day p g.reached (p.days + len) e;
     }
 
 -- and over all of them

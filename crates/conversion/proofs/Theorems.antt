@@ -30,22 +30,22 @@ pub matched : (c : Calendar) → Ad.Served c → OneToOne c
 unfolding to_ad from_ad valid_bs month_len
 matched c s =
     record {
-      to = λ y m d b. let v = bs_valid c y m d s.good b in let e = Ad.to-ad c s y m d v in (_, (e, Ad.ad-table c s y m d _ e));
-      from = λ x d. let e = Ad.ad-inside c s x d in (e.0, (e.1, valid_bs_law c _ _ _ (Ad.ad-valid c s _ _ _ _ (Ad.ad-from-to c s _ _ _ _ e.1))));
-      to_from = Ad.ad-to-from c s;
-      from_to = Ad.ad-from-to c s;
-      to_order = Ad.ad-order c s;
-      from_order = λ a b p q e f. let h = Ad.ad-order c s p q a b (Ad.ad-from-to c s _ _ _ _ e) (Ad.ad-from-to c s _ _ _ _ f) in (h.1, h.0);
-      no_year = λ y m d h. Days.no-year c y m _ s.good (λ f t. h (f, t));
+      to = λ y m d b. let v = bs_valid c y m d s.good b in let e = Ad.to_ad_law c s y m d v in (_, (e, Ad.ad_table c s y m d _ e));
+      from = λ x d. let e = Ad.ad_inside c s x d in (e.0, (e.1, valid_bs_law c _ _ _ (Ad.ad_valid c s _ _ _ _ (Ad.ad_from_to c s _ _ _ _ e.1))));
+      to_from = Ad.ad_to_from c s;
+      from_to = Ad.ad_from_to c s;
+      to_order = Ad.ad_order c s;
+      from_order = λ a b p q e f. let h = Ad.ad_order c s p q a b (Ad.ad_from_to c s _ _ _ _ e) (Ad.ad_from_to c s _ _ _ _ f) in (h.1, h.0);
+      no_year = λ y m d h. Days.no_year c y m _ s.good (λ f t. h (f, t));
       no_month = λ y m d p h. Days.no_month c y m _ s.good p.0 p.1 (λ f t. h (f, t));
-      no_day_law = λ y m d p q h. Days.no-day c y m d _ (in_table c y m s.good p q) (λ f t. h (f, t));
+      no_day_law = λ y m d p q h. Days.no_day_law c y m d _ (in_table c y m s.good p q) (λ f t. h (f, t));
       no_date = λ y m d h. given_on c.good BadTable _ s.good ∙ given_off (is_date y m d) NoSuchDate _ h;
-      out = Ad.ad-outside c s;
-      before = Ad.ad-before c s;
-      after = Ad.ad-after c s;
+      out = Ad.ad_outside c s;
+      before = Ad.ad_before c s;
+      after = Ad.ad_after c s;
       valid = λ y m d. simp (given_then, then_answered);
-      len = λ y m p q. Days.of-month c y m _ (in_table c y m s.good p q);
-      len_no_year = λ y m h. Days.no-year c y m _ s.good (λ f t. h (f, t));
+      len = λ y m p q. Days.of_month_law c y m _ (in_table c y m s.good p q);
+      len_no_year = λ y m h. Days.no_year c y m _ s.good (λ f t. h (f, t));
       len_no_month = λ y m p h. Days.no_month c y m _ s.good p.0 p.1 (λ f t. h (f, t));
     }
 
@@ -68,17 +68,17 @@ no_table t rows e =
 pub extended : (c e : Calendar) → Longer.Extends c e → DatesStay c e
 extended c e x =
     record {
-      len = Longer.len-longer c e x;
-      valid = Longer.valid-longer c e x;
-      to = Longer.to-longer c e x;
-      from = Longer.from-longer c e x;
-      len_added = Longer.len-added c e x;
-      valid_added = Longer.valid-added c e x;
-      to_added = Longer.to-added c e x;
-      from_added = Longer.from-added c e x;
-      from_before = Longer.ad-before c e x;
-      from_reached = Longer.ad-reached c e x;
-      from_after = Longer.ad-after c e x;
+      len = Longer.len_longer c e x;
+      valid = Longer.valid_longer c e x;
+      to = Longer.to_longer c e x;
+      from = Longer.from_longer c e x;
+      len_added = Longer.len_added c e x;
+      valid_added = Longer.valid_added c e x;
+      to_added = Longer.to_added c e x;
+      from_added = Longer.from_added c e x;
+      from_before = Longer.ad_before c e x;
+      from_reached = Longer.ad_reached c e x;
+      from_after = Longer.ad_after c e x;
     }
 
 -- for every accepted table, and the same with more rows where that is accepted too

@@ -17,9 +17,9 @@ use Rattle.convert.specs.declared.line.Line.TheVariants.{Bs, Ad, Other}
 -- ---- the code's line
 
 module _ (s : List ℕ) where
-  pub form-bs : {t : List ℕ} → past bs_tag s ≡ got tt t → as_bs (ended (numbers 0 0 t)) ≡ line_form s
+  pub form_bs : {t : List ℕ} → past bs_tag s ≡ got tt t → as_bs (ended (numbers 0 0 t)) ≡ line_form s
   unfolding line_form
-  form-bs e = rw e
+  form_bs e = rw e
 
   module _ (e : past bs_tag s ≡ no) where
     pub form-ad : {t : List ℕ} → past ad_tag s ≡ got tt t → as_ad (ended (numbers 4 2 t)) ≡ line_form s
@@ -55,8 +55,8 @@ end_nil [] e = refl
 end_nil (x ∷ s) e = absurd (true≢false (sym e))
 
 module _ (w : Way (ℕ × (ℕ × ℕ))) where
-  ended-back : (x : ℕ × (ℕ × ℕ)) → w.ok x → ended (w.reads (w.write x)) ≡ Are x.0 x.1.0 x.1.1
-  ended-back x h =
+  ended_back : (x : ℕ × (ℕ × ℕ)) → w.ok x → ended (w.reads (w.write x)) ≡ Are x.0 x.1.0 x.1.1
+  ended_back x h =
       let e : w.reads (w.write x) ≡ got x [] = ap w.reads (sym (append-nil (w.write x))) ∙ w.back x [] h refl in
       rw e
 
@@ -64,8 +64,8 @@ module _ (w : Way (ℕ × (ℕ × ℕ))) where
     ok : w.ok (y, (m, d))
     text : s ≡ w.write (y, (m, d))
 
-  ended-only : (s : List ℕ) (y m d : ℕ) → ended (w.reads s) ≡ Are y m d → Written s y m d
-  ended-only s y m d e = go (w.reads s) refl e
+  ended_only : (s : List ℕ) (y m d : ℕ) → ended (w.reads s) ≡ Are y m d → Written s y m d
+  ended_only s y m d e = go (w.reads s) refl e
     where
       last : (x : ℕ × (ℕ × ℕ)) (t : List ℕ) → w.reads s ≡ got x t → (f : Bool) → is_end t ≡ f → cond f (Are x.0 x.1.0 x.1.1) Not ≡ Are y m d → Written s y m d
       last x t p true f q =
@@ -83,13 +83,13 @@ module _ (w : Way (ℕ × (ℕ × ℕ))) where
 -- a line that is the writing of three numbers is read as these
 pub line_bs : (s : List ℕ) (y m d : ℕ) → IsBs s y m d → line_form s ≡ Bs y m d
 line_bs s y m d h =
-    sym (form-bs s (ap (past bs_tag) h.same ∙ past_append bs_tag (numbers_text 0 0 y m d)))
-    ∙ ap as_bs (ended-back bs_way (y, (m, d)) (h.year, (h.month, h.day)))
+    sym (form_bs s (ap (past bs_tag) h.same ∙ past_append bs_tag (numbers_text 0 0 y m d)))
+    ∙ ap as_bs (ended_back bs_way (y, (m, d)) (h.year, (h.month, h.day)))
 
 pub line_ad : (s : List ℕ) (y m d : ℕ) → IsAd s y m d → line_form s ≡ Ad y m d
 line_ad s y m d h =
     sym (form-ad s (ap (past bs_tag) h.same) (ap (past ad_tag) h.same ∙ past_append ad_tag (numbers_text 4 2 y m d)))
-    ∙ ap as_ad (ended-back ad_way (y, (m, d)) (h.year, (h.month, h.day)))
+    ∙ ap as_ad (ended_back ad_way (y, (m, d)) (h.year, (h.month, h.day)))
 
 no_bs_law : {l : Line} {y m d : ℕ} → l ≡ Bs y m d → l ≡ Other → ⊥
 no_bs_law e f = let z : ◌≡◌ {A = ℕ} 0 1 = cc in omega arith
@@ -106,14 +106,14 @@ line_is s = first (past bs_tag s) refl
   where
     as-bs : (t : List ℕ) → past bs_tag s ≡ got tt t → (n : Numbers) → ended (numbers 0 0 t) ≡ n → LineIs s (line_form s)
     as-bs t e (Are y m d) q =
-        let w = ended-only bs_way t y m d q in
-        subst (LineIs s) (ap as_bs (sym q) ∙ form-bs s e)
+        let w = ended_only bs_way t y m d q in
+        subst (LineIs s) (ap as_bs (sym q) ∙ form_bs s e)
         (record { year = w.ok.0; month = w.ok.1.0; day = w.ok.1.1; same = append_past bs_tag s t e ∙ ap (λ (x : List ℕ). bs_tag ++ x) w.text })
-    as-bs t e Not q = is_other s (sym (form-bs s e) ∙ ap as_bs q)
+    as-bs t e Not q = is_other s (sym (form_bs s e) ∙ ap as_bs q)
 
     as-ad : past bs_tag s ≡ no → (t : List ℕ) → past ad_tag s ≡ got tt t → (n : Numbers) → ended (numbers 4 2 t) ≡ n → LineIs s (line_form s)
     as-ad b t e (Are y m d) q =
-        let w = ended-only ad_way t y m d q in
+        let w = ended_only ad_way t y m d q in
         subst (LineIs s) (ap as_ad (sym q) ∙ form-ad s b e)
         (record { year = w.ok.0; month = w.ok.1.0; day = w.ok.1.1; same = append_past ad_tag s t e ∙ ap (λ (x : List ℕ). ad_tag ++ x) w.text })
     as-ad b t e Not q = is_other s (sym (form-ad s b e) ∙ ap as_ad q)

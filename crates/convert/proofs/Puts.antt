@@ -17,11 +17,11 @@ use Rattle.asked.specs.Runs.{TurnDone}
 use Rattle.convert.specs.Replies.{reply_to, gather_reply, converting}
 
 module _ {l : List ℕ} {i : ℕ} {m : List ℕ} {p : ℕ} (w n : ℕ) where
-  pub fewest-put : w ≡ 0 → Wrote l i (digits n) m p → Wrote l i (number_text w n) m p
-  fewest-put e a = rw e a
+  pub fewest_put : w ≡ 0 → Wrote l i (digits n) m p → Wrote l i (number_text w n) m p
+  fewest_put e a = rw e a
 
-  pub wide-put : (w ≡ 0 → ⊥) → Wrote l i (run 10 w n) m p → Wrote l i (number_text w n) m p
-  wide-put z a = rw (same w z) a
+  pub wide_put : (w ≡ 0 → ⊥) → Wrote l i (run 10 w n) m p → Wrote l i (number_text w n) m p
+  wide_put z a = rw (same w z) a
     where
       same : (w : ℕ) → (w ≡ 0 → ⊥) → number_text w n ≡ run 10 w n
       same zero z = absurd (z refl)

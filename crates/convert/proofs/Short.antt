@@ -26,8 +26,8 @@ use Rattle.conversion.specs.Flat.{date, row_ok, accepted}
 use Rattle.conversion.specs.Own.{own_table, own_rows, own}
 use Rattle.conversion.proofs.Accepted.{facts}
 use Rattle.conversion.proofs.Rows.{row_lens}
-use Rattle.conversion.proofs.Days.{before-told, after-told}
-use Rattle.conversion.proofs.Ad.{served, is_real, ad-valid, ad-from-to, ad-refused}
+use Rattle.conversion.proofs.Days.{before_told, after_told}
+use Rattle.conversion.proofs.Ad.{served, is_real, ad_valid, ad_from_to, ad_refused}
 use Rattle.gregorian.proofs.Laws.{all_number, number_above, number_below}
 use Rattle.convert.specs.Lines.{number_text, numbers_text, line_form, LineIs}
 use Rattle.convert.specs.declared.line.Line.{Line}
@@ -48,7 +48,7 @@ good = refl
 own_small : (y m d : ℕ) (t : BsDate) → from_ad own y m d ≡ answered t → (t.year < 65536) × (t.month < 65536) × (t.day < 65536)
 own_small y m d t e =
     let s = served own_table own_rows good in
-    let v = ad-valid own s t.year t.month t.day (date y m d) (ad-from-to own s y m d t e) in
+    let v = ad_valid own s t.year t.month t.day (date y m d) (ad_from_to own s y m d t e) in
     let k = v.month in
     let r = (facts own_table own_rows good).row (t.year - 100) (omega (arith, k.year_from, k.year_to)) in
     let l = row_lens own_rows (t.year - 100) (t.month - 1) r (omega (arith, k.month_from, k.month_to)) in
@@ -125,14 +125,14 @@ outside_short y m d R.NoYear e = omega arith
 outside_short y m d R.NoMonth e = omega arith
 outside_short y m d R.NoDay e = omega arith
 outside_short y m d (R.Before j) e =
-    let a = ad-refused own y m d (R.Before j) good refl e in
-    let b = before-told own (day_number (date y m d)) good j a.1 in
+    let a = ad_refused own y m d (R.Before j) good refl e in
+    let b = before_told own (day_number (date y m d)) good j a.1 in
     let s = served own_table own_rows good in
     let n : j < 100000 = omega (arith, b.0, s.some, s.to, all_number, number_above (date y m d)) in
     omega (arith, digits_short j n, length-append (bytes "-") (digits j))
 outside_short y m d (R.After j) e =
-    let a = ad-refused own y m d (R.After j) good refl e in
-    let b = after-told own (day_number (date y m d)) good j a.1 in
+    let a = ad_refused own y m d (R.After j) good refl e in
+    let b = after_told own (day_number (date y m d)) good j a.1 in
     let s = served own_table own_rows good in
     let n : j < 100000 = omega (arith, b.0, s.some, s.from, all_number, number_below (date y m d) (is_real (date y m d) a.0)) in
     omega (arith, digits_short j n)

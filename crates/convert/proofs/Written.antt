@@ -40,9 +40,9 @@ room_within l at h = go (leb (at + 80) (length l))
 -- ---- a reply
 
 module _ (x : Told) (s : List ℕ) (f : Fits x.gathered) where
-  reply-told : told_bytes (told_reply x s) ≡ told_bytes x ++ reply_to s
+  reply_told : told_bytes (told_reply x s) ≡ told_bytes x ++ reply_to s
   unfolding gather_reply stored room
-  reply-told = go (leb (x.gathered.at + 80) (length x.gathered.buffer)) refl
+  reply_told = go (leb (x.gathered.at + 80) (length x.gathered.buffer)) refl
     where
       go : (b : Bool) → leb (x.gathered.at + 80) (length x.gathered.buffer) ≡ b
           → (write_unless b x).written
@@ -54,9 +54,9 @@ module _ (x : Told) (s : List ℕ) (f : Fits x.gathered) where
           ∙ sym (append_assoc x.written (take x.gathered.at x.gathered.buffer) (reply_to s))
       go false e = ap (λ (t : List ℕ). told_bytes x ++ t) (whole_there x.gathered.buffer (reply_to s) 0 (omega (arith, f.space, reply_short s)))
 
-  reply-fits : Fits (told_reply x s).gathered
+  reply_fits : Fits (told_reply x s).gathered
   unfolding gather_reply stored
-  reply-fits =
+  reply_fits =
       let l = x.gathered.buffer in
       let a = room 80 l x.gathered.at in
       record {
@@ -81,8 +81,8 @@ told_after_law [] x f = sym (append-nil (told_bytes x))
 told_after_law (l ∷ ls) x f =
     let s = handed l.line in
     let y = told_reply x s in
-    told_after_law ls (write_unless l.more y) (write_fits l.more y (reply-fits x s f))
-    ∙ (ap (λ (t : List ℕ). t ++ replies ls) (write_told l.more y ∙ reply-told x s f) ∙ append_assoc (told_bytes x) (reply_to s) (replies ls))
+    told_after_law ls (write_unless l.more y) (write_fits l.more y (reply_fits x s f))
+    ∙ (ap (λ (t : List ℕ). t ++ replies ls) (write_told l.more y ∙ reply_told x s f) ∙ append_assoc (told_bytes x) (reply_to s) (replies ls))
 
 -- a reply ends no line of words
 gathers_next_law : (x : Told) (l : Came) → (write_unless l.more (told_reply x (handed l.line))).gathered ≡ gathers_next converting tt x.gathered l

@@ -29,18 +29,18 @@ use Rattle.desk.specs.Keeping.{start_told, done_told, asked_if, state_in, keeps,
 
 module _ {before : List ℕ} {o : Out} {after : List ℕ} {r : Said} where
   -- a state is kept
-  pub says-kept : {words : List (List ℕ)} {k : Kept} {τ : State} → r.keeper ≡ keeps k → Holds k τ → Gathers before o words after r.out
+  pub says_kept : {words : List (List ℕ)} {k : Kept} {τ : State} → r.keeper ≡ keeps k → Holds k τ → Gathers before o words after r.out
       → Says before o (record { words = words; state = some τ }) after r
-  says-kept e h g = record { words = g; state = rw e (ap some h.state); sound = rw e (λ q. h.ready) }
+  says_kept e h g = record { words = g; state = rw e (ap some h.state); sound = rw e (λ q. h.ready) }
 
   -- none is
   pub says_none : {words : List (List ℕ)} → r.keeper.has ≡ false → Gathers before o words after r.out
       → Says before o (record { words = words; state = none }) after r
   says_none e g = record { words = g; state = rw e; sound = λ q. absurd (true≢false (sym q ∙ e)) }
 
-  pub says-done : {d : Done} {w : Outcome} → DoneAs d w → r.keeper ≡ keeps d.state
+  pub says_done : {d : Done} {w : Outcome} → DoneAs d w → r.keeper ≡ keeps d.state
       → Gathers before o (reply_words (said (λ x. R.Good) (valid_says d.answer))) after r.out → Says before o (done_told w) after r
-  says-done h e g = says-kept e h.holds (rw h.answer at g)
+  says_done h e g = says_kept e h.holds (rw h.answer at g)
 
 -- a question without a state
 pub asked_none : (k : Keeper) (rules : List ℕ) (w : Words) (q : Question) → k.has ≡ false
@@ -69,10 +69,10 @@ module _ {before : List ℕ} {o : Out} {after : List ℕ} {r : Said} {s : Starte
   unfolding start
   begun e q g =
       let told = sym (ap valid_says e) in
-      rw (given_good (startable t) BadTable (blank t) (told ∙ h.answer)) (says-kept q (h.ready (sym told)) g)
+      rw (given_good (startable t) BadTable (blank t) (told ∙ h.answer)) (says_kept q (h.ready (sym told)) g)
 
-  pub not-begun : {why : Refusal} → s.answer ≡ VA.Refused why → r.keeper.has ≡ false → Gathers before o (reply_words (R.Refused why)) after r.out
+  pub not_begun : {why : Refusal} → s.answer ≡ VA.Refused why → r.keeper.has ≡ false → Gathers before o (reply_words (R.Refused why)) after r.out
       → Says before o (start_told (start t)) after r
   unfolding start
-  not-begun {why} e q g =
+  not_begun {why} e q g =
       rw (given_bad (startable t) BadTable why (blank t) (sym (ap valid_says e) ∙ h.answer)) (says_none q g)

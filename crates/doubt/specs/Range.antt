@@ -7,7 +7,7 @@ use Rattle.conversion.specs.Calendar.{Calendar}
 use Rattle.rules.specs.declared.Rule.{Rule}
 use Rattle.output.specs.Pieces.{Text, put_pieces}
 use Rattle.doubtful.specs.Tallies.{count_pieces}
-use Rattle.doubtful.specs.Years.{Sheet, yearsPage}
+use Rattle.doubtful.specs.Years.{Sheet, years_page}
 
 -- which years were asked
 unfoldable pub range_pieces : ℕ → ℕ → List Text
@@ -19,4 +19,4 @@ summed first last s = put_pieces s.written (range_pieces first last ++ count_pie
 
 -- the years from the first to the last, which they are, and their counts
 unfoldable pub asked_page : Calendar → List Rule → List ℕ → ℕ → ℕ → Sheet → Gathered
-asked_page c rules names first last s = summed first last (yearsPage c rules names first (last + 1 - first) s)
+asked_page c rules names first last s = summed first last (years_page c rules names first (last + 1 - first) s)

@@ -32,9 +32,9 @@ use Rattle.festivals.specs.declared.months.YearDays.{YearDays}
 use Rattle.festivals.specs.declared.months.YearDays.TheVariants as YD
 use Rattle.notes.specs.Near.{dated_moon, dated_says, nearness, near_says}
 use Rattle.output.specs.Pieces.{Text, put_pieces, Puts}
-use Rattle.notes.specs.Lines.{moment_pieces, opening_pieces, none_pieces, rulesPieces, besidePieces}
+use Rattle.notes.specs.Lines.{moment_pieces, opening_pieces, none_pieces, rules_pieces, beside_pieces}
 use Rattle.doubtful.specs.Tallies.{Tally, tally_of, with_heading, one_more, doubted, unopened, heading_pieces}
-use Rattle.doubtful.specs.Years.{Sheet, sheet, under, nearLine, datedLine, monthLine, monthLines, opensMonth, openedAt, lengthLine, placedLine, day_line, moonLine, moonLines, daysPage, yearPage, yearsPage}
+use Rattle.doubtful.specs.Years.{Sheet, sheet, under, near_line, dated_line, month_line, month_lines, opens_month, opened_at, lengthLine, placedLine, day_line, moonLine, moonLines, daysPage, year_page, years_page}
 use Rattle.doubtful.specs.Inner.{with_out, Opened, has_place, opens_place}
 use Rattle.doubtful.specs.declared.page.Page.{Page}
 use Rattle.notes.specs.declared.moons.Dated.{Dated}
@@ -60,33 +60,33 @@ emptied h o n = record { out = o; headed = true; near = h.near; first = h.first;
 
 -- the heading, then lines, then what they count
 module _ (p : Page) (y : ℕ) (h : Page) {l k : List ℕ} {pieces : List Text} {m : List ℕ} (w : Puts l p.out (heading_pieces p.headed y) k h.out) (e : tally_of h ≡ with_heading true (tally_of p)) where
-  pub doubted-sheet : (r : Page) (near first opens : Bool) → Puts k h.out pieces m r.out → tally_of r ≡ doubted near first opens (tally_of h) → sheet m r ≡ under y pieces (doubted near first opens) (sheet l p)
+  pub doubted_sheet : (r : Page) (near first opens : Bool) → Puts k h.out pieces m r.out → tally_of r ≡ doubted near first opens (tally_of h) → sheet m r ≡ under y pieces (doubted near first opens) (sheet l p)
   unfolding doubted
-  doubted-sheet r near first opens v f = under_sheet l p y pieces m r (doubted near first opens) (then w v) (f ∙ ap (doubted near first opens) e)
+  doubted_sheet r near first opens v f = under_sheet l p y pieces m r (doubted near first opens) (then w v) (f ∙ ap (doubted near first opens) e)
 
-  pub unopened-sheet : (o : Out) (n : ℕ) → Puts k h.out pieces m o → n ≡ one_more h.empty → sheet m (emptied h o n) ≡ under y pieces unopened (sheet l p)
+  pub unopened_sheet : (o : Out) (n : ℕ) → Puts k h.out pieces m o → n ≡ one_more h.empty → sheet m (emptied h o n) ≡ under y pieces unopened (sheet l p)
   unfolding unopened
-  unopened-sheet o n v f = under_sheet l p y pieces m (emptied h o n) unopened (then w v) (rw f (ap unopened e))
+  unopened_sheet o n v f = under_sheet l p y pieces m (emptied h o n) unopened (then w v) (rw f (ap unopened e))
 
 -- ---- a new moon on a date
 
 module _ (rules : List Rule) (names : List ℕ) (x : Float) (n : ℕ) (t : BsDate) (opens : Bool) (len : ℕ) (s : Sheet) (q : Nearness) (e : near_says q ≡ nearness x n t.day len) where
-  near-is : {d : Option (Bool × ℕ)} → near_says q ≡ d → nearLine rules names x n t opens d s ≡ datedLine rules names x n t opens len s
-  unfolding datedLine
-  near-is g = ap (λ (d : Option (Bool × ℕ)). nearLine rules names x n t opens d s) (sym g ∙ e)
+  near_is : {d : Option (Bool × ℕ)} → near_says q ≡ d → near_line rules names x n t opens d s ≡ dated_line rules names x n t opens len s
+  unfolding dated_line
+  near_is g = ap (λ (d : Option (Bool × ℕ)). near_line rules names x n t opens d s) (sym g ∙ e)
 
-  pub dated-beside : {after : Bool} {minutes : ℕ} → q ≡ N.Beside after minutes → under t.year (moment_pieces x n ++ besidePieces rules names t opens after minutes) (doubted true after opens) s ≡ datedLine rules names x n t opens len s
-  dated-beside g = near-is (ap near_says g)
+  pub dated_beside : {after : Bool} {minutes : ℕ} → q ≡ N.Beside after minutes → under t.year (moment_pieces x n ++ beside_pieces rules names t opens after minutes) (doubted true after opens) s ≡ dated_line rules names x n t opens len s
+  dated_beside g = near_is (ap near_says g)
 
-  pub dated-far : q ≡ N.Far → opens ≡ false → under t.year (moment_pieces x n ++ opening_pieces t opens) (doubted false false opens) s ≡ datedLine rules names x n t opens len s
-  dated-far g o =
-      let f : under t.year (moment_pieces x n ++ opening_pieces t opens) (doubted false false opens) s ≡ nearLine rules names x n t opens none s = rw o in
-      f ∙ near-is (ap near_says g)
+  pub dated_far : q ≡ N.Far → opens ≡ false → under t.year (moment_pieces x n ++ opening_pieces t opens) (doubted false false opens) s ≡ dated_line rules names x n t opens len s
+  dated_far g o =
+      let f : under t.year (moment_pieces x n ++ opening_pieces t opens) (doubted false false opens) s ≡ near_line rules names x n t opens none s = rw o in
+      f ∙ near_is (ap near_says g)
 
-  pub dated-plain : q ≡ N.Far → opens ≡ true → s ≡ datedLine rules names x n t opens len s
-  dated-plain g o =
-      let f : s ≡ nearLine rules names x n t opens none s = rw o in
-      f ∙ near-is (ap near_says g)
+  pub dated_plain : q ≡ N.Far → opens ≡ true → s ≡ dated_line rules names x n t opens len s
+  dated_plain g o =
+      let f : s ≡ near_line rules names x n t opens none s = rw o in
+      f ∙ near_is (ap near_says g)
 
 -- ---- the places of the months
 
@@ -101,8 +101,8 @@ month_ok_law c y m e =
 month_twelve : (m : ℕ) → month_ok m ≡ true → (1 ≤ m) × (m ≤ 12)
 month_twelve m e = (leb-true 1 m (and_left (leb 1 m) (leb m 12) e), leb-true m 12 (and_right (leb 1 m) (leb m 12) e))
 
-opens_same : (c : Calendar) (y z m : ℕ) (x : Float) (places : Months) {len : ℕ} → Opened c y places → month_len c z m ≡ answered len → opens_place places m x ≡ opensMonth c y m x
-unfolding opens_place opensMonth
+opens_same : (c : Calendar) (y z m : ℕ) (x : Float) (places : Months) {len : ℕ} → Opened c y places → month_len c z m ≡ answered len → opens_place places m x ≡ opens_month c y m x
+unfolding opens_place opens_month
 opens_same c y z m x places h e =
     let o = month_ok_law c z m e in
     let t = month_twelve m o in
@@ -127,8 +127,8 @@ pub opens_after : (places : Months) (m : ℕ) (x : Float) → 1 ≤ m → 12 < m
 unfolding opens_place
 opens_after places m x h k = rw (le-leb 1 m h, lt-leb m 12 k)
 
-pub opened_same : (c : Calendar) (y : ℕ) (places : Months) → Opened c y places → (j : ℕ) → j < 12 → has_place places j ≡ openedAt c y j
-unfolding openedAt month_at holds
+pub opened_same : (c : Calendar) (y : ℕ) (places : Months) → Opened c y places → (j : ℕ) → j < 12 → has_place places j ≡ opened_at c y j
+unfolding opened_at month_at holds
 opened_same c y places h j l = has (get_or places.has j false) ∙ ap (λ (o : Option Float). holds o (λ x. true)) (h j l)
   where
     has : (b : Bool) → b ≡ holds (cond b (some (get_or places.moon j nan)) none) (λ x. true)
@@ -138,18 +138,18 @@ opened_same c y places h j l = has (get_or places.has j false) ∙ ap (λ (o : O
 -- ---- a new moon in a month
 
 module _ (c : Calendar) (y : ℕ) (rules : List Rule) (names : List ℕ) (x : Float) (n : ℕ) (t : BsDate) (s : Sheet) (q : MonthDays) (e : days_says q ≡ month_len c t.year t.month) where
-  placed-is : {a : Answer ℕ} → days_says q ≡ a → lengthLine c y rules names x n t a s ≡ placedLine c y rules names x n t s
+  placed_is : {a : Answer ℕ} → days_says q ≡ a → lengthLine c y rules names x n t a s ≡ placedLine c y rules names x n t s
   unfolding placedLine
-  placed-is g = ap (λ (a : Answer ℕ). lengthLine c y rules names x n t a s) (sym g ∙ e)
+  placed_is g = ap (λ (a : Answer ℕ). lengthLine c y rules names x n t a s) (sym g ∙ e)
 
-  pub placed-in : {len : ℕ} (places : Months) (opens : Bool) → Opened c y places → q ≡ MD.Days len → opens ≡ opens_place places t.month x
-      → datedLine rules names x n t opens len s ≡ placedLine c y rules names x n t s
-  placed-in {len} places opens h g o =
-      ap (λ (b : Bool). datedLine rules names x n t b len s) (o ∙ opens_same c y t.year t.month x places h (sym e ∙ ap days_says g))
-      ∙ placed-is (ap days_says g)
+  pub placed_in : {len : ℕ} (places : Months) (opens : Bool) → Opened c y places → q ≡ MD.Days len → opens ≡ opens_place places t.month x
+      → dated_line rules names x n t opens len s ≡ placedLine c y rules names x n t s
+  placed_in {len} places opens h g o =
+      ap (λ (b : Bool). dated_line rules names x n t b len s) (o ∙ opens_same c y t.year t.month x places h (sym e ∙ ap days_says g))
+      ∙ placed_is (ap days_says g)
 
-  pub placed-refused : {k : Refusal} → q ≡ MD.Refused k → s ≡ placedLine c y rules names x n t s
-  placed-refused g = placed-is (ap days_says g)
+  pub placed_refused : {k : Refusal} → q ≡ MD.Refused k → s ≡ placedLine c y rules names x n t s
+  placed_refused g = placed_is (ap days_says g)
 
 -- ---- a new moon
 
@@ -158,8 +158,8 @@ module _ (c : Calendar) (y : ℕ) (rules : List Rule) (names : List ℕ) (x : Fl
   unfolding moonLine
   line_is g = ap (λ (d : Option (ℕ × BsDate)). day_line c y rules names x d s) (sym g ∙ e)
 
-  pub line-undated : q ≡ D.Nothing → s ≡ moonLine c y rules names x s
-  line-undated g = line_is (ap dated_says g)
+  pub line_undated : q ≡ D.Nothing → s ≡ moonLine c y rules names x s
+  line_undated g = line_is (ap dated_says g)
 
   module _ {n : ℕ} {t : BsDate} (g : q ≡ D.On n t) where
     pub line_other : (t.year ≡ y → ⊥) → s ≡ moonLine c y rules names x s
@@ -175,40 +175,40 @@ module _ (c : Calendar) (y : ℕ) (rules : List Rule) (names : List ℕ) (x : Fl
 -- ---- the loops: what is left comes to the whole
 
 module _ (c : Calendar) (y : ℕ) (rules : List Rule) (names : List ℕ) where
-  pub moons-turn : (l : List Float) (i n : ℕ) → i < n → n ≤ length l → (s u v : Sheet) → u ≡ moonLine c y rules names (get_or l i nan) s → moonLines c y rules names (slice i n l) s ≡ v → moonLines c y rules names (slice (i + 1) n l) u ≡ v
+  pub moons_turn : (l : List Float) (i n : ℕ) → i < n → n ≤ length l → (s u v : Sheet) → u ≡ moonLine c y rules names (get_or l i nan) s → moonLines c y rules names (slice i n l) s ≡ v → moonLines c y rules names (slice (i + 1) n l) u ≡ v
   unfolding moonLines
-  moons-turn l i n h k s u v e q = rw (add-one, e) (rw (slice-cons i n l nan h k) at q)
+  moons_turn l i n h k s u v e q = rw (add-one, e) (rw (slice-cons i n l nan h k) at q)
 
-  moons-none : (l : List Float) (n : ℕ) (s : Sheet) → s ≡ moonLines c y rules names (slice n n l) s
+  moons_none : (l : List Float) (n : ℕ) (s : Sheet) → s ≡ moonLines c y rules names (slice n n l) s
   unfolding moonLines
-  moons-none l n s = rw (slice_empty n l)
+  moons_none l n s = rw (slice_empty n l)
 
-  pub moons-end : (l : List Float) (i n : ℕ) (s v : Sheet) → i ≤ n → n ≤ i → moonLines c y rules names (slice i n l) s ≡ v → s ≡ v
-  moons-end l i n s v h k q = let e : i ≡ n = omega arith in moons-none l n s ∙ (rw e at q)
+  pub moons_end : (l : List Float) (i n : ℕ) (s v : Sheet) → i ≤ n → n ≤ i → moonLines c y rules names (slice i n l) s ≡ v → s ≡ v
+  moons_end l i n s v h k q = let e : i ≡ n = omega arith in moons_none l n s ∙ (rw e at q)
 
 module _ (rules : List Rule) (names : List ℕ) (y : ℕ) where
-  pub months-turn : (opened : ℕ → Bool) (j : ℕ) → j < 12 → (s u v : Sheet) → u ≡ monthLine rules names y (opened j) (j + 1) s → monthLines rules names y opened j (12 - j) s ≡ v → monthLines rules names y opened (j + 1) (12 - (j + 1)) u ≡ v
-  unfolding monthLines
-  months-turn opened j h s u v e q = let k : 12 - j ≡ suc (12 - (j + 1)) = omega arith in rw e (rw k at q)
+  pub months_turn : (opened : ℕ → Bool) (j : ℕ) → j < 12 → (s u v : Sheet) → u ≡ month_line rules names y (opened j) (j + 1) s → month_lines rules names y opened j (12 - j) s ≡ v → month_lines rules names y opened (j + 1) (12 - (j + 1)) u ≡ v
+  unfolding month_lines
+  months_turn opened j h s u v e q = let k : 12 - j ≡ suc (12 - (j + 1)) = omega arith in rw e (rw k at q)
 
-  pub months-none : (opened : ℕ → Bool) (j : ℕ) (s : Sheet) → 12 ≤ j → monthLines rules names y opened j (12 - j) s ≡ s
-  unfolding monthLines
-  months-none opened j s h = let k : 12 - j ≡ 0 = omega arith in rw k
+  pub months_none : (opened : ℕ → Bool) (j : ℕ) (s : Sheet) → 12 ≤ j → month_lines rules names y opened j (12 - j) s ≡ s
+  unfolding month_lines
+  months_none opened j s h = let k : 12 - j ≡ 0 = omega arith in rw k
 
-  pub months-same : (f g : ℕ → Bool) → ((j : ℕ) → j < 12 → f j ≡ g j) → (j k : ℕ) → j + k ≤ 12 → (s : Sheet) → monthLines rules names y f j k s ≡ monthLines rules names y g j k s
-  unfolding monthLines
-  months-same f g h j zero l s = refl
-  months-same f g h j (suc k) l s =
-      ap (λ (b : Bool). monthLines rules names y f (j + 1) k (monthLine rules names y b (j + 1) s)) (h j (omega arith))
-      ∙ months-same f g h (j + 1) k (omega arith) (monthLine rules names y (g j) (j + 1) s)
+  pub months_same : (f g : ℕ → Bool) → ((j : ℕ) → j < 12 → f j ≡ g j) → (j k : ℕ) → j + k ≤ 12 → (s : Sheet) → month_lines rules names y f j k s ≡ month_lines rules names y g j k s
+  unfolding month_lines
+  months_same f g h j zero l s = refl
+  months_same f g h j (suc k) l s =
+      ap (λ (b : Bool). month_lines rules names y f (j + 1) k (month_line rules names y b (j + 1) s)) (h j (omega arith))
+      ∙ months_same f g h (j + 1) k (omega arith) (month_line rules names y (g j) (j + 1) s)
 
-  pub month-opened : (opened : Bool) (m : ℕ) (s : Sheet) → opened ≡ true → s ≡ monthLine rules names y opened m s
-  unfolding monthLine
-  month-opened opened m s e = rw e
+  pub month_opened : (opened : Bool) (m : ℕ) (s : Sheet) → opened ≡ true → s ≡ month_line rules names y opened m s
+  unfolding month_line
+  month_opened opened m s e = rw e
 
-  pub month-empty : (opened : Bool) (m : ℕ) (s : Sheet) → opened ≡ false → under y (none_pieces y m ++ rulesPieces rules names m) unopened s ≡ monthLine rules names y opened m s
-  unfolding monthLine
-  month-empty opened m s e = rw e
+  pub month_empty : (opened : Bool) (m : ℕ) (s : Sheet) → opened ≡ false → under y (none_pieces y m ++ rules_pieces rules names m) unopened s ≡ month_line rules names y opened m s
+  unfolding month_line
+  month_empty opened m s e = rw e
 
 -- ---- a year
 
@@ -222,31 +222,31 @@ places_opened c y e g {xs} f places k j h =
     ∙ opens kathmandu c y _ (sym (ap days_are g) ∙ e) (j + 1)
 
 module _ (c : Calendar) (y : ℕ) (rules : List Rule) (names : List ℕ) (l : List ℕ) (p : Page) (q : YearDays) (e : days_are q ≡ year_days c y) where
-  year_is : {d : Option (ℕ × ℕ)} → days_are q ≡ d → daysPage c y rules names d (sheet l p) ≡ yearPage c y rules names (sheet l p)
-  unfolding yearPage
+  year_is : {d : Option (ℕ × ℕ)} → days_are q ≡ d → daysPage c y rules names d (sheet l p) ≡ year_page c y rules names (sheet l p)
+  unfolding year_page
   year_is g = ap (λ (d : Option (ℕ × ℕ)). daysPage c y rules names d (sheet l p)) (sym g ∙ e)
 
-  pub year-none : q ≡ YD.Nothing → sheet l p ≡ yearPage c y rules names (sheet l p)
-  year-none g = year_is (ap days_are g)
+  pub year_none : q ≡ YD.Nothing → sheet l p ≡ year_page c y rules names (sheet l p)
+  year_none g = year_is (ap days_are g)
 
-  pub year-whole : {a b : ℕ} → q ≡ YD.Days a b → {xs : List Float} → xs ≡ moons_around a b → (places : Months) → Opened c y places → {o : Page} → o ≡ with_out false p p.out → (u v : Sheet)
-      → u ≡ moonLines c y rules names xs (sheet l o) → v ≡ monthLines rules names y (has_place places) 0 12 u → v ≡ yearPage c y rules names (sheet l p)
-  year-whole {a} {b} g {xs} f places h {o} z u v m w =
+  pub year_whole : {a b : ℕ} → q ≡ YD.Days a b → {xs : List Float} → xs ≡ moons_around a b → (places : Months) → Opened c y places → {o : Page} → o ≡ with_out false p p.out → (u v : Sheet)
+      → u ≡ moonLines c y rules names xs (sheet l o) → v ≡ month_lines rules names y (has_place places) 0 12 u → v ≡ year_page c y rules names (sheet l p)
+  year_whole {a} {b} g {xs} f places h {o} z u v m w =
       w
-      ∙ months-same rules names y (has_place places) (openedAt c y) (opened_same c y places h) 0 12 (omega arith) u
-      ∙ ap (monthLines rules names y (openedAt c y) 0 12) (m ∙ ap (λ (r : Page). moonLines c y rules names xs (sheet l r)) z ∙ ap (λ (ms : List Float). moonLines c y rules names ms (sheet l (with_out false p p.out))) f)
+      ∙ months_same rules names y (has_place places) (opened_at c y) (opened_same c y places h) 0 12 (omega arith) u
+      ∙ ap (month_lines rules names y (opened_at c y) 0 12) (m ∙ ap (λ (r : Page). moonLines c y rules names xs (sheet l r)) z ∙ ap (λ (ms : List Float). moonLines c y rules names ms (sheet l (with_out false p p.out))) f)
       ∙ year_is (ap days_are g)
 
 -- ---- years, up to the last
 
 module _ (c : Calendar) (rules : List Rule) (names : List ℕ) where
-  pub years-none : (first last : ℕ) (s : Sheet) → last < first → s ≡ yearsPage c rules names first (last + 1 - first) s
-  unfolding yearsPage
-  years-none first last s h = let e : last + 1 - first ≡ 0 = omega arith in rw e
+  pub years_none : (first last : ℕ) (s : Sheet) → last < first → s ≡ years_page c rules names first (last + 1 - first) s
+  unfolding years_page
+  years_none first last s h = let e : last + 1 - first ≡ 0 = omega arith in rw e
 
-  pub years-turn : (y last : ℕ) → y ≤ last → (s u v : Sheet) → u ≡ yearPage c y rules names s → yearsPage c rules names y (last + 1 - y) s ≡ v → yearsPage c rules names (y + 1) (last + 1 - (y + 1)) u ≡ v
-  unfolding yearsPage
-  years-turn y last h s u v e q = let k : last + 1 - y ≡ suc (last + 1 - (y + 1)) = omega arith in rw e (rw k at q)
+  pub years_turn : (y last : ℕ) → y ≤ last → (s u v : Sheet) → u ≡ year_page c y rules names s → years_page c rules names y (last + 1 - y) s ≡ v → years_page c rules names (y + 1) (last + 1 - (y + 1)) u ≡ v
+  unfolding years_page
+  years_turn y last h s u v e q = let k : last + 1 - y ≡ suc (last + 1 - (y + 1)) = omega arith in rw e (rw k at q)
 
-  pub years-last : (y last : ℕ) → y ≤ last → last ≤ y → (s u v : Sheet) → u ≡ yearPage c y rules names s → yearsPage c rules names y (last + 1 - y) s ≡ v → u ≡ v
-  years-last y last h k s u v e q = years-none (y + 1) last u (omega arith) ∙ years-turn y last h s u v e q
+  pub years_last : (y last : ℕ) → y ≤ last → last ≤ y → (s u v : Sheet) → u ≡ year_page c y rules names s → years_page c rules names y (last + 1 - y) s ≡ v → u ≡ v
+  years_last y last h k s u v e q = years_none (y + 1) last u (omega arith) ∙ years_turn y last h s u v e q

@@ -12,7 +12,7 @@ use Rattle.festivals.specs.Kathmandu.{moons_around, opening_in}
 use Rattle.festivals.specs.Months.{year_days}
 use Rattle.notes.specs.Near.{dated_moon, nearness}
 use Rattle.output.specs.Pieces.{Text, put_pieces}
-use Rattle.notes.specs.Lines.{moment_pieces, opening_pieces, none_pieces, rulesPieces, besidePieces}
+use Rattle.notes.specs.Lines.{moment_pieces, opening_pieces, none_pieces, rules_pieces, beside_pieces}
 use Rattle.doubtful.specs.Tallies.{Tally, tally_of, with_heading, doubted, unopened, heading_pieces}
 use Rattle.doubtful.specs.declared.page.Page.{Page}
 
@@ -35,42 +35,42 @@ under y pieces count s =
 
 module _ (rules : List Rule) (names : List ℕ) (x : Float) (n : ℕ) (t : BsDate) (opens : Bool) where
   -- after the beginning of a month or before its end it is doubtful, and on a first day if after; far from both, if it opens nothing
-  abbrev pub nearLine : Option (Bool × ℕ) → Sheet → Sheet
-  nearLine (some d) s =
-      under t.year (moment_pieces x n ++ besidePieces rules names t opens d.0 d.1) (doubted true d.0 opens) s
-  nearLine none s = cond opens s (under t.year (moment_pieces x n ++ opening_pieces t opens) (doubted false false opens) s)
+  abbrev pub near_line : Option (Bool × ℕ) → Sheet → Sheet
+  near_line (some d) s =
+      under t.year (moment_pieces x n ++ beside_pieces rules names t opens d.0 d.1) (doubted true d.0 opens) s
+  near_line none s = cond opens s (under t.year (moment_pieces x n ++ opening_pieces t opens) (doubted false false opens) s)
 
   -- a new moon of day n, which is t, in a month of so many days
-  unfoldable pub datedLine : ℕ → Sheet → Sheet
-  datedLine len s = nearLine (nearness x n t.day len) s
+  unfoldable pub dated_line : ℕ → Sheet → Sheet
+  dated_line len s = near_line (nearness x n t.day len) s
 
 -- ---- a lunar month
 
 module _ (rules : List Rule) (names : List ℕ) (y : ℕ) where
   -- lunar month m of year y, unless it is opened
-  unfoldable pub monthLine : Bool → ℕ → Sheet → Sheet
-  monthLine opened m s = cond opened s (under y (none_pieces y m ++ rulesPieces rules names m) unopened s)
+  unfoldable pub month_line : Bool → ℕ → Sheet → Sheet
+  month_line opened m s = cond opened s (under y (none_pieces y m ++ rules_pieces rules names m) unopened s)
 
   -- k lunar months, the first of which is the one after j; whether a month is opened, by its place from 0 on
-  unfoldable pub monthLines : (ℕ → Bool) → ℕ → ℕ → Sheet → Sheet
-  monthLines opened j zero s = s
-  monthLines opened j (suc k) s = monthLines opened (j + 1) k (monthLine (opened j) (j + 1) s)
+  unfoldable pub month_lines : (ℕ → Bool) → ℕ → ℕ → Sheet → Sheet
+  month_lines opened j zero s = s
+  month_lines opened j (suc k) s = month_lines opened (j + 1) k (month_line (opened j) (j + 1) s)
 
 -- ---- a year
 
 module _ (c : Calendar) (y : ℕ) where
   -- a new moon is the one that opens lunar month m
-  unfoldable pub opensMonth : ℕ → Float → Bool
-  opensMonth m x = holds (opening_in c y m) (λ o. eq o x)
+  unfoldable pub opens_month : ℕ → Float → Bool
+  opens_month m x = holds (opening_in c y m) (λ o. eq o x)
 
   -- a new moon opens the lunar month of place j
-  unfoldable pub openedAt : ℕ → Bool
-  openedAt j = holds (opening_in c y (j + 1)) (λ o. true)
+  unfoldable pub opened_at : ℕ → Bool
+  opened_at j = holds (opening_in c y (j + 1)) (λ o. true)
 
   module _ (rules : List Rule) (names : List ℕ) where
     -- a new moon of day n, which is t, by the length of its month
     abbrev pub lengthLine : Float → ℕ → BsDate → Answer ℕ → Sheet → Sheet
-    lengthLine x n t (answered len) s = datedLine rules names x n t (opensMonth t.month x) len s
+    lengthLine x n t (answered len) s = dated_line rules names x n t (opens_month t.month x) len s
     lengthLine x n t (refused k) s = s
 
     -- the same, where the table has its month
@@ -94,18 +94,18 @@ module _ (c : Calendar) (y : ℕ) where
     -- from its first day to its last: the new moons around them, and then the lunar months that none opens
     abbrev pub daysPage : Option (ℕ × ℕ) → Sheet → Sheet
     daysPage (some d) s =
-        monthLines rules names y openedAt 0 12
+        month_lines rules names y opened_at 0 12
         (moonLines (moons_around d.0 d.1) (record { written = s.written; tally = with_heading false s.tally }))
     daysPage none s = s
 
     -- a year of the table; another puts nothing
-    unfoldable pub yearPage : Sheet → Sheet
-    yearPage s = daysPage (year_days c y) s
+    unfoldable pub year_page : Sheet → Sheet
+    year_page s = daysPage (year_days c y) s
 
 -- ---- years
 
 module _ (c : Calendar) (rules : List Rule) (names : List ℕ) where
   -- so many years, of which y is the first
-  unfoldable pub yearsPage : ℕ → ℕ → Sheet → Sheet
-  yearsPage y zero s = s
-  yearsPage y (suc k) s = yearsPage (y + 1) k (yearPage c y rules names s)
+  unfoldable pub years_page : ℕ → ℕ → Sheet → Sheet
+  years_page y zero s = s
+  years_page y (suc k) s = years_page (y + 1) k (year_page c y rules names s)

@@ -3,7 +3,7 @@ ghost use Rattle.std.specs.Prelude.{◌≡◌, true, ◌+◌, ◌-◌, ◌≤◌
 ghost use Rattle.rules.specs.Rules.{rules_of};
 ghost use Rattle.conversion.specs.Flat.{accepted, flat};
 ghost use Rattle.doubtful.specs.Inner.{Opened, has_place, opens_place};
-ghost use Rattle.doubtful.specs.Years.{sheet, datedLine, monthLine, monthLines, placedLine, moonLine, moonLines, yearPage, yearsPage};
+ghost use Rattle.doubtful.specs.Years.{sheet, dated_line, month_line, month_lines, placedLine, moonLine, moonLines, year_page, years_page};
 
 use crate::page;
 use crate::page::Page;
@@ -25,7 +25,7 @@ fn put_dated_moon(
     rules: &[u16],
     names: &[u8],
 ) -> Page
-    ensures { sheet out.new result ≡ datedLine (rules_of rules.now) names.now x.0 «n» date opens len
+    ensures { sheet out.new result ≡ dated_line (rules_of rules.now) names.now x.0 «n» date opens len
         (sheet out.old p) }
 {
     match notes::near(x, n, date.day, len) {
@@ -153,7 +153,7 @@ fn put_unopened_month(
     rules: &[u16],
     names: &[u8],
 ) -> Page
-    ensures { sheet out.new result ≡ monthLine (rules_of rules.now) names.now year opened month
+    ensures { sheet out.new result ≡ month_line (rules_of rules.now) names.now year opened month
         (sheet out.old p) }
 {
     if opened {
@@ -182,7 +182,7 @@ fn put_unopened_months(
     rules: &[u16],
     names: &[u8],
 ) -> Page
-    ensures { sheet out.new result ≡ monthLines (rules_of rules.now) names.now year (has_place m) 0 12
+    ensures { sheet out.new result ≡ month_lines (rules_of rules.now) names.now year (has_place m) 0 12
         (sheet out.old p) }
 {
     let mut q = p;
@@ -207,7 +207,7 @@ pub fn put_year(
     names: &[u8],
 ) -> Page
     requires { accepted table rows.now ≡ true }
-    ensures { sheet out.new result ≡ yearPage (flat table rows.now) year (rules_of rules.now) names.now
+    ensures { sheet out.new result ≡ year_page (flat table rows.now) year (rules_of rules.now) names.now
         (sheet out.old p) }
 {
     let mut found = [0.0; 1024];
@@ -243,7 +243,7 @@ pub fn put_years(
     names: &[u8],
 ) -> Page
     requires { accepted table rows.now ≡ true }
-    ensures { sheet out.new result ≡ yearsPage (flat table rows.now) (rules_of rules.now) names.now first
+    ensures { sheet out.new result ≡ years_page (flat table rows.now) (rules_of rules.now) names.now first
         (last + 1 - first) (sheet out.old p) }
 {
     if last < first {

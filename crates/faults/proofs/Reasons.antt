@@ -25,14 +25,14 @@ key_short i = leb-true (length (get_or keys (i % 8) [] ++ bytes "=")) 8
     (T_true _ (at (λ j. leb (length (get_or keys j [] ++ bytes "=")) 8) 8 tt (i % 8) (omega arith)))
 
 module _ (i : ℕ) {l m : List ℕ} {n : ℕ} (h : length l ≡ 8) (w : Wrote l 0 (key_text i) m n) where
-  pub key-front : take n m ≡ key_text i
-  key-front = (wrote_front w (omega (arith, key_short i))).1
+  pub key_front : take n m ≡ key_text i
+  key_front = (wrote_front w (omega (arith, key_short i))).1
 
 -- ---- the last byte of a line
 
 module _ (s : List ℕ) (b i : ℕ) where
-  pub end-over : length s ≤ i → end_byte b (drop i s) ≡ b
-  end-over h = rw (over s i h)
+  pub end_over : length s ≤ i → end_byte b (drop i s) ≡ b
+  end_over h = rw (over s i h)
 
   module _ (h : i < length s) where
     pub end-here : get_or s i 0 ≡ 10 → end_byte b (drop i s) ≡ b
@@ -69,18 +69,18 @@ module _ (t : List ℕ) where
 -- ---- the line
 
 module _ (i : ℕ) (s : List ℕ) {k : List ℕ} (e : k ≡ key_text i) where
-  pub key-other : past k s ≡ no → reason.Plain ≡ key_reason i s
+  pub key_other : past k s ≡ no → reason.Plain ≡ key_reason i s
   unfolding key_reason
-  key-other q = let f : past (key_text i) s ≡ no = rw e at q in rw f
+  key_other q = let f : past (key_text i) s ≡ no = rw e at q in rw f
 
-  pub key-number : {t : List ℕ} {r : Reason} → past k s ≡ got tt t → r ≡ number_reason t → r ≡ key_reason i s
+  pub key_number : {t : List ℕ} {r : Reason} → past k s ≡ got tt t → r ≡ number_reason t → r ≡ key_reason i s
   unfolding key_reason
-  key-number {t} q g = let f : past (key_text i) s ≡ got tt t = rw e at q in g ∙ rw f
+  key_number {t} q g = let f : past (key_text i) s ≡ got tt t = rw e at q in g ∙ rw f
 
 module _ (i : ℕ) (s : List ℕ) where
-  pub line-none : is_end s ≡ true → reason.FileEnds ≡ reason_of i s
+  pub line_none : is_end s ≡ true → reason.FileEnds ≡ reason_of i s
   unfolding reason_of
-  line-none q = rw q
+  line_none q = rw q
 
   module _ (q : is_end s ≡ false) where
     pub line_marked : (eqb i 0 && marked s) ≡ true → reason.Mark ≡ reason_of i s

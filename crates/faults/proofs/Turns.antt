@@ -15,13 +15,13 @@ above_zero (suc k) h = omega arith
 -- ---- a loop over the rules
 
 module _ (xs : List ℕ) (n : ℕ) where
-  pub first-over : (i : ℕ) → n ≤ i → fault.Nothing ≡ first_from (rules_from xs i (n - i)) i
+  pub first_over : (i : ℕ) → n ≤ i → fault.Nothing ≡ first_from (rules_from xs i (n - i)) i
   unfolding first_from
-  first-over i h = rw (left_none xs i n h)
+  first_over i h = rw (left_none xs i n h)
 
-  pub over-over : (kind k i : ℕ) → n ≤ i → fault.Nothing ≡ over_from kind k (rules_from xs i (n - i)) i
+  pub over_over : (kind k i : ℕ) → n ≤ i → fault.Nothing ≡ over_from kind k (rules_from xs i (n - i)) i
   unfolding over_from
-  over-over kind k i h = rw (left_none xs i n h)
+  over_over kind k i h = rw (left_none xs i n h)
 
   module _ (i : ℕ) (h : i < n) {r : Rule} (er : r ≡ rule_at xs i) where
     module _ {f : Field} (ef : f ≡ first_field r) {b : Bool} (eb : b ≡ is_nothing f) where

@@ -67,21 +67,21 @@ module _ (r : Rule) where
       ≡ (leb r.holiday 1 && (y && (leb 1 r.month && (leb r.month 12 && (leb 1 r.day && (leb r.day last && (h && k)))))))
   dated y h k last = last_first y (leb 1 r.month) (leb r.month 12) (leb 1 r.day) (leb r.day last) h k (leb r.holiday 1)
 
-  fixed-rule : r.kind ≡ 1 → is_nothing (first_field r) ≡ rule_good r
+  fixed_rule : r.kind ≡ 1 → is_nothing (first_field r) ≡ rule_good r
   unfolding rule_good most_day only_in
-  fixed-rule e = chain r ∙ rw e (simp (leb-zero, only_zero, or_false, and_assoc) (dated (eqb r.year 0) (eqb r.half 0) (eqb r.kala 0) 32))
+  fixed_rule e = chain r ∙ rw e (simp (leb-zero, only_zero, or_false, and_assoc) (dated (eqb r.year 0) (eqb r.half 0) (eqb r.kala 0) 32))
 
-  gregorian-rule : r.kind ≡ 2 → is_nothing (first_field r) ≡ rule_good r
+  gregorian_rule : r.kind ≡ 2 → is_nothing (first_field r) ≡ rule_good r
   unfolding rule_good most_day only_in
-  gregorian-rule e = chain r ∙ rw e (simp (leb-zero, only_zero, or_false, and_assoc) (dated (eqb r.year 0) (eqb r.half 0) (eqb r.kala 0) 31))
+  gregorian_rule e = chain r ∙ rw e (simp (leb-zero, only_zero, or_false, and_assoc) (dated (eqb r.year 0) (eqb r.half 0) (eqb r.kala 0) 31))
 
-  computed-rule : r.kind ≡ 3 → is_nothing (first_field r) ≡ rule_good r
+  computed_rule : r.kind ≡ 3 → is_nothing (first_field r) ≡ rule_good r
   unfolding rule_good most_day only_in
-  computed-rule e = chain r ∙ rw e (simp (leb-zero, only_zero, or_false, and_assoc) (dated (eqb r.year 0) (leb r.half 1) (leb r.kala 5) 15))
+  computed_rule e = chain r ∙ rw e (simp (leb-zero, only_zero, or_false, and_assoc) (dated (eqb r.year 0) (leb r.half 1) (leb r.kala 5) 15))
 
-  override-rule : r.kind ≡ 4 → is_nothing (first_field r) ≡ rule_good r
+  override_rule : r.kind ≡ 4 → is_nothing (first_field r) ≡ rule_good r
   unfolding rule_good most_day only_in
-  override-rule e =
+  override_rule e =
       let y : leb r.year r.year ≡ true = le-leb r.year r.year (omega arith) in
       chain r ∙ rw (e, y) (simp (leb-zero, only_zero, and_assoc) (dated true (eqb r.half 0) (eqb r.kala 0) 32))
 
@@ -89,9 +89,9 @@ module _ (r : Rule) where
   unfolding rule_good
   no_rule e = chain r ∙ rw e (sym (and_false (leb r.holiday 1)))
 
-  other-rule : 4 < r.kind → is_nothing (first_field r) ≡ rule_good r
+  other_rule : 4 < r.kind → is_nothing (first_field r) ≡ rule_good r
   unfolding rule_good
-  other-rule h =
+  other_rule h =
       let low = le-leb 1 r.kind (omega arith) in
       let one = ne_eqb r.kind 1 (λ q. omega arith) in
       let two = ne_eqb r.kind 2 (λ q. omega arith) in
@@ -105,11 +105,11 @@ rule_whole r = go r.kind refl
   where
     go : (k : ℕ) → r.kind ≡ k → is_nothing (first_field r) ≡ rule_good r
     go zero e = no_rule r e
-    go (suc zero) e = fixed-rule r e
-    go (suc (suc zero)) e = gregorian-rule r e
-    go (suc (suc (suc zero))) e = computed-rule r e
-    go (suc (suc (suc (suc zero)))) e = override-rule r e
-    go (suc (suc (suc (suc (suc k))))) e = other-rule r (omega arith)
+    go (suc zero) e = fixed_rule r e
+    go (suc (suc zero)) e = gregorian_rule r e
+    go (suc (suc (suc zero))) e = computed_rule r e
+    go (suc (suc (suc (suc zero)))) e = override_rule r e
+    go (suc (suc (suc (suc (suc k))))) e = other_rule r (omega arith)
 
 -- ---- a list
 

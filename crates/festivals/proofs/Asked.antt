@@ -22,24 +22,24 @@ rank_udaya = refl
 
 module _ {I : Type 0} (s : Sky I) (b e : I) (n : ℕ) where
   -- a day that is claimed is the answer, however often may be asked
-  pub asked-claimed : (r k d : ℕ) → some d ≡ claimed s b e k n → d ≡ asked_day s r b e k n
+  pub asked_claimed : (r k d : ℕ) → some d ≡ claimed s b e k n → d ≡ asked_day s r b e k n
   unfolding asked_day or_else
-  asked-claimed zero k d q = rw (← q)
-  asked-claimed (suc r) k d q = rw (← q)
+  asked_claimed zero k d q = rw (← q)
+  asked_claimed (suc r) k d q = rw (← q)
 
-  asked-zero : (k : ℕ) → none ≡ claimed s b e k n → n ≡ asked_day s 0 b e k n
+  asked_zero : (k : ℕ) → none ≡ claimed s b e k n → n ≡ asked_day s 0 b e k n
   unfolding asked_day or_else
-  asked-zero k q = rw (← q)
+  asked_zero k q = rw (← q)
 
-  asked-suc : (r k : ℕ) → none ≡ claimed s b e k n → asked_day s r b e udaya n ≡ asked_day s (suc r) b e k n
+  asked_suc : (r k : ℕ) → none ≡ claimed s b e k n → asked_day s r b e udaya n ≡ asked_day s (suc r) b e k n
   unfolding asked_day or_else
-  asked-suc r k q = rw (← q)
+  asked_suc r k q = rw (← q)
 
   -- none is claimed, and nothing is left to ask: the day of the beginning
-  pub asked-last : (k : ℕ) → none ≡ claimed s b e k n → rank k ≡ 0 → n ≡ asked_day s (rank k) b e k n
-  asked-last k q z = asked-zero k q ∙ ap (λ (r : ℕ). asked_day s r b e k n) (sym z)
+  pub asked_last : (k : ℕ) → none ≡ claimed s b e k n → rank k ≡ 0 → n ≡ asked_day s (rank k) b e k n
+  asked_last k q z = asked_zero k q ∙ ap (λ (r : ℕ). asked_day s r b e k n) (sym z)
 
   -- none is claimed, and udaya is asked
-  pub asked-anew : (k : ℕ) → none ≡ claimed s b e k n → (rank k ≡ 0 → ⊥) → asked_day s (rank udaya) b e udaya n ≡ asked_day s (rank k) b e k n
-  asked-anew k q h =
-      ap (λ (r : ℕ). asked_day s r b e udaya n) rank_udaya ∙ asked-suc 0 k q ∙ ap (λ (r : ℕ). asked_day s r b e k n) (sym (rank_above k h))
+  pub asked_anew : (k : ℕ) → none ≡ claimed s b e k n → (rank k ≡ 0 → ⊥) → asked_day s (rank udaya) b e udaya n ≡ asked_day s (rank k) b e k n
+  asked_anew k q h =
+      ap (λ (r : ℕ). asked_day s r b e udaya n) rank_udaya ∙ asked_suc 0 k q ∙ ap (λ (r : ℕ). asked_day s r b e k n) (sym (rank_above k h))

@@ -13,15 +13,15 @@ use Rattle.festivals.specs.Kathmandu.{kala_number}
 use Rattle.festivals.proofs.Kalas.{nishita_is}
 
 module _ (s : Sky Float) (b e : Float) where
-  pub kala-claims : (k : Kala) (n : ℕ) (o : Option Float) → is_nishita k ≡ false → o ≡ s.kala_on (kala_number k) n
+  pub kala_claims : (k : Kala) (n : ℕ) (o : Option Float) → is_nishita k ≡ false → o ≡ s.kala_on (kala_number k) n
       → holds o (λ x. s.not_after b x && s.before x e) ≡ claims s b e (kala_number k) n
   unfolding claims
-  kala-claims k n o h q = rw (nishita_is k, h, q)
+  kala_claims k n o h q = rw (nishita_is k, h, q)
 
-  pub night-claims : (n : ℕ) (o : Option (Float × Float)) → o ≡ s.nishita_on n
+  pub night_claims : (n : ℕ) (o : Option (Float × Float)) → o ≡ s.nishita_on n
       → holds o (λ w. s.not_after b w.0 && s.not_after w.1 e) ≡ claims s b e nishita n
   unfolding claims
-  night-claims n o q = rw q
+  night_claims n o q = rw q
 
 -- ---- the first of some days
 
@@ -41,11 +41,11 @@ from_none p n k t e q = rw e at q
 
 -- a turn of the loop over them
 module _ (p : ℕ → Bool) (n k : ℕ) (t : Option ℕ) (q : first_from p n k ≡ t) (h : 0 < k) (b : Bool) (e : b ≡ p n) where
-  pub from-hit : b ≡ true → some n ≡ t
-  from-hit y = sym (from_step p n k h ∙ ap (λ (z : Bool). cond z (some n) (first_from p (n + 1) (k - 1))) (sym e ∙ y)) ∙ q
+  pub from_hit : b ≡ true → some n ≡ t
+  from_hit y = sym (from_step p n k h ∙ ap (λ (z : Bool). cond z (some n) (first_from p (n + 1) (k - 1))) (sym e ∙ y)) ∙ q
 
-  pub from-miss : b ≡ false → first_from p (n + 1) (k - 1) ≡ t
-  from-miss y = sym (from_step p n k h ∙ ap (λ (z : Bool). cond z (some n) (first_from p (n + 1) (k - 1))) (sym e ∙ y)) ∙ q
+  pub from_miss : b ≡ false → first_from p (n + 1) (k - 1) ≡ t
+  from_miss y = sym (from_step p n k h ∙ ap (λ (z : Bool). cond z (some n) (first_from p (n + 1) (k - 1))) (sym e ∙ y)) ∙ q
 
 -- of the four days from the one before `begin`, so many are left from day n on, and they give the answer
 abbrev pub Left : {I : Type 0} → Sky I → I → I → ℕ → ℕ → ℕ → ℕ → Type 0

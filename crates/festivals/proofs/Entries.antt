@@ -17,47 +17,47 @@ use Rattle.rules.specs.declared.Rule.{Rule}
 use Rattle.rules.specs.declared.lists.Resolved.{Resolved}
 use Rattle.rules.specs.Rules.{rule_at, rules_from, rule_good, count_kind}
 use Rattle.rules.specs.Sky.{Sky}
-use Rattle.rules.specs.Days.{next, festivalDay}
-use Rattle.rules.specs.Festivals.{dated, tithi, beginning, opening, ruleDay, in_table, entry}
+use Rattle.rules.specs.Days.{next, festival_day}
+use Rattle.rules.specs.Festivals.{dated, tithi, beginning, opening, rule_day, in_table, entry}
 use Rattle.rules.specs.Resolved.{put_entry, filled, resolved, years_for}
 use Rattle.rules.proofs.Walk.{rest, left, left_none, count_turn, count-skip}
 use Rattle.rules.proofs.Accepted.{computed_of}
-use Rattle.rules.proofs.Used.{fill_none, fill-not, fill_is}
+use Rattle.rules.proofs.Used.{fill_none, fill_not, fill_is}
 use Rattle.festivals.specs.declared.months.Months.{Months}
 use Rattle.festivals.specs.Months.{months_by, month_at, day_by}
 use Rattle.festivals.proofs.Moons.{month_at_law}
 
 -- ---- where a tithi begins
 module _ {I : Type 0} (s : Sky I) (t : ℕ) (x : I) where
-  pub begins-at-moon : t ≡ 1 → some x ≡ beginning s t x
+  pub begins_at_moon : t ≡ 1 → some x ≡ beginning s t x
   unfolding beginning
-  begins-at-moon e = rw (eq-eqb t 1 e)
+  begins_at_moon e = rw (eq-eqb t 1 e)
 
-  pub begins-after : (o : Option I) → (t ≡ 1 → ⊥) → o ≡ s.start_of t x → o ≡ beginning s t x
+  pub begins_after : (o : Option I) → (t ≡ 1 → ⊥) → o ≡ s.start_of t x → o ≡ beginning s t x
   unfolding beginning
-  begins-after o e q = rw (ne_eqb t 1 e) q
+  begins_after o e q = rw (ne_eqb t 1 e) q
 
 -- ---- the day of a rule, by the twelve places
 module _ (s : Sky Float) (r : Rule) (m : Months) (j : ℕ) where
-  pub day-moonless : get_or m.has j false ≡ false → none ≡ day_by s r (month_at m j)
+  pub day_moonless : get_or m.has j false ≡ false → none ≡ day_by s r (month_at m j)
   unfolding day_by month_at next
-  day-moonless h = rw h
+  day_moonless h = rw h
 
   module _ (h : get_or m.has j false ≡ true) where
     pub day-unstarted : none ≡ beginning s (tithi r) (get_or m.moon j nan) → none ≡ day_by s r (month_at m j)
     unfolding day_by month_at next
     day-unstarted q = rw (h, ← q)
 
-    pub day-started : (b : Float) → some b ≡ beginning s (tithi r) (get_or m.moon j nan) → (d : Option ℕ) → d ≡ festivalDay s (tithi r) r.kala b → d ≡ day_by s r (month_at m j)
+    pub day-started : (b : Float) → some b ≡ beginning s (tithi r) (get_or m.moon j nan) → (d : Option ℕ) → d ≡ festival_day s (tithi r) r.kala b → d ≡ day_by s r (month_at m j)
     unfolding day_by month_at next
     day-started b p d q = rw (h, ← p) q
 
-rule_day_by : {I : Type 0} (s : Sky I) (c : Calendar) (y : ℕ) (r : Rule) (o : Option I) (d : Option ℕ) → o ≡ opening s c y r.month → d ≡ day_by s r o → ruleDay s c y r ≡ d
-unfolding ruleDay day_by
+rule_day_by : {I : Type 0} (s : Sky I) (c : Calendar) (y : ℕ) (r : Rule) (o : Option I) (d : Option ℕ) → o ≡ opening s c y r.month → d ≡ day_by s r o → rule_day s c y r ≡ d
+unfolding rule_day day_by
 rule_day_by s c y r o d e q = sym (q ∙ ap (day_by s r) e)
 
 -- from the lunar months of the year
-pub rule_day_at : (s : Sky Float) (c : Calendar) (y : ℕ) (r : Rule) (m : Months) (d : Option ℕ) → rule_good r ≡ true → r.kind ≡ 3 → m ≡ months_by (opening s c y) → d ≡ day_by s r (month_at m (r.month - 1)) → ruleDay s c y r ≡ d
+pub rule_day_at : (s : Sky Float) (c : Calendar) (y : ℕ) (r : Rule) (m : Months) (d : Option ℕ) → rule_good r ≡ true → r.kind ≡ 3 → m ≡ months_by (opening s c y) → d ≡ day_by s r (month_at m (r.month - 1)) → rule_day s c y r ≡ d
 rule_day_at s c y r m d g k h q =
     let f = computed_of r g k in
     let e : r.month - 1 + 1 ≡ r.month = omega (arith, f.month_from) in
@@ -65,15 +65,15 @@ rule_day_at s c y r m d g k h q =
 
 -- ---- its entry
 module _ {I : Type 0} (s : Sky I) (c : Calendar) (y : ℕ) (r : Rule) (d : List ℕ) (j : ℕ) where
-  pub entry-nothing : ruleDay s c y r ≡ none → d ≡ put_entry d j (entry s c y r)
+  pub entry_nothing : rule_day s c y r ≡ none → d ≡ put_entry d j (entry s c y r)
   unfolding put_entry entry next
-  entry-nothing e = rw e
+  entry_nothing e = rw e
 
-  pub entry-outside : (n : ℕ) (k : Refusal) → ruleDay s c y r ≡ some n → from_day c n ≡ refused k → d ≡ put_entry d j (entry s c y r)
+  pub entry_outside : (n : ℕ) (k : Refusal) → rule_day s c y r ≡ some n → from_day c n ≡ refused k → d ≡ put_entry d j (entry s c y r)
   unfolding put_entry entry next in_table dated
-  entry-outside n k e q = rw (e, q)
+  entry_outside n k e q = rw (e, q)
 
-  pub entry_here : (n : ℕ) (t : BsDate) → ruleDay s c y r ≡ some n → from_day c n ≡ answered t → set d j n ≡ put_entry d j (entry s c y r)
+  pub entry_here : (n : ℕ) (t : BsDate) → rule_day s c y r ≡ some n → from_day c n ≡ answered t → set d j n ≡ put_entry d j (entry s c y r)
   unfolding put_entry entry next in_table dated
   entry_here n t e q = rw (e, q)
 
@@ -86,16 +86,16 @@ module _ {I : Type 0} (s : Sky I) (c : Calendar) (y : ℕ) (xs : List ℕ) (n : 
       × (j + count_kind 3 (rules_from xs i (n - i)) ≡ count_kind 3 (rules_from xs 0 n))
       × (filled s c y d j (rules_from xs i (n - i)) ≡ resolved s c y (rules_from xs 0 n))
 
-  pub entered-first : Entered (replicate 64 0) 0 0
+  pub entered_first : Entered (replicate 64 0) 0 0
   unfolding resolved
-  entered-first = (omega arith, rw (sub-zero, zero-add), rw sub-zero)
+  entered_first = (omega arith, rw (sub-zero, zero-add), rw sub-zero)
 
   module _ (i : ℕ) (h : i < n) (r : Rule) (er : r ≡ rule_at xs i) (d : List ℕ) (j : ℕ) (v : Entered d j i) where
     pub entered-skip : (r.kind ≡ 3 → ⊥) → Entered d j (i + 1)
     entered-skip e = (
       omega arith,
       count-skip xs i n h r er 3 j _ v.1 e,
-      sym (ap (filled s c y d j) (left xs i n h r er) ∙ fill-not s c y d j r (rest xs i n h r er) e) ∙ v.2,
+      sym (ap (filled s c y d j) (left xs i n h r er) ∙ fill_not s c y d j r (rest xs i n h r er) e) ∙ v.2,
     )
 
     pub entered-next : r.kind ≡ 3 → (d' : List ℕ) → d' ≡ put_entry d j (entry s c y r) → Entered d' (j + 1) (i + 1)
@@ -116,14 +116,14 @@ module _ {I : Type 0} (s : Sky I) (c : Calendar) (y : ℕ) (xs : List ℕ) (n : 
 
 -- ---- the two years of a month
 module _ {I : Type 0} (s : Sky I) (c : Calendar) (rs : List Rule) (y m : ℕ) where
-  pub late-before : (b : Resolved) → 2 < m → b.days ≡ replicate 64 0 → b ≡ (years_for s c rs y m).before
+  pub late_before : (b : Resolved) → 2 < m → b.days ≡ replicate 64 0 → b ≡ (years_for s c rs y m).before
   unfolding years_for
-  late-before b h e = rw (lt-leb m 2 h, ← e)
+  late_before b h e = rw (lt-leb m 2 h, ← e)
 
-  pub early-before : (b : Resolved) (k : ℕ) → m ≤ 2 → k ≡ y - 1 → b.days ≡ resolved s c k rs → b ≡ (years_for s c rs y m).before
+  pub early_before : (b : Resolved) (k : ℕ) → m ≤ 2 → k ≡ y - 1 → b.days ≡ resolved s c k rs → b ≡ (years_for s c rs y m).before
   unfolding years_for
-  early-before b k h q e = rw (le-leb m 2 h, ← q, ← e)
+  early_before b k h q e = rw (le-leb m 2 h, ← q, ← e)
 
-  pub both-years : (b t : Resolved) → b ≡ (years_for s c rs y m).before → t.days ≡ resolved s c y rs → record { before = b; this = t } ≡ years_for s c rs y m
+  pub both_years : (b t : Resolved) → b ≡ (years_for s c rs y m).before → t.days ≡ resolved s c y rs → record { before = b; this = t } ≡ years_for s c rs y m
   unfolding years_for
-  both-years b t p q = rw (p, ← q)
+  both_years b t p q = rw (p, ← q)

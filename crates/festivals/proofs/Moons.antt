@@ -20,11 +20,11 @@ use Rattle.conversion.specs.Calendar.{Calendar, from_day}
 use Rattle.festivals.proofs.Placed.{month_of_law}
 use Rattle.sky.specs.Tithi.{elongation_of}
 use Rattle.sky.specs.Search.{offset, target_of, starts_of}
-use Rattle.sky.proofs.Searches.{starts-bounded}
-use Rattle.sky.proofs.Fronts.{over-length, over-front}
+use Rattle.sky.proofs.Searches.{starts_bounded}
+use Rattle.sky.proofs.Fronts.{over_length, over_front}
 use Rattle.rules.specs.Sky.{Sky}
 use Rattle.rules.specs.Days.{holds}
-use Rattle.rules.specs.Festivals.{dated, last_of, inMonth}
+use Rattle.rules.specs.Festivals.{dated, last_of, in_month}
 use Rattle.festivals.specs.declared.months.Months.{Months}
 use Rattle.festivals.specs.Kathmandu.{moons_around}
 use Rattle.festivals.specs.Months.{each, moon_of, is_moon, months_by, month_at}
@@ -52,9 +52,9 @@ module _ (s : Sky Float) (c : Calendar) (y : ℕ) where
 
 -- ---- a turn
 module _ (s : Sky Float) (c : Calendar) (y : ℕ) where
-  pub placed-none : (l : List Float) (n : ℕ) (m : Months) → placed s c y (slice n n l) m ≡ m
+  pub placed_none : (l : List Float) (n : ℕ) (m : Months) → placed s c y (slice n n l) m ≡ m
   unfolding placed
-  placed-none l n m = rw (slice_empty n l)
+  placed_none l n m = rw (slice_empty n l)
 
   -- a turn of the loop
   turn : (l : List Float) (i n : ℕ) → i < n → n ≤ length l → (m m' t : Months) → m' ≡ place s c y m (get_or l i nan) → placed s c y (slice i n l) m ≡ t → placed s c y (slice (i + 1) n l) m' ≡ t
@@ -65,8 +65,8 @@ module _ (s : Sky Float) (c : Calendar) (y : ℕ) where
   abbrev pub Stands : List Float → ℕ → Months → Months → ℕ → Type 0
   Stands found n m₀ m i = (i ≤ n) × (placed s c y (slice i n found) m ≡ placed s c y (take n found) m₀)
 
-  pub stands-turn : (found : List Float) (n : ℕ) (m₀ m m' : Months) (i : ℕ) → i < n → n ≤ length found → m' ≡ place s c y m (get_or found i nan) → Stands found n m₀ m i → Stands found n m₀ m' (i + 1)
-  stands-turn found n m₀ m m' i h k e v = (omega arith, turn found i n h k m m' _ e v.1)
+  pub stands_turn : (found : List Float) (n : ℕ) (m₀ m m' : Months) (i : ℕ) → i < n → n ≤ length found → m' ≡ place s c y m (get_or found i nan) → Stands found n m₀ m i → Stands found n m₀ m' (i + 1)
+  stands_turn found n m₀ m m' i h k e v = (omega arith, turn found i n h k m m' _ e v.1)
 
   module _ (m : Months) (x : Float) where
     -- no day, a day outside the table, a day of another year, a day of the year
@@ -109,8 +109,8 @@ module _ {A : Type 0} (f g : ℕ → A) (v d : A) (j : ℕ) (e : (m : ℕ) → g
   set_at i h false q =
       get_or-set_other (each f 1 12) j i v d (λ s. eqb-false (j + 1) (1 + i) q (omega arith)) ∙ each_at f 1 12 i d h
 
-  set-each : set (each f 1 12) j v ≡ each g 1 12
-  set-each =
+  set_each : set (each f 1 12) j v ≡ each g 1 12
+  set_each =
       ext_get_or d _ _ (length-set (each f 1 12) j v ∙ each_length f 1 12 ∙ sym (each_length g 1 12))
       (λ i h.
       let l : i < 12 = omega (arith, length-set (each f 1 12) j v, each_length f 1 12) in
@@ -125,42 +125,42 @@ is_over true x o = refl
 is_over false x o = refl
 
 module _ (f : ℕ → Option Float) (x : Float) where
-  put-over : (j : ℕ) → put (months_by f) j x ≡ months_by (λ m. cond (eqb (j + 1) m) (some x) (f m))
+  put_over : (j : ℕ) → put (months_by f) j x ≡ months_by (λ m. cond (eqb (j + 1) m) (some x) (f m))
   unfolding put months_by
-  put-over j =
+  put_over j =
       rw (
-        set-each (λ m. moon_of (f m)) (λ m. moon_of (cond (eqb (j + 1) m) (some x) (f m))) x nan j (λ m. moon_over (eqb (j + 1) m) x (f m)),
-        set-each (λ m. is_moon (f m)) (λ m. is_moon (cond (eqb (j + 1) m) (some x) (f m))) true false j (λ m. is_over (eqb (j + 1) m) x (f m)),
+        set_each (λ m. moon_of (f m)) (λ m. moon_of (cond (eqb (j + 1) m) (some x) (f m))) x nan j (λ m. moon_over (eqb (j + 1) m) x (f m)),
+        set_each (λ m. is_moon (f m)) (λ m. is_moon (cond (eqb (j + 1) m) (some x) (f m))) true false j (λ m. is_over (eqb (j + 1) m) x (f m)),
       )
 
-  date-over : (y : ℕ) (a : Answer BsDate) → ((t : BsDate) → a ≡ answered t → 1 ≤ t.month)
+  date_over : (y : ℕ) (a : Answer BsDate) → ((t : BsDate) → a ≡ answered t → 1 ≤ t.month)
       → place_date y (months_by f) x a ≡ months_by (λ m. cond (dated a (λ t. eqb t.year y && eqb t.month m)) (some x) (f m))
   unfolding place_date dated
-  date-over y (refused k) h = refl
-  date-over y (answered t) h = go (eqb t.year y)
+  date_over y (refused k) h = refl
+  date_over y (answered t) h = go (eqb t.year y)
     where
       go : (b : Bool) → cond b (put (months_by f) (t.month - 1) x) (months_by f) ≡ months_by (λ m. cond (b && eqb t.month m) (some x) (f m))
       go true =
           let e : t.month - 1 + 1 ≡ t.month = omega (arith, h t refl) in
-          put-over (t.month - 1) ∙ ap (λ (i : ℕ). months_by (λ m. cond (eqb i m) (some x) (f m))) e
+          put_over (t.month - 1) ∙ ap (λ (i : ℕ). months_by (λ m. cond (eqb i m) (some x) (f m))) e
       go false = refl
 
-  day-over : (c : Calendar) (y : ℕ) (o : Option ℕ)
+  day_over : (c : Calendar) (y : ℕ) (o : Option ℕ)
       → place_day c y (months_by f) x o ≡ months_by (λ m. cond (holds o (λ n. dated (from_day c n) (λ t. eqb t.year y && eqb t.month m))) (some x) (f m))
   unfolding place_day holds
-  day-over c y none = refl
-  day-over c y (some n) = date-over y (from_day c n) (λ t q. (month_of_law c n t q).0)
+  day_over c y none = refl
+  day_over c y (some n) = date_over y (from_day c n) (λ t q. (month_of_law c n t q).0)
 
 module _ (s : Sky Float) (c : Calendar) (y : ℕ) where
   -- a month's place holds the last that lies in it
-  placed-over : (xs : List Float) (f : ℕ → Option Float) → placed s c y xs (months_by f) ≡ months_by (λ m. last_of (inMonth s c y m) (f m) xs)
-  unfolding placed place last_of inMonth
-  placed-over [] f = refl
-  placed-over (x ∷ xs) f = ap (placed s c y xs) (day-over f x c y (s.day_of x)) ∙ placed-over xs _
+  placed_over : (xs : List Float) (f : ℕ → Option Float) → placed s c y xs (months_by f) ≡ months_by (λ m. last_of (in_month s c y m) (f m) xs)
+  unfolding placed place last_of in_month
+  placed_over [] f = refl
+  placed_over (x ∷ xs) f = ap (placed s c y xs) (day_over f x c y (s.day_of x)) ∙ placed_over xs _
 
   -- from no new moon on
-  pub placed_first : (xs : List Float) (m : Months) → m ≡ months_by (λ m. none) → placed s c y xs m ≡ months_by (λ m. last_of (inMonth s c y m) none xs)
-  placed_first xs m e = ap (placed s c y xs) e ∙ placed-over xs (λ m. none)
+  pub placed_first : (xs : List Float) (m : Months) → m ≡ months_by (λ m. none) → placed s c y xs m ≡ months_by (λ m. last_of (in_month s c y m) none xs)
+  placed_first xs m e = ap (placed s c y xs) e ∙ placed_over xs (λ m. none)
 
 -- no month is open yet
 pub none_yet : record { moon = replicate 12 (dec 0 0); has = replicate 12 false } ≡ months_by (λ m. none)
@@ -183,8 +183,8 @@ pub moons_front : (a b : ℕ) (d x : List Float) (n : ℕ) → n ≡ length (moo
     → ((n ≤ 1024) × (length x ≡ 1024)) × (take n x ≡ moons_around a b)
 unfolding moons_around
 moons_front a b d x n en ex l =
-    let few : n ≤ 1024 = omega (arith, en, starts-bounded (offset elongation_of (target_of 1)) (zero_of a ⊖ dec 35 0) (zero_of b ⊕ dec 5 0)) in
-    ((few, over-length (moons_around a b) d ex en (omega arith) ∙ l), over-front (moons_around a b) d ex en)
+    let few : n ≤ 1024 = omega (arith, en, starts_bounded (offset elongation_of (target_of 1)) (zero_of a ⊖ dec 35 0) (zero_of b ⊕ dec 5 0)) in
+    ((few, over_length (moons_around a b) d ex en (omega arith) ∙ l), over_front (moons_around a b) d ex en)
 
 -- they are those around two days, by 0h of each
 pub moons_from : (first last : ℕ) (a b : Float) → a ≡ zero_of first → b ≡ zero_of last → (starts_of 1 (a ⊖ dec 35 0) (b ⊕ dec 5 0)).starts ≡ moons_around first last

@@ -24,15 +24,15 @@ module _ (c : Calendar) (g : c.good ≡ true) (n : ℕ) (p : Placed) (e : p ≡ 
   pub inside : (t : BsDate) → p ≡ P.Inside t → from_day c n ≡ answered t
   inside t q = from_placed c n g ∙ ap inside_only (sym e ∙ q)
 
-  pub before-first : (k : ℕ) → p ≡ P.Before k → from_day c n ≡ refused (Before k)
-  before-first k q = from_placed c n g ∙ ap inside_only (sym e ∙ q)
+  pub before_first : (k : ℕ) → p ≡ P.Before k → from_day c n ≡ refused (Before k)
+  before_first k q = from_placed c n g ∙ ap inside_only (sym e ∙ q)
 
   pub after_last : (k : ℕ) → p ≡ P.After k → from_day c n ≡ refused (After k)
   after_last k q = from_placed c n g ∙ ap inside_only (sym e ∙ q)
 
   -- the else of a `let Placed::Inside(..)`
-  pub not-inside : OneOf (1 ∷ 2 ∷ []) (tag_of the_type p) → (k : Refusal) × (from_day c n ≡ refused k)
-  not-inside h = let r = go p h in (r.0, from_placed c n g ∙ ap inside_only (sym e) ∙ r.1)
+  pub not_inside : OneOf (1 ∷ 2 ∷ []) (tag_of the_type p) → (k : Refusal) × (from_day c n ≡ refused k)
+  not_inside h = let r = go p h in (r.0, from_placed c n g ∙ ap inside_only (sym e) ∙ r.1)
     where
       go : (q : Placed) → OneOf (1 ∷ 2 ∷ []) (tag_of the_type q) → (k : Refusal) × (inside_only q ≡ refused k)
       go (P.Inside t) h = absurd (⊎_elim (λ e. omega arith) (λ e. omega arith) h)

@@ -17,8 +17,8 @@ listed_from rules bs n years out = listed (answered (list_by (rules_of rules) (d
 
 module _ (t : Table) (rows rules : List ℕ) (n : ℕ) (out : List ℕ) where
   -- the list of day number n, whose BS date is known
-  abbrev pub listedOn : BsDate → Listed
-  listedOn bs = listed (answered (day_list_of (flat t rows) (rules_of rules) bs n)) out
+  abbrev pub listed_on : BsDate → Listed
+  listed_on bs = listed (answered (day_list_of (flat t rows) (rules_of rules) bs n)) out
 
   -- the list of day number n, if the table has it
   abbrev pub listed_at : Listed

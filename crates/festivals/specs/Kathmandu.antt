@@ -18,7 +18,7 @@ use Rattle.conversion.specs.Calendar.{Calendar}
 use Rattle.rules.specs.declared.Rule.{Rule}
 use Rattle.rules.specs.declared.lists.Years.{Years}
 use Rattle.rules.specs.Sky.{Sky}
-use Rattle.rules.specs.Festivals.{Pair, last_of, inMonth, opening, dayList}
+use Rattle.rules.specs.Festivals.{Pair, last_of, in_month, opening, day_list}
 use Rattle.rules.specs.Resolved.{resolved, years_for}
 
 -- ---- the kalas by their numbers
@@ -99,7 +99,7 @@ kathmandu =
 
 -- the last of some new moons in month m of year y
 abbrev pub last_in : Calendar → ℕ → ℕ → List Float → Option Float
-last_in c y m xs = last_of (inMonth kathmandu c y m) none xs
+last_in c y m xs = last_of (in_month kathmandu c y m) none xs
 
 -- the new moon that opens lunar month m of year y
 abbrev pub opening_in : Calendar → ℕ → ℕ → Option Float
@@ -115,4 +115,4 @@ years_in c rs y m = years_for kathmandu c rs y m
 
 -- the list of day number n, whose BS date is t
 abbrev pub day_list_of : Calendar → List Rule → BsDate → ℕ → List Pair
-day_list_of c rs t n = dayList kathmandu c rs t n
+day_list_of c rs t n = day_list kathmandu c rs t n

@@ -6,7 +6,7 @@ use Rattle.paper.specs.Floats.{dec}
 use Rattle.conversion.specs.Calendar.{Calendar, year_ok}
 use Rattle.rules.specs.declared.Rule.{Rule}
 use Rattle.rules.specs.Sky.{Sky}
-use Rattle.rules.specs.Days.{next, festivalDay}
+use Rattle.rules.specs.Days.{next, festival_day}
 use Rattle.rules.specs.Festivals.{first_day, last_day, tithi, beginning}
 use Rattle.festivals.specs.declared.months.Months.{Months}
 
@@ -38,4 +38,4 @@ month_at m j = cond (get_or m.has j false) (some (get_or m.moon j nan)) none
 
 -- the day of a computed rule, by the new moon that opens its lunar month
 unfoldable pub day_by : {I : Type 0} → Sky I → Rule → Option I → Option ℕ
-day_by s r o = next o (λ x. next (beginning s (tithi r) x) (λ b. festivalDay s (tithi r) r.kala b))
+day_by s r o = next o (λ x. next (beginning s (tithi r) x) (λ b. festival_day s (tithi r) r.kala b))

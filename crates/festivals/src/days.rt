@@ -4,7 +4,7 @@ ghost use Rattle.std.specs.Float.Ieee.{le, lt};
 ghost use Rattle.sky.specs.Answers.{first_says};
 ghost use Rattle.panchanga.specs.Kalas.{kala_at, is_nishita};
 ghost use Rattle.panchanga.specs.Answers.{span_is, mapped};
-ghost use Rattle.rules.specs.Days.{holds, nishita, rank, claimed, asked_day, festivalDay};
+ghost use Rattle.rules.specs.Days.{holds, nishita, rank, claimed, asked_day, festival_day};
 ghost use Rattle.festivals.specs.Kathmandu.{kala_number, kala_named, is_begins, nepal_day, sun_on, end_after, kathmandu};
 ghost use Rattle.festivals.specs.Answers.{day_is};
 
@@ -176,7 +176,7 @@ fn end_of(tithi: u16, start: UtDay) -> FirstStart
 // The day of a festival, by its tithi, its kala's number and the instant at which the tithi begins.
 pub fn festival_date(tithi: u16, kala: u16, start: UtDay) -> DayFound
     requires { (tithi ≤ 30) × (kala ≤ 5) }
-    ensures { day_is result ≡ festivalDay kathmandu tithi kala start.0 }
+    ensures { day_is result ≡ festival_day kathmandu tithi kala start.0 }
 {
     let DayFound::Day(begin) = nepal_day(start) else {
         return DayFound::Nothing;

@@ -10,7 +10,7 @@ ghost use Rattle.gregorian.specs.Answers.{numbered};
 ghost use Rattle.conversion.specs.Flat.{accepted};
 ghost use Rattle.rules.specs.Rules.{accepted_rules};
 ghost use Rattle.rules.specs.Resolved.{day_numbered};
-ghost use Rattle.festivals.specs.Inner.{listed_from, listedOn, listed_at};
+ghost use Rattle.festivals.specs.Inner.{listed_from, listed_on, listed_at};
 ghost use Rattle.festivals.specs.Answers.{list_says, on_bs, on_ad};
 
 use conversion::{BsDate, Placed, Table, Validity};
@@ -84,8 +84,8 @@ fn list_day(
     out: &mut [u16],
 ) -> ListAnswer
     requires { (accepted table rows.now ≡ true) × (accepted_rules rules.now ≡ true) × (numbered number ≡ true) }
-    ensures result_value { list_says result ≡ (listedOn table rows.now rules.now number out.old bs).answer }
-    ensures out_after { out.new ≡ (listedOn table rows.now rules.now number out.old bs).buffer }
+    ensures result_value { list_says result ≡ (listed_on table rows.now rules.now number out.old bs).answer }
+    ensures out_after { out.new ≡ (listed_on table rows.now rules.now number out.old bs).buffer }
 {
     let years = years::years_for(table, rows, rules, bs.year, bs.month);
     list_from(rules, bs, number, years, out)

@@ -24,8 +24,8 @@ use Rattle.fields.specs.Line.{skip, ends, word_ends, number, Words, are, no_numb
 -- ---- spaces
 
 module _ (s : List ℕ) (i : ℕ) where
-  pub skip-over : length s ≤ i → drop i s ≡ skip (drop i s)
-  skip-over h = rw (over s i h)
+  pub skip_over : length s ≤ i → drop i s ≡ skip (drop i s)
+  skip_over h = rw (over s i h)
 
   module _ (h : i < length s) where
     pub skip_stop : (get_or s i 0 ≡ 32 → ⊥) → drop i s ≡ skip (drop i s)
@@ -65,10 +65,10 @@ number_small s n t e = go (decimal 65535 s) refl e
 -- ---- a line
 
 module _ (s : List ℕ) where
-  words-over : (most : ℕ) → ends s ≡ true → words_to most s ≡ are []
+  words_over : (most : ℕ) → ends s ≡ true → words_to most s ≡ are []
   unfolding words_to
-  words-over zero e = rw e
-  words-over (suc most) e = rw e
+  words_over zero e = rw e
+  words_over (suc most) e = rw e
 
   module _ (e : ends s ≡ false) where
     words-full : words_to 0 s ≡ too_many
@@ -102,7 +102,7 @@ module _ (s values : List ℕ) (k at : ℕ) where
   pub left_over : ends (drop at s) ≡ true → record { form = Numbers k; values = values } ≡ Left s values k at
   left_over e =
       let z : k + 0 ≡ k = omega arith in
-      rw (words-over (drop at s) (13 - k) e, z)
+      rw (words_over (drop at s) (13 - k) e, z)
 
   module _ (e : ends (drop at s) ≡ false) where
     pub left-full : k ≡ 13 → faulty TooMany ≡ Left s values k at
@@ -114,8 +114,8 @@ module _ (s values : List ℕ) (k at : ℕ) where
           let m : 13 - k ≡ suc (12 - k) = omega arith in
           rw (m, words-bad (drop at s) e (12 - k) f)
 
-      pub left-turn : (n next : ℕ) → number (drop at s) ≡ got n (drop next s) → Left s (set values k n) (k + 1) next ≡ Left s values k at
-      left-turn n next f =
+      pub left_turn : (n next : ℕ) → number (drop at s) ≡ got n (drop next s) → Left s (set values k n) (k + 1) next ≡ Left s values k at
+      left_turn n next f =
           let m : 13 - k ≡ suc (12 - k) = omega arith in
           let o : 13 - (k + 1) ≡ 12 - k = omega arith in
           let p : k + 1 ≡ suc k = omega arith in
@@ -127,9 +127,9 @@ below_thirteen k h n = ⊎_elim (λ l. absurd (n (omega arith))) (λ l. l) (spli
 -- ---- what a line is
 
 module _ (wanted : ℕ) (f : Form) {k : ℕ} (e : f ≡ Numbers k) where
-  pub judged-blank : k ≡ 0 → judged.Blank ≡ judged_as wanted f
+  pub judged_blank : k ≡ 0 → judged.Blank ≡ judged_as wanted f
   unfolding counted_as
-  judged-blank z = rw (e, eq-eqb k 0 z)
+  judged_blank z = rw (e, eq-eqb k 0 z)
 
   module _ (z : k ≡ 0 → ⊥) where
     pub judged-good : k ≡ wanted → judged.Good ≡ judged_as wanted f

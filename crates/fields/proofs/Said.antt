@@ -10,8 +10,8 @@ use Rattle.text.proofs.Texts.{cut, over}
 use Rattle.fields.specs.Line.{skip, comment, year_said}
 
 module _ (s : List ℕ) (i : ℕ) where
-  pub comment-over : length s ≤ i → drop i s ≡ comment (drop i s)
-  comment-over h = rw (over s i h)
+  pub comment_over : length s ≤ i → drop i s ≡ comment (drop i s)
+  comment_over h = rw (over s i h)
 
   module _ (h : i < length s) where
     pub comment-here : get_or s i 0 ≡ 35 → skip (drop (i + 1) s) ≡ comment (drop i s)
@@ -23,9 +23,9 @@ module _ (s : List ℕ) (i : ℕ) where
 -- ---- the year that is said
 
 module _ (s : List ℕ) {t : List ℕ} (e : t ≡ comment s) where
-  pub year-none : wide 4 t ≡ no → none ≡ year_said s
+  pub year_none : wide 4 t ≡ no → none ≡ year_said s
   unfolding year_said
-  year-none q = rw (← e, q)
+  year_none q = rw (← e, q)
 
   module _ (n i end : ℕ) (q : wide 4 t ≡ got n (drop i s)) (f : drop end s ≡ skip (drop i s)) where
     pub year-more : end < length s → none ≡ year_said s

@@ -2,7 +2,7 @@
 use Rattle.std.proofs.Common.{◌≡◌, ℕ, zero, suc, ◌+◌, ◌<◌, ◌≤◌, Bool, true, false, eqb, List, [], ◌∷◌, ◌++◌, length, get_or, take, drop, set, sym, refl, ap, ◌∙◌, add-zero, arith, drop_of_length-le, length-take-le, get_or-take, le-ltb, lt-ltb, eq-eqb, ne_eqb, le-leb}
 use borrow.Author.Tests.{lt-leb}
 use lib.Seq.{sets}
-use Rattle.paper.proofs.Stores.{sets-turn}
+use Rattle.paper.proofs.Stores.{sets_turn}
 use Rattle.files.specs.declared.TableRead.{TableRead}
 use Rattle.files.specs.declared.reading.Fault.TheVariants as fault
 use Rattle.files.specs.declared.reading.Reading.{Reading}
@@ -22,17 +22,17 @@ use Rattle.files.specs.Inner.{with_input, Makes, Reads}
 -- ---- numbers that are stored
 
 module _ (l v : List ℕ) (at n : ℕ) (h : n ≤ length v) where
-  pub store-first : sets l (at + 0) (drop 0 (take n v)) ≡ sets l at (take n v)
-  store-first = rw add-zero
+  pub store_first : sets l (at + 0) (drop 0 (take n v)) ≡ sets l at (take n v)
+  store_first = rw add-zero
 
-  pub store-turn : (i : ℕ) → i < n → sets (set l (at + i) (get_or v i 0)) (at + (i + 1)) (drop (i + 1) (take n v)) ≡ sets l (at + i) (drop i (take n v))
-  store-turn i k =
+  pub store_turn : (i : ℕ) → i < n → sets (set l (at + i) (get_or v i 0)) (at + (i + 1)) (drop (i + 1) (take n v)) ≡ sets l (at + i) (drop i (take n v))
+  store_turn i k =
       let e : get_or (take n v) i 0 ≡ get_or v i 0 = get_or-take n v i 0 k in
       let q : i < length (take n v) = omega (arith, length-take-le n v h) in
-      rw e at (sets-turn l (take n v) at i 0 q)
+      rw e at (sets_turn l (take n v) at i 0 q)
 
-  pub store-over : (i : ℕ) → n ≤ i → l ≡ sets l (at + i) (drop i (take n v))
-  store-over i k =
+  pub store_over : (i : ℕ) → n ≤ i → l ≡ sets l (at + i) (drop i (take n v))
+  store_over i k =
       let q : length (take n v) ≤ i = omega (arith, length-take-le n v h) in
       rw (drop_of_length-le (take n v) {i = i} q)
 
@@ -52,21 +52,21 @@ begun_front r v =
     rw (a, b, c, d)
 
 module _ (r : Reading) (rows v : List ℕ) where
-  pub row-over : 13 ≤ length v → length rows < r.count + 13 → made (faulted fault.TooMany r) rows ≡ stored (made r rows) (take 13 v)
+  pub row_over : 13 ≤ length v → length rows < r.count + 13 → made (faulted fault.TooMany r) rows ≡ stored (made r rows) (take 13 v)
   unfolding stored
-  row-over h l = rw (length-take-le 13 v h, lt-leb (r.count + 13) (length rows) l)
+  row_over h l = rw (length-take-le 13 v h, lt-leb (r.count + 13) (length rows) l)
 
-  pub row-stored : 13 ≤ length v → r.count + 13 ≤ length rows → made (counted 13 r) (sets rows r.count (take 13 v)) ≡ stored (made r rows) (take 13 v)
+  pub row_stored : 13 ≤ length v → r.count + 13 ≤ length rows → made (counted 13 r) (sets rows r.count (take 13 v)) ≡ stored (made r rows) (take 13 v)
   unfolding stored
-  row-stored h l = rw (length-take-le 13 v h, le-leb (r.count + 13) (length rows) l)
+  row_stored h l = rw (length-take-le 13 v h, le-leb (r.count + 13) (length rows) l)
 
-  pub taken-first : r.awaits ≡ true → made (begun (take 4 v) r) rows ≡ taken (made r rows) (take (wanted r.awaits) v)
+  pub taken_first : r.awaits ≡ true → made (begun (take 4 v) r) rows ≡ taken (made r rows) (take (wanted r.awaits) v)
   unfolding taken wanted
-  taken-first e = rw e
+  taken_first e = rw e
 
-  pub taken-row : r.awaits ≡ false → {y : Made} → y ≡ stored (made r rows) (take 13 v) → y ≡ taken (made r rows) (take (wanted r.awaits) v)
+  pub taken_row : r.awaits ≡ false → {y : Made} → y ≡ stored (made r rows) (take 13 v) → y ≡ taken (made r rows) (take (wanted r.awaits) v)
   unfolding taken wanted
-  taken-row e t = t ∙ rw e
+  taken_row e t = t ∙ rw e
 
 -- ---- a line
 
@@ -77,24 +77,24 @@ wanted_small false = omega arith
 
 module _ (r : Reading) (rows s : List ℕ) {row : Row} {n : ℕ} {j k : Judged} (e : row ≡ row_of s) (f : n ≡ wanted r.awaits)
     (g : j ≡ judged_as n row.form) (h : j ≡ k) where
-  judged-line : judged_as (wanted r.awaits) (row_of s).form ≡ k
-  judged-line = rw (← f, ← e) (sym g ∙ h)
+  judged_line : judged_as (wanted r.awaits) (row_of s).form ≡ k
+  judged_line = rw (← f, ← e) (sym g ∙ h)
 
   pub line_as : with_judged (made r rows) (numbers_of (words_of s)) k ≡ with_line (made r rows) s
   unfolding with_line
-  line_as = sym (ap (λ (i : Judged). with_judged (made r rows) (numbers_of (words_of s)) i) judged-line)
+  line_as = sym (ap (λ (i : Judged). with_judged (made r rows) (numbers_of (words_of s)) i) judged_line)
 
 module _ (r : Reading) (rows s : List ℕ) {row : Row} {n : ℕ} {j : Judged} (e : row ≡ row_of s) (f : n ≡ wanted r.awaits)
     (g : j ≡ judged_as n row.form) (h : j ≡ judged.Good) where
-  pub line-good : {y : Made} → y ≡ taken (made r rows) (take (wanted r.awaits) row.values) → y ≡ with_line (made r rows) s
-  line-good t =
-      let v = front_numbers (wanted r.awaits) s (wanted_small r.awaits) (judged-line r rows s e f g h) in
+  pub line_good : {y : Made} → y ≡ taken (made r rows) (take (wanted r.awaits) row.values) → y ≡ with_line (made r rows) s
+  line_good t =
+      let v = front_numbers (wanted r.awaits) s (wanted_small r.awaits) (judged_line r rows s e f g h) in
       t ∙ rw (e, v) (line_as r rows s e f g h)
 
 module _ (r : Reading) (rows s : List ℕ) (b : Bool) where
-  pub next-over : 10000 ≤ r.line → made (faulted fault.TooMany r) rows ≡ with_next (made r rows) (came_as b s)
+  pub next_over : 10000 ≤ r.line → made (faulted fault.TooMany r) rows ≡ with_next (made r rows) (came_as b s)
   unfolding with_next
-  next-over h = rw (le-ltb r.line 10000 h)
+  next_over h = rw (le-ltb r.line 10000 h)
 
   module _ (h : r.line < 10000) {q : Reading} (e : q ≡ numbered r) where
     pub next-long : b ≡ true → made (faulted fault.LongLine q) rows ≡ with_next (made r rows) (came_as b s)
@@ -108,17 +108,17 @@ module _ (r : Reading) (rows s : List ℕ) (b : Bool) where
 -- ---- what the input brings
 
 module _ (x : Made) (input : Input) (line : List ℕ) where
-  pub input-broken : input.failed ≡ true → fails fault.NotRead x ≡ with_input x input line
+  pub input_broken : input.failed ≡ true → fails fault.NotRead x ≡ with_input x input line
   unfolding with_input
-  input-broken f = rw f
+  input_broken f = rw f
 
-  pub input-over : input.failed ≡ false → input.left ≡ 0 → x ≡ with_input x input line
+  pub input_over : input.failed ≡ false → input.left ≡ 0 → x ≡ with_input x input line
   unfolding with_input
-  input-over f z = rw (f, eq-eqb input.left 0 z)
+  input_over f z = rw (f, eq-eqb input.left 0 z)
 
-  pub input-line : input.failed ≡ false → (input.left ≡ 0 → ⊥) → with_next x (came_as input.long (take input.len line)) ≡ with_input x input line
+  pub input_line : input.failed ≡ false → (input.left ≡ 0 → ⊥) → with_next x (came_as input.long (take input.len line)) ≡ with_input x input line
   unfolding with_input
-  input-line f n = rw (f, ne_eqb input.left 0 n) (ap (with_next x) (go input.long))
+  input_line f n = rw (f, ne_eqb input.left 0 n) (ap (with_next x) (go input.long))
     where
       go : (b : Bool) → came_as b (take input.len line) ≡ current line input.len b
       go true = refl
@@ -159,38 +159,38 @@ module _ {room : ℕ} {x y z : Made} {piece line piece' line' : List ℕ} {input
   later = let st : Stand (length line) s.bytes s.lines input.ends (waiting piece input) = rw k s.stand in rw k at (stand_next st n)
 
   -- a line that came is one line more
-  came-line : r.failed ≡ eqb r.left 0 → (r.left ≡ 0 → ⊥) → z ≡ after x (s.lines ++ (line_in line' r ∷ []))
+  came_line : r.failed ≡ eqb r.left 0 → (r.left ≡ 0 → ⊥) → z ≡ after x (s.lines ++ (line_in line' r ∷ []))
   unfolding with_input
-  came-line f l =
+  came_line f l =
       let e : eqb r.left 0 ≡ false = ne_eqb r.left 0 l in
       let g : r.failed ≡ false = f ∙ e in
       m ∙ (rw (g, e, s.same) (sym (after_more s.lines (line_in line' r) x (rw s.same at ok))))
 
   came_none : r.failed ≡ false → r.left ≡ 0 → z ≡ after x s.lines
-  came_none f e = m ∙ (sym (input-over y r line' f e) ∙ s.same)
+  came_none f e = m ∙ (sym (input_over y r line' f e) ∙ s.same)
 
-  came-broken : r.failed ≡ true → z ≡ fails fault.NotRead y
-  came-broken f = m ∙ sym (input-broken y r line' f)
+  came_broken : r.failed ≡ true → z ≡ fails fault.NotRead y
+  came_broken f = m ∙ sym (input_broken y r line' f)
 
-  makes-broken : r.failed ≡ true → Makes room x z
+  makes_broken : r.failed ≡ true → Makes room x z
   unfolding unless_faulty
-  makes-broken f =
+  makes_broken f =
       let e : y ≡ after x (take (length s.lines) (lines_of room s.bytes)) = s.same ∙ ap (after x) (begins_front (stand_begins s.stand)) in
       let q : ended y (broken (length s.lines)) ≡ fails fault.NotRead y = rw ok in
-      record { bytes = s.bytes; ends = broken (length s.lines); same = came-broken f ∙ (sym q ∙ ap (λ (v : Made). ended v (broken (length s.lines))) e) }
+      record { bytes = s.bytes; ends = broken (length s.lines); same = came_broken f ∙ (sym q ∙ ap (λ (v : Made). ended v (broken (length s.lines))) e) }
 
   -- a reading that goes on
-  pub stood-turn : well z.reading.fault ≡ true → Stood room x z piece' r
-  stood-turn h = go later
+  pub stood_turn : well z.reading.fault ≡ true → Stood room x z piece' r
+  stood_turn h = go later
     where
       not-broken : r.failed ≡ true → ⊥
-      not-broken f = let e : well (fails fault.NotRead y).reading.fault ≡ true = rw (came-broken f) at h in let b : ◌≡◌ {A = ℕ} 0 1 = cc in omega arith
+      not-broken f = let e : well (fails fault.NotRead y).reading.fault ≡ true = rw (came_broken f) at h in let b : ◌≡◌ {A = ℕ} 0 1 = cc in omega arith
 
       more : (left : ℕ) → r.left ≡ left → (b : List ℕ) → Stand room b (s.lines ++ (line_in line' r ∷ [])) r.ends (waiting piece' r) → r.failed ≡ eqb r.left 0 → Stood room x z piece' r
       more zero e b st f = absurd (not-broken (f ∙ eq-eqb r.left 0 e))
       more (suc left) e b st f =
           let l : r.left ≡ 0 → ⊥ = λ q. omega arith in
-          record { lines = s.lines ++ (line_in line' r ∷ []); bytes = b; stand = st; same = came-line f l; over = λ q. absurd (l q) }
+          record { lines = s.lines ++ (line_in line' r ∷ []); bytes = b; stand = st; same = came_line f l; over = λ q. absurd (l q) }
 
       go : Later room s.lines piece' line' r → Stood room x z piece' r
       go (line_more b st f) = more r.left refl b st f
@@ -204,14 +204,14 @@ module _ {room : ℕ} {x y z : Made} {piece line piece' line' : List ℕ} {input
       go (cut_off q) = absurd (not-broken (ap (λ (i : Input). i.failed) q))
 
   -- a reading that ends with a fault
-  pub stood-fault : well z.reading.fault ≡ false → Makes room x z
-  stood-fault h = go later
+  pub stood_fault : well z.reading.fault ≡ false → Makes room x z
+  stood_fault h = go later
     where
       more : (left : ℕ) → r.left ≡ left → (b : List ℕ) → Stand room b (s.lines ++ (line_in line' r ∷ [])) r.ends (waiting piece' r) → r.failed ≡ eqb r.left 0 → Makes room x z
-      more zero e b st f = makes-broken (f ∙ eq-eqb r.left 0 e)
+      more zero e b st f = makes_broken (f ∙ eq-eqb r.left 0 e)
       more (suc left) e b st f =
           let ls : List Current = s.lines ++ (line_in line' r ∷ []) in
-          let c : z ≡ after x ls = came-line f (λ q. omega arith) in
+          let c : z ≡ after x ls = came_line f (λ q. omega arith) in
           let o = stand_begins st in
           record {
             bytes = b;
@@ -222,7 +222,7 @@ module _ {room : ℕ} {x y z : Made} {piece line piece' line' : List ℕ} {input
       go : Later room s.lines piece' line' r → Makes room x z
       go (line_more b st f) = more r.left refl b st f
       go (no_more b e q) = record { bytes = b; ends = over; same = came_none (ap (λ (i : Input). i.failed) q) (ap (λ (i : Input). i.left) q) ∙ ap (after x) (sym e) }
-      go (cut_off q) = makes-broken (ap (λ (i : Input). i.failed) q)
+      go (cut_off q) = makes_broken (ap (λ (i : Input). i.failed) q)
 
 -- and one at the input's end
 pub stood_over : {room : ℕ} {x y : Made} {piece : List ℕ} {input : Input} → Stood room x y piece input → input.left ≡ 0 → Makes room x y
@@ -234,8 +234,8 @@ pub makes_from : {room : ℕ} {p r : Reading} {rows : List ℕ} {y : Made} → p
 makes_from f m = rw (← f) m
 
 module _ {rows : List ℕ} where
-  pub reads-shut : {q r : Reading} → q ≡ faulted fault.NotOpened r → r ≡ begin → Reads rows (made q rows)
-  reads-shut e f = record { file = shut; same = rw (e, f) }
+  pub reads_shut : {q r : Reading} → q ≡ faulted fault.NotOpened r → r ≡ begin → Reads rows (made q rows)
+  reads_shut e f = record { file = shut; same = rw (e, f) }
 
   pub reads_lines : {y : Made} → Makes 4096 (made begin rows) y → Reads rows y
   reads_lines m = record { file = holds m.bytes m.ends; same = m.same }

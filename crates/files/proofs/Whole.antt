@@ -65,24 +65,24 @@ rules_fits {rules} r e =
 -- ---- what comes of a reading
 
 module _ (why : Refusal) {n : ℕ} (e : n ≡ number why) where
-  pub refused-two : n ≡ 2 → rules_answer.Refused ≡ refused_as why
+  pub refused_two : n ≡ 2 → rules_answer.Refused ≡ refused_as why
   unfolding refused_as
-  refused-two h = rw (eq-eqb (number why) 2 (sym e ∙ h))
+  refused_two h = rw (eq-eqb (number why) 2 (sym e ∙ h))
 
-  pub refused-other : (n ≡ 2 → ⊥) → rules_answer.Not ≡ refused_as why
+  pub refused_other : (n ≡ 2 → ⊥) → rules_answer.Not ≡ refused_as why
   unfolding refused_as
-  refused-other h = rw (ne_eqb (number why) 2 (λ q. h (e ∙ q)))
+  refused_other h = rw (ne_eqb (number why) 2 (λ q. h (e ∙ q)))
 
 -- some text was read
 pub reads_text : {s rules left : List ℕ} {r : RulesRead} → Gives s rules r left → ReadsRules rules r left
 reads_text {s} g = record { text = holds s; same = g.same }
 
 module _ (s rules : List ℕ) {left : List ℕ} {r : FileRead} (e : (read_says r, left) ≡ read_into s rules) where
-  pub rules-are : {k : ℕ} → r ≡ read.Rules k → Gives s rules (rules_answer.Are (k * 8)) left
-  rules-are f = record { same = ap (λ (x : FileRead). rules_as (read_says x, left)) (sym f) ∙ ap rules_as e }
+  pub rules_are : {k : ℕ} → r ≡ read.Rules k → Gives s rules (rules_answer.Are (k * 8)) left
+  rules_are f = record { same = ap (λ (x : FileRead). rules_as (read_says x, left)) (sym f) ∙ ap rules_as e }
 
   pub rules_refused : {why : Refusal} {a : RulesRead} → r ≡ read.Refused why → a ≡ refused_as why → Gives s rules a left
-  rules-refused f g = record {
+  rules_refused f g = record {
     same = ap (λ (x : RulesRead). (x, left)) g ∙ (ap (λ (x : FileRead). rules_as (read_says x, left)) (sym f) ∙ ap rules_as e);
   }
 

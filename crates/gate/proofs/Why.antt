@@ -13,14 +13,14 @@ use Rattle.paper.specs.declared.Refusal.{Refusal}
 use Rattle.paper.specs.declared.Refusal.TheVariants.{BadTable, BadRules}
 use Rattle.paper.specs.Answers.{Answer, answered, refused, given, then}
 use Rattle.paper.proofs.Answers.{given_then}
-use Rattle.paper.proofs.Stores.{sets-front}
+use Rattle.paper.proofs.Stores.{sets_front}
 use Rattle.gregorian.specs.Calendar.{weekday_of}
 use Rattle.conversion.specs.Calendar.{Calendar, bs, to_day}
 use Rattle.conversion.specs.Flat.{flat}
 use Rattle.rules.specs.Lent.{accepting}
 use Rattle.rules.specs.Rules.{rules_of, accepted_rules}
 use Rattle.rules.specs.Festivals.{Pair, numbers}
-use Rattle.rules.proofs.Lent.{lent-on, lent-not}
+use Rattle.rules.proofs.Lent.{lent_on, lent_not}
 use Rattle.rules.proofs.Listed.{numbers_length}
 use Rattle.rules.proofs.Questions.{then_by, then_not}
 use Rattle.festivals.specs.Kathmandu.{day_list_of}
@@ -48,11 +48,11 @@ module _ (xs : List ℕ) (i n : ℕ) (h : i < n) (r : Reason) (q : marked_from x
       let e : n - i ≡ suc (n - (i + 1)) = omega arith in
       sym (ap (marked_from xs i) e ∙ marked_suc xs i (n - (i + 1))) ∙ q
 
-  pub marked-here : get_or xs (i * 2 + 1) 0 ≡ 1 → Festival (get_or xs (i * 2) 0) ≡ r
-  marked-here e = rw (eq-eqb (get_or xs (i * 2 + 1) 0) 1 e) at turn
+  pub marked_here : get_or xs (i * 2 + 1) 0 ≡ 1 → Festival (get_or xs (i * 2) 0) ≡ r
+  marked_here e = rw (eq-eqb (get_or xs (i * 2 + 1) 0) 1 e) at turn
 
-  pub marked-on : (get_or xs (i * 2 + 1) 0 ≡ 1 → ⊥) → marked_from xs (i + 1) (n - (i + 1)) ≡ r
-  marked-on e = rw (ne_eqb (get_or xs (i * 2 + 1) 0) 1 e) at turn
+  pub marked_on : (get_or xs (i * 2 + 1) 0 ≡ 1 → ⊥) → marked_from xs (i + 1) (n - (i + 1)) ≡ r
+  marked_on e = rw (ne_eqb (get_or xs (i * 2 + 1) 0) 1 e) at turn
 
 -- ---- a list that stands in a buffer
 
@@ -70,35 +70,35 @@ found (a ∷ l) xs ys i e =
 pub stored : (l : List Pair) (xs ys : List ℕ) (n : ℕ) → ys ≡ sets xs 0 (numbers l) → n ≡ 0 + length l → n * 2 ≤ length xs → marked_from ys 0 n ≡ first_holiday l
 stored l xs ys n p q h =
     let e : n ≡ length l = omega arith in
-    let w : ys ≡ numbers l ++ drop (length (numbers l)) xs = p ∙ sets-front (numbers l) xs (omega (arith, numbers_length l)) in
+    let w : ys ≡ numbers l ++ drop (length (numbers l)) xs = p ∙ sets_front (numbers l) xs (omega (arith, numbers_length l)) in
     rw e (found l ys (drop (length (numbers l)) xs) 0 w)
 
 -- ---- a day
 
 module _ (n w : ℕ) (l : List Pair) (e : w ≡ weekday_of n) where
-  pub on-saturday : w ≡ 6 → Saturday ≡ reason_of n l
+  pub on_saturday : w ≡ 6 → Saturday ≡ reason_of n l
   unfolding reason_of
-  on-saturday h = rw (← e, eq-eqb w 6 h)
+  on_saturday h = rw (← e, eq-eqb w 6 h)
 
-  pub by-list : (w ≡ 6 → ⊥) → (r : Reason) → r ≡ first_holiday l → r ≡ reason_of n l
+  pub by_list : (w ≡ 6 → ⊥) → (r : Reason) → r ≡ first_holiday l → r ≡ reason_of n l
   unfolding reason_of
-  by-list h r q = rw (← e, ne_eqb w 6 h) q
+  by_list h r q = rw (← e, ne_eqb w 6 h) q
 
 -- ---- a date
 
 module _ (c : Calendar) (rules : List ℕ) (y m d : ℕ) where
   -- what is lent is refused
-  pub not-lent : (k : Refusal) → refused k ≡ accepting c (accepted_rules rules) → refused k ≡ reason_under c rules y m d
+  pub not_lent : (k : Refusal) → refused k ≡ accepting c (accepted_rules rules) → refused k ≡ reason_under c rules y m d
   unfolding reason_under
-  not-lent k e = sym (lent-not c (accepted_rules rules) _ k e)
+  not_lent k e = sym (lent_not c (accepted_rules rules) _ k e)
 
   module _ (g : c.good ≡ true) (o : accepted_rules rules ≡ true) where
     by-day : reason_under c rules y m d ≡ then (to_day c y m d) (λ n. answered (reason_of n (day_list_of c (rules_of rules) (bs y m d) n)))
     unfolding reason_under
-    by-day = lent-on c (accepted_rules rules) _ g o
+    by-day = lent_on c (accepted_rules rules) _ g o
 
     pub no_day_law : (k : Refusal) → to_day c y m d ≡ refused k → refused k ≡ reason_under c rules y m d
-    no-day k e = sym (by-day ∙ then_not (to_day c y m d) _ k e)
+    no_day_law k e = sym (by-day ∙ then_not (to_day c y m d) _ k e)
 
     pub told-on : (n : ℕ) (r : Reason) → to_day c y m d ≡ answered n → r ≡ reason_of n (day_list_of c (rules_of rules) (bs y m d) n) → answered r ≡ reason_under c rules y m d
     told-on n r e q = ap answered q ∙ sym (by-day ∙ then_by (to_day c y m d) _ n e)

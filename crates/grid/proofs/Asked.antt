@@ -15,52 +15,52 @@ use Rattle.conversion.specs.Calendar.{Calendar, of_month, day_at, month_len}
 use Rattle.conversion.specs.Flat.{accepted, flat}
 use Rattle.conversion.proofs.Accepted.{facts}
 use Rattle.conversion.proofs.Rows.{row_lens}
-use Rattle.conversion.proofs.Days.{InTable, Valid, in-month, valid_on}
+use Rattle.conversion.proofs.Days.{InTable, Valid, in_month_law, valid_on}
 use Rattle.rules.specs.declared.lists.Day.{Day}
 use Rattle.rules.specs.Lent.{accepting}
 use Rattle.rules.specs.Festivals.{Pair}
-use Rattle.rules.proofs.Lent.{given_not, lent-on, lent-told, lent-not}
+use Rattle.rules.proofs.Lent.{given_not, lent_on, lent_told, lent_not}
 use Rattle.panchanga.specs.declared.lunar.Reading.{Reading}
 use Rattle.festivals.specs.Months.{each}
-use Rattle.grid.specs.Month.{Grid, day_on, listOn, cellOn, gridOf, fitted, month_grid}
+use Rattle.grid.specs.Month.{Grid, day_on, list_on, cell_on, grid_of, fitted, month_grid}
 
 -- ---- the refusals, in their order
 
 module _ (c : Calendar) (ok : Bool) (list : Day → List Pair) (reading : Day → Reading) (today : Date) (y m a b : ℕ) where
   -- what is lent is refused
-  pub not-lent : (k : Refusal) → refused k ≡ accepting c ok → month_grid c ok list reading today y m a b ≡ refused k
+  pub not_lent : (k : Refusal) → refused k ≡ accepting c ok → month_grid c ok list reading today y m a b ≡ refused k
   unfolding month_grid
-  not-lent k e = lent-not c ok _ k e
+  not_lent k e = lent_not c ok _ k e
 
   -- today has no number
-  pub no-today : c.good ≡ true → ok ≡ true → (k : Refusal) → refused k ≡ number_answer today → month_grid c ok list reading today y m a b ≡ refused k
+  pub no_today : c.good ≡ true → ok ≡ true → (k : Refusal) → refused k ≡ number_answer today → month_grid c ok list reading today y m a b ≡ refused k
   unfolding month_grid
-  no-today g o k e = lent-on c ok _ g o ∙ given_not (real today) NoSuchDate k _ _ e
+  no_today g o k e = lent_on c ok _ g o ∙ given_not (real today) NoSuchDate k _ _ e
 
   -- the rest is a question about a month, and goes by way of the month's length
-  by-month : ok ≡ true → real today ≡ true
-      → month_grid c ok list reading today y m a b ≡ of_month c y m (fitted (gridOf list reading today y m (day_at c (y - c.first) (m - 1) 0) (c.len (y - c.first) (m - 1))) a b)
+  by_month : ok ≡ true → real today ≡ true
+      → month_grid c ok list reading today y m a b ≡ of_month c y m (fitted (grid_of list reading today y m (day_at c (y - c.first) (m - 1) 0) (c.len (y - c.first) (m - 1))) a b)
   unfolding month_grid
-  by-month h k = ap (given c.good BadTable) (given_on ok BadRules _ h ∙ given_on (real today) NoSuchDate _ k)
+  by_month h k = ap (given c.good BadTable) (given_on ok BadRules _ h ∙ given_on (real today) NoSuchDate _ k)
 
   pub by_length : ok ≡ true → real today ≡ true
-      → month_grid c ok list reading today y m a b ≡ then (month_len c y m) (λ n. fitted (gridOf list reading today y m (day_at c (y - c.first) (m - 1) 0) n) a b)
+      → month_grid c ok list reading today y m a b ≡ then (month_len c y m) (λ n. fitted (grid_of list reading today y m (day_at c (y - c.first) (m - 1) 0) n) a b)
   unfolding month_len
-  by_length h k = by-month h k ∙ simp (given_then, then_answered)
+  by_length h k = by_month h k ∙ simp (given_then, then_answered)
 
   -- what is known of a month that is answered
   pub record Told (g : Grid) : Type 0 where
     pub month : InTable c y m
     pub rules : ok ≡ true
     pub is_date_law : real today ≡ true
-    pub grid : gridOf list reading today y m (day_at c (y - c.first) (m - 1) 0) (c.len (y - c.first) (m - 1)) ≡ g
+    pub grid : grid_of list reading today y m (day_at c (y - c.first) (m - 1) 0) (c.len (y - c.first) (m - 1)) ≡ g
 
   pub told : (g : Grid) → month_grid c ok list reading today y m a b ≡ answered g → Told g
   unfolding month_grid fitted
   told g h =
-      let p = lent-told c ok _ h in
+      let p = lent_told c ok _ h in
       let r = given_answered (real today) NoSuchDate _ p.2 in
-      let k = in-month c y m _ (given_on c.good BadTable _ p.0 ∙ r.1) in
+      let k = in_month_law c y m _ (given_on c.good BadTable _ p.0 ∙ r.1) in
       record { month = k.0; rules = p.1; is_date_law = r.0; grid = answered_same (given_answered _ NoRoom _ k.1).1 }
 
 -- ---- a month of an accepted table
@@ -93,9 +93,9 @@ each_ext f g k zero h = refl
 each_ext f g k (suc n) h = rw (h k (omega arith), each_ext f g (k + 1) n (λ d l. h d (omega arith)))
 
 pub grid_ext : (list other : Day → List Pair) (reading : Day → Reading) (today : Date) (y m first n : ℕ) → ((d : ℕ) → d < n → list (day_on y m first d) ≡ other (day_on y m first d))
-    → gridOf list reading today y m first n ≡ gridOf other reading today y m first n
-unfolding gridOf
+    → grid_of list reading today y m first n ≡ grid_of other reading today y m first n
+unfolding grid_of
 grid_ext list other reading today y m first n h =
-    let l = each_ext (listOn list reading today y m first) (listOn other reading today y m first) 0 n (λ d k. h d (omega arith)) in
-    let c = each_ext (cellOn list reading today y m first) (cellOn other reading today y m first) 0 n (λ d k. let e = h d (omega arith) in rw e) in
+    let l = each_ext (list_on list reading today y m first) (list_on other reading today y m first) 0 n (λ d k. h d (omega arith)) in
+    let c = each_ext (cell_on list reading today y m first) (cell_on other reading today y m first) 0 n (λ d k. let e = h d (omega arith) in rw e) in
     rw (l, c)

@@ -22,7 +22,7 @@ use Rattle.rules.proofs.Used.{two_years}
 use Rattle.festivals.specs.Kathmandu.{years_in}
 use Rattle.grid.specs.declared.page.Plan.{Plan}
 use Rattle.grid.specs.Kathmandu.{reading_on, list_under, grid_under}
-use Rattle.grid.specs.Inner.{Planned, plan_for, listFor, gridBy}
+use Rattle.grid.specs.Inner.{Planned, plan_for, list_for, grid_by}
 use Rattle.grid.proofs.Asked.{in_range_law, grid_ext}
 
 -- ---- the first day
@@ -40,8 +40,8 @@ module _ (t : Table) (rows : List ℕ) (e : accepted t rows ≡ true) (y m d : �
   pub first_is : (n : ℕ) → answered n ≡ to_day c y m d → n ≡ day_at c (y - t.first_year) (m - 1) 0
   first_is n h = answered_same (h ∙ has_first)
 
-  pub always-first : {A : Type 0} (k : Refusal) → refused k ≡ to_day c y m d → A
-  always-first k h = absurd (refused_answered (sym h) has_first)
+  pub always_first : {A : Type 0} (k : Refusal) → refused k ≡ to_day c y m d → A
+  always_first k h = absurd (refused_answered (sym h) has_first)
 
 -- ---- the plan
 
@@ -58,11 +58,11 @@ module _ (t : Table) (rows : List ℕ) (e : accepted t rows ≡ true) (y m n : �
 
   -- and from the two years that its lists come from
   module _ (rules : List ℕ) (ok : accepted_rules rules ≡ true) (today : Date) (years : Years) (ey : years ≡ years_in (flat t rows) (rules_of rules) y m) (p : Plan) (ep : p ≡ plan_for (flat t rows) today y m n years) where
-    pub same-grid : grid_under (flat t rows) rules today y m n ≡ gridBy rules p
+    pub same-grid : grid_under (flat t rows) rules today y m n ≡ grid_by rules p
     same-grid =
         let q = plan_for (flat t rows) today y m n (years_in (flat t rows) (rules_of rules) y m) in
         let w = planned today (years_in (flat t rows) (rules_of rules) y m) in
         sym
-        (ap (gridBy rules) (ep ∙ ap (plan_for (flat t rows) today y m n) ey)
-        ∙ grid_ext (listFor rules q) (list_under (flat t rows) rules) reading_on today y m q.first n
+        (ap (grid_by rules) (ep ∙ ap (plan_for (flat t rows) today y m n) ey)
+        ∙ grid_ext (list_for rules q) (list_under (flat t rows) rules) reading_on today y m q.first n
         (λ d l. two_years _ (flat t rows) (rules_of rules) (bs y m (d + 1)) (q.first + d) (good_rules rules ok).counts.computed_few (omega (arith, w.from))))

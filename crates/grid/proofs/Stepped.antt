@@ -27,28 +27,28 @@ left_below (pos a) = omega arith
 left_below (negsuc a) = omega arith
 
 module _ (first years : ℕ) where
-  pub before-zero : (z : ℤ) → lt_z z (pos 0) ≡ true → month_at first years z ≡ refused OffTable
+  pub before_zero : (z : ℤ) → lt_z z (pos 0) ≡ true → month_at first years z ≡ refused OffTable
   unfolding month_at given whole_years
-  before-zero (pos n) e = absurd (omega (arith, ltb-true n 0 e))
-  before-zero (negsuc n) e = refl
+  before_zero (pos n) e = absurd (omega (arith, ltb-true n 0 e))
+  before_zero (negsuc n) e = refl
 
-  pub too-early : (n : ℕ) → n / 12 < first → month_at first years (pos n) ≡ refused OffTable
+  pub too_early : (n : ℕ) → n / 12 < first → month_at first years (pos n) ≡ refused OffTable
   unfolding month_at given whole_years
-  too-early n h = simp (lt-leb first (n / 12) h)
+  too_early n h = simp (lt-leb first (n / 12) h)
 
-  pub too-late : (n : ℕ) → first + years ≤ n / 12 → month_at first years (pos n) ≡ refused OffTable
+  pub too_late : (n : ℕ) → first + years ≤ n / 12 → month_at first years (pos n) ≡ refused OffTable
   unfolding month_at given whole_years
-  too-late n h = simp (le-ltb (n / 12) (first + years) h, and_false)
+  too_late n h = simp (le-ltb (n / 12) (first + years) h, and_false)
 
-  pub in-time : (n : ℕ) → first ≤ n / 12 → n / 12 < first + years → month_at first years (pos n) ≡ answered (record { year = n / 12; month = n % 12 + 1 })
+  pub in_time : (n : ℕ) → first ≤ n / 12 → n / 12 < first + years → month_at first years (pos n) ≡ answered (record { year = n / 12; month = n % 12 + 1 })
   unfolding month_at given whole_years months_left
-  in-time n h k = simp (le-leb first (n / 12) h, lt-ltb (n / 12) (first + years) k)
+  in_time n h k = simp (le-leb first (n / 12) h, lt-ltb (n / 12) (first + years) k)
 
 module _ (c : Calendar) (y m : ℕ) (s : ℤ) where
-  pub step-bad : c.good ≡ false → step_month c y m s ≡ refused BadTable
+  pub step_bad : c.good ≡ false → step_month c y m s ≡ refused BadTable
   unfolding step_month given
-  step-bad e = rw e
+  step_bad e = rw e
 
-  pub step-good : c.good ≡ true → step_month c y m s ≡ month_at c.first c.years (absolute y m s)
+  pub step_good : c.good ≡ true → step_month c y m s ≡ month_at c.first c.years (absolute y m s)
   unfolding step_month given
-  step-good e = rw e
+  step_good e = rw e

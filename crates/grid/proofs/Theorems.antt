@@ -22,17 +22,17 @@ use Rattle.festivals.specs.Months.{each}
 use Rattle.festivals.proofs.Moons.{each_length, each_at}
 use Rattle.grid.specs.Cells.{one, holiday_of, cell_with, blank}
 use Rattle.grid.specs.Claims.{InWeeks, Written}
-use Rattle.grid.specs.Month.{Grid, listOn, cellOn, gridOf, cell_numbers, festival_numbers, month_grid, shown}
+use Rattle.grid.specs.Month.{Grid, list_on, cell_on, grid_of, cell_numbers, festival_numbers, month_grid, shown}
 use Rattle.grid.proofs.Marks.{cell_length}
 use Rattle.grid.proofs.Weeks.{month_length_law, month-numbers, weeks_whole, weeks_lead, weeks_at, weeks_tail}
 use Rattle.grid.proofs.Asked.{told}
 
 module _ (list : Day → List Pair) (reading : Day → Reading) (today : Date) (y m first : ℕ) where
   -- a month of so many days: the blanks before the first are as many as its weekday
-  pub laid_out : (days : ℕ) → InWeeks (weekday_of first) days (cellOn list reading today y m first) (gridOf list reading today y m first days).cells
-  unfolding gridOf
+  pub laid_out : (days : ℕ) → InWeeks (weekday_of first) days (cell_on list reading today y m first) (grid_of list reading today y m first days).cells
+  unfolding grid_of
   laid_out days =
-      let f = cellOn list reading today y m first in
+      let f = cell_on list reading today y m first in
       let lead = weekday_of first in
       let n = each_length f 0 days in
       record {
@@ -44,14 +44,14 @@ module _ (list : Day → List Pair) (reading : Day → Reading) (today : Date) (
       }
 
   -- the holiday number of a day's cell: a Saturday, or a holiday in the list as shown
-  pub holiday-says : (d : ℕ) → get_or (cellOn list reading today y m first d) 6 0 ≡ one (holiday_of (first + d) (listOn list reading today y m first d))
+  pub holiday_says_law : (d : ℕ) → get_or (cell_on list reading today y m first d) 6 0 ≡ one (holiday_of (first + d) (list_on list reading today y m first d))
   unfolding cell_with
-  holiday-says d = refl
+  holiday_says_law d = refl
 
   -- its last number is the length of that list
-  pub count-says : (d : ℕ) → get_or (cellOn list reading today y m first d) 11 0 ≡ length (listOn list reading today y m first d)
+  pub count_says : (d : ℕ) → get_or (cell_on list reading today y m first d) 11 0 ≡ length (list_on list reading today y m first d)
   unfolding cell_with
-  count-says d = refl
+  count_says d = refl
 
 -- ---- a month that is answered
 
@@ -62,22 +62,22 @@ module _ (c : Calendar) (ok : Bool) (list : Day → List Pair) (reading : Day �
   abbrev days : ℕ
   days = c.len (y - c.first) (m - 1)
 
-  pub month-weeks : InWeeks (weekday_of first) days (cellOn list reading today y m first) g.cells
-  month-weeks = subst (λ (z : Grid). InWeeks (weekday_of first) days (cellOn list reading today y m first) z.cells) (told c ok list reading today y m a b g h).grid (laid_out list reading today y m first days)
+  pub month_weeks : InWeeks (weekday_of first) days (cell_on list reading today y m first) g.cells
+  month_weeks = subst (λ (z : Grid). InWeeks (weekday_of first) days (cell_on list reading today y m first) z.cells) (told c ok list reading today y m a b g h).grid (laid_out list reading today y m first days)
 
-  pub month-holiday : (d : ℕ) → d < days → get_or (get_or g.cells (weekday_of first + d) blank) 6 0 ≡ one (holiday_of (first + d) (listOn list reading today y m first d))
-  month-holiday d k = ap (λ (l : List ℕ). get_or l 6 0) (month-weeks.each_day d k) ∙ holiday-says list reading today y m first d
+  pub month_holiday : (d : ℕ) → d < days → get_or (get_or g.cells (weekday_of first + d) blank) 6 0 ≡ one (holiday_of (first + d) (list_on list reading today y m first d))
+  month_holiday d k = ap (λ (l : List ℕ). get_or l 6 0) (month_weeks.each_day d k) ∙ holiday_says_law list reading today y m first d
 
-  pub month-count : (d : ℕ) → d < days → get_or (get_or g.cells (weekday_of first + d) blank) 11 0 ≡ length (listOn list reading today y m first d)
-  month-count d k = ap (λ (l : List ℕ). get_or l 11 0) (month-weeks.each_day d k) ∙ count-says list reading today y m first d
+  pub month_count : (d : ℕ) → d < days → get_or (get_or g.cells (weekday_of first + d) blank) 11 0 ≡ length (list_on list reading today y m first d)
+  month_count d k = ap (λ (l : List ℕ). get_or l 11 0) (month_weeks.each_day d k) ∙ count_says list reading today y m first d
 
 -- ---- what the call answers and writes
 
 numbers_count : (list : Day → List Pair) (reading : Day → Reading) (today : Date) (y m first days : ℕ)
-    → let g = gridOf list reading today y m first days in length (cell_numbers g) ≡ length g.cells * 12
-unfolding gridOf
+    → let g = grid_of list reading today y m first days in length (cell_numbers g) ≡ length g.cells * 12
+unfolding grid_of
 numbers_count list reading today y m first days =
-    let f = cellOn list reading today y m first in
+    let f = cell_on list reading today y m first in
     month-numbers f (weekday_of first) days (λ d. cell_length _ _ _ _ _) ∙ ap (λ (k : ℕ). k * 12) (sym (month_length_law f (weekday_of first) days))
 
 answered_grid : (a : Answer Grid) (cells festivals : List ℕ) (r : Month) → (shown a cells festivals).answer ≡ answered r → (g : Grid) × (a ≡ answered g)
@@ -101,11 +101,11 @@ module _ (c : Calendar) (ok : Bool) (list : Day → List Pair) (reading : Day �
   abbrev asked : Answer Grid
   asked = month_grid c ok list reading today y m (length cells) (length festivals)
 
-  pub month-written : (shown asked cells festivals).answer ≡ answered r
+  pub month_written : (shown asked cells festivals).answer ≡ answered r
       → (g : Grid) × ((asked ≡ answered g) × Written g (shown asked cells festivals).cells (shown asked cells festivals).festivals r)
-  month-written h =
+  month_written h =
       let z = answered_grid asked cells festivals r h in
       let g = z.0 in
       let is = (told c ok list reading today y m (length cells) (length festivals) g z.1).grid in
       let n = subst (λ (f : Grid). length (cell_numbers f) ≡ length f.cells * 12) is (numbers_count list reading today y m _ _) in
-      (g, (z.1, written asked g cells festivals r z.1 (month-weeks c ok list reading today y m (length cells) (length festivals) g z.1).whole n h))
+      (g, (z.1, written asked g cells festivals r z.1 (month_weeks c ok list reading today y m (length cells) (length festivals) g z.1).whole n h))

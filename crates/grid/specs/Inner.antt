@@ -14,7 +14,7 @@ use Rattle.rules.specs.Resolved.{list_by}
 use Rattle.grid.specs.declared.page.Plan.{Plan}
 use Rattle.grid.specs.declared.Month.{Month}
 use Rattle.grid.specs.Cells.{to_fill}
-use Rattle.grid.specs.Month.{Grid, Shown, listOn, cellOn, gridOf, fitted, shown}
+use Rattle.grid.specs.Month.{Grid, Shown, list_on, cell_on, grid_of, fitted, shown}
 use Rattle.grid.specs.Kathmandu.{reading_on, grid_under}
 
 -- a day number from that of 1 January 1900 to that of 31 December 2149
@@ -47,21 +47,21 @@ plan_for c today y m days years =
 -- ---- a month from two resolved years
 
 module _ (rules : List ℕ) (p : Plan) where
-  abbrev pub listFor : Day → List Pair
-  listFor q = list_by (rules_of rules) q p.years
+  abbrev pub list_for : Day → List Pair
+  list_for q = list_by (rules_of rules) q p.years
 
-  abbrev pub listAt : ℕ → List Pair
-  listAt = listOn listFor reading_on p.today p.year p.month p.first
+  abbrev pub list_at : ℕ → List Pair
+  list_at = list_on list_for reading_on p.today p.year p.month p.first
 
   abbrev pub cell_at : ℕ → List ℕ
-  cell_at = cellOn listFor reading_on p.today p.year p.month p.first
+  cell_at = cell_on list_for reading_on p.today p.year p.month p.first
 
-  abbrev pub gridBy : Grid
-  gridBy = gridOf listFor reading_on p.today p.year p.month p.first p.days
+  abbrev pub grid_by : Grid
+  grid_by = grid_of list_for reading_on p.today p.year p.month p.first p.days
 
 -- it is written where each buffer is long enough
 abbrev pub shown_by : List ℕ → Plan → List ℕ → List ℕ → Shown
-shown_by rules p cells festivals = shown (fitted (gridBy rules p) (length cells) (length festivals)) cells festivals
+shown_by rules p cells festivals = shown (fitted (grid_by rules p) (length cells) (length festivals)) cells festivals
 
 abbrev pub cells_of : Plan → ℕ
 cells_of p = weekday_of p.first + p.days + to_fill (weekday_of p.first + p.days)

@@ -12,7 +12,7 @@ use Rattle.panchanga.specs.declared.lunar.Reading.{Reading}
 use Rattle.panchanga.specs.Noaa as Noaa
 use Rattle.panchanga.specs.Reading.{reading_of}
 use Rattle.festivals.specs.Kathmandu.{day_list_of}
-use Rattle.grid.specs.Month.{Grid, Shown, gridOf, month_grid, shown}
+use Rattle.grid.specs.Month.{Grid, Shown, grid_of, month_grid, shown}
 
 -- the reading of a day
 abbrev pub reading_on : Day → Reading
@@ -24,7 +24,7 @@ list_under c rules q = day_list_of c (rules_of rules) q.bs q.number
 
 -- month m of year y, which has so many days
 abbrev pub grid_under : Calendar → List ℕ → Date → ℕ → ℕ → ℕ → Grid
-grid_under c rules today y m days = gridOf (list_under c rules) reading_on today y m (day_at c (y - c.first) (m - 1) 0) days
+grid_under c rules today y m days = grid_of (list_under c rules) reading_on today y m (day_at c (y - c.first) (m - 1) 0) days
 
 -- the month that is asked for, for two buffers of so many numbers: refusals 1, 2, 3, 4, 5, 9
 abbrev pub month_under : Calendar → List ℕ → Date → ℕ → ℕ → ℕ → ℕ → Answer Grid

@@ -30,21 +30,21 @@ pub record Grid : Type 0 where
   pub festivals : List Pair
 
 module _ (list : Day → List Pair) (reading : Day → Reading) (today : Date) (y m first : ℕ) where
-  abbrev pub listOn : ℕ → List Pair
-  listOn d = list (day_on y m first d)
+  abbrev pub list_on : ℕ → List Pair
+  list_on d = list (day_on y m first d)
 
-  abbrev pub cellOn : ℕ → List ℕ
-  cellOn d = day_cell today (day_on y m first d) (listOn d) (reading (day_on y m first d))
+  abbrev pub cell_on : ℕ → List ℕ
+  cell_on d = day_cell today (day_on y m first d) (list_on d) (reading (day_on y m first d))
 
   -- a month of so many days
-  unfoldable pub gridOf : ℕ → Grid
-  gridOf days =
+  unfoldable pub grid_of : ℕ → Grid
+  grid_of days =
       record {
         days = days;
         first = date_of first;
         last = date_of (first + (days - 1));
-        cells = weeks (weekday_of first) (each cellOn 0 days);
-        festivals = joined (each listOn 0 days);
+        cells = weeks (weekday_of first) (each cell_on 0 days);
+        festivals = joined (each list_on 0 days);
       }
 
 -- what is written of it into the two buffers
@@ -67,7 +67,7 @@ month_grid c ok list reading today y m cellRoom festivalRoom =
     lent c ok
     (given (real today) NoSuchDate
     (given (year_ok c y) NoYear
-    (given (month_ok m) NoMonth (fitted (gridOf list reading today y m first days) cellRoom festivalRoom))))
+    (given (month_ok m) NoMonth (fitted (grid_of list reading today y m first days) cellRoom festivalRoom))))
 
 -- what is answered, and the two lent buffers as they then stand
 pub record Shown : Type 0 where

@@ -7,7 +7,7 @@ ghost use Rattle.rules.specs.Festivals.{numbers};
 ghost use Rattle.festivals.specs.Months.{each};
 ghost use Rattle.grid.specs.Cells.{joined};
 ghost use Rattle.grid.specs.Month.{grid_says};
-ghost use Rattle.grid.specs.Inner.{Planned, Roomy, listAt, cell_at, shown_by, cells_of, month_of};
+ghost use Rattle.grid.specs.Inner.{Planned, Roomy, list_at, cell_at, shown_by, cells_of, month_of};
 
 use crate::cells::{day_cell, day_on, is_holiday, reading_on};
 use crate::{GridAnswer, Month};
@@ -58,8 +58,8 @@ fn put_cell(
     requires planned { Planned plan × (d < plan.days) }
     requires roomy { Roomy page.old lists.old × (at ≤ 384 * d) }
     ensures page_after { page.new ≡ sets page.old ((weekday_of plan.first + d) * 12) (cell_at rules.now plan d) }
-    ensures lists_after { lists.new ≡ sets lists.old (at * 2) (numbers (listAt rules.now plan d)) }
-    ensures value { result ≡ at + length (listAt rules.now plan d) }
+    ensures lists_after { lists.new ≡ sets lists.old (at * 2) (numbers (list_at rules.now plan d)) }
+    ensures value { result ≡ at + length (list_at rules.now plan d) }
     ensures upper_bound { result ≤ at + 384 }
 {
     let day = day_on(plan.year, plan.month, plan.first, d);
@@ -77,8 +77,8 @@ fn fill(rules: &[u16], plan: Plan, page: &mut [u16], lists: &mut [u16]) -> usize
     requires planned { Planned plan × Roomy page.old lists.old }
     ensures page_after { page.new
         ≡ sets page.old (weekday_of plan.first * 12) (joined (each (cell_at rules.now plan) 0 plan.days)) }
-    ensures lists_after { lists.new ≡ sets lists.old 0 (numbers (joined (each (listAt rules.now plan) 0 plan.days))) }
-    ensures value { result ≡ length (joined (each (listAt rules.now plan) 0 plan.days)) }
+    ensures lists_after { lists.new ≡ sets lists.old 0 (numbers (joined (each (list_at rules.now plan) 0 plan.days))) }
+    ensures value { result ≡ length (joined (each (list_at rules.now plan) 0 plan.days)) }
     ensures upper_bound { result ≤ 12288 }
 {
     let days = plan.days;

@@ -36,7 +36,7 @@ module _ (a : Table) (old : List ℕ) (b : Table) (new rules : List ℕ) (today 
   abbrev pub more : List ℕ
   more = drop (length old) new
 
-  pub grown-steady : accepted a old ≡ true → accepted b new ≡ true → Grown a old b new → ((b ≡ a) × (new ≡ old ++ more)) × Steady a old more rules today
-  grown-steady f g w =
+  pub grown_steady : accepted a old ≡ true → accepted b new ≡ true → Grown a old b new → ((b ≡ a) × (new ≡ old ++ more)) × Steady a old more rules today
+  grown_steady f g w =
       let e = first_is a b w.first in
       ((sym e, w.rows), steady a old more rules today f (sym (ap (accepted a) w.rows) ∙ ap (λ (t : Table). accepted t new) e ∙ g))

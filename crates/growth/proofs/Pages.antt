@@ -16,8 +16,8 @@ use Rattle.festivals.specs.declared.months.YearDays.TheVariants as YD
 use Rattle.output.specs.Pieces.{Text, Puts}
 use Rattle.doubtful.specs.declared.page.Page.{Page}
 use Rattle.doubtful.specs.Tallies.{tally_of, page_with, count_pieces}
-use Rattle.doubtful.specs.Years.{sheet, yearsPage}
-use Rattle.growth.specs.Growth.{last_year, line_pieces, between_pieces, years_pieces, tables_pieces, gained_pieces, counted, foundPage, addedPage, grownPage}
+use Rattle.doubtful.specs.Years.{sheet, years_page}
+use Rattle.growth.specs.Growth.{last_year, line_pieces, between_pieces, years_pieces, tables_pieces, gained_pieces, counted, found_page, added_page, grown_page}
 
 -- ---- the years from one to another
 
@@ -26,8 +26,8 @@ module _ (c : Calendar) (label : Text) (year last : ℕ) (q : YearDays) (e : day
   unfolding years_pieces
   from_first g = ap (λ (d : Option (ℕ × ℕ)). between_pieces label year last d (year_days c last)) (sym g ∙ e)
 
-  pub no-first : q ≡ YD.Nothing → [] ≡ years_pieces c label year last
-  no-first g = from_first (ap days_are g)
+  pub no_first : q ≡ YD.Nothing → [] ≡ years_pieces c label year last
+  no_first g = from_first (ap days_are g)
 
   module _ {a b : ℕ} (g : q ≡ YD.Days a b) (r : YearDays) (f : days_are r ≡ year_days c last) where
     to_last : {d : Option (ℕ × ℕ)} → days_are r ≡ d → between_pieces label year last (some (a, b)) d ≡ years_pieces c label year last
@@ -42,22 +42,22 @@ module _ (c : Calendar) (label : Text) (year last : ℕ) (q : YearDays) (e : day
 -- ---- the page
 
 module _ (new : Calendar) (rules : List Rule) (names : List ℕ) (year last : ℕ) (l : List ℕ) (o : Out) where
-  pub found-is : {w p : Page} {m n : List ℕ} {r : Out} → w ≡ page_with o → sheet m p ≡ yearsPage new rules names year (last + 1 - year) (sheet l w)
-      → Puts m p.out (count_pieces (tally_of p)) n r → gathered n r ≡ foundPage new rules names year last (gathered l o)
-  unfolding foundPage
-  found-is e f w = w.same ∙ ap counted f ∙ ap (λ (x : Page). counted (yearsPage new rules names year (last + 1 - year) (sheet l x))) e
+  pub found_is : {w p : Page} {m n : List ℕ} {r : Out} → w ≡ page_with o → sheet m p ≡ years_page new rules names year (last + 1 - year) (sheet l w)
+      → Puts m p.out (count_pieces (tally_of p)) n r → gathered n r ≡ found_page new rules names year last (gathered l o)
+  unfolding found_page
+  found_is e f w = w.same ∙ ap counted f ∙ ap (λ (x : Page). counted (years_page new rules names year (last + 1 - year) (sheet l x))) e
 
-  pub added_none : {n : List ℕ} {r : Out} → last ≤ year → Puts l o (bytes "Added: nothing\n" ∷ []) n r → gathered n r ≡ addedPage new rules names year last (gathered l o)
-  unfolding addedPage
+  pub added_none : {n : List ℕ} {r : Out} → last ≤ year → Puts l o (bytes "Added: nothing\n" ∷ []) n r → gathered n r ≡ added_page new rules names year last (gathered l o)
+  unfolding added_page
   added_none h w = rw (le-leb last year h) w.same
 
   module _ {m : List ℕ} {p : Out} {g : Gathered} where
-    pub added-some : year < last → Puts l o (gained_pieces new (year + 1) last) m p → g ≡ foundPage new rules names (year + 1) last (gathered m p)
-        → g ≡ addedPage new rules names year last (gathered l o)
-    unfolding addedPage
-    added-some h w e = rw (lt-leb last year h) (e ∙ ap (foundPage new rules names (year + 1) last) w.same)
+    pub added-some : year < last → Puts l o (gained_pieces new (year + 1) last) m p → g ≡ found_page new rules names (year + 1) last (gathered m p)
+        → g ≡ added_page new rules names year last (gathered l o)
+    unfolding added_page
+    added-some h w e = rw (lt-leb last year h) (e ∙ ap (found_page new rules names (year + 1) last) w.same)
 
-    pub page-is : (old : Calendar) → year ≡ last_year old → last ≡ last_year new → Puts l o (tables_pieces old new) m p → g ≡ addedPage new rules names year last (gathered m p)
-        → g ≡ grownPage new rules names old (gathered l o)
-    unfolding grownPage
-    page-is old e f w q = rw (← e, ← f, ← w.same) q
+    pub page_is : (old : Calendar) → year ≡ last_year old → last ≡ last_year new → Puts l o (tables_pieces old new) m p → g ≡ added_page new rules names year last (gathered m p)
+        → g ≡ grown_page new rules names old (gathered l o)
+    unfolding grown_page
+    page_is old e f w q = rw (← e, ← f, ← w.same) q

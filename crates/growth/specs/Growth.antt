@@ -10,7 +10,7 @@ use Rattle.rules.specs.declared.Rule.{Rule}
 use Rattle.festivals.specs.Months.{year_days}
 use Rattle.output.specs.Pieces.{Text, put_pieces, date_pieces}
 use Rattle.doubtful.specs.Tallies.{no_tally, count_pieces}
-use Rattle.doubtful.specs.Years.{Sheet, yearsPage}
+use Rattle.doubtful.specs.Years.{Sheet, years_page}
 
 -- two tables begin with the same year and day
 abbrev pub same_first : Table → Table → Bool
@@ -80,16 +80,16 @@ counted s = put_pieces s.written (count_pieces s.tally)
 
 module _ (new : Calendar) (rules : List Rule) (names : List ℕ) where
   -- the doubtful new moons of the years from one to another, and how many there are
-  unfoldable pub foundPage : ℕ → ℕ → Gathered → Gathered
-  foundPage year last g = counted (yearsPage new rules names year (last + 1 - year) (record { written = g; tally = no_tally }))
+  unfoldable pub found_page : ℕ → ℕ → Gathered → Gathered
+  found_page year last g = counted (years_page new rules names year (last + 1 - year) (record { written = g; tally = no_tally }))
 
   -- the years after one, up to the last
-  unfoldable pub addedPage : ℕ → ℕ → Gathered → Gathered
-  addedPage year last g =
+  unfoldable pub added_page : ℕ → ℕ → Gathered → Gathered
+  added_page year last g =
       cond (leb last year)
       (put_pieces g (bytes "Added: nothing\n" ∷ []))
-      (foundPage (year + 1) last (put_pieces g (gained_pieces new (year + 1) last)))
+      (found_page (year + 1) last (put_pieces g (gained_pieces new (year + 1) last)))
 
   -- all of it, where the new table is the old one with rows added
-  unfoldable pub grownPage : Calendar → Gathered → Gathered
-  grownPage old g = addedPage (last_year old) (last_year new) (put_pieces g (tables_pieces old new))
+  unfoldable pub grown_page : Calendar → Gathered → Gathered
+  grown_page old g = added_page (last_year old) (last_year new) (put_pieces g (tables_pieces old new))

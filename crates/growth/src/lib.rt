@@ -7,7 +7,7 @@ ghost use Rattle.conversion.specs.Flat.{accepted, flat};
 ghost use Rattle.rules.specs.Rules.{rules_of};
 ghost use Rattle.output.specs.Pieces.{Puts};
 ghost use Rattle.growth.specs.Growth.{same_first, Grown, last_year, days_pieces, line_pieces, years_pieces, tables_pieces};
-ghost use Rattle.growth.specs.Growth.{same_pieces, new_pieces, gained_pieces, addedPage, grownPage};
+ghost use Rattle.growth.specs.Growth.{same_pieces, new_pieces, gained_pieces, added_page, grown_page};
 
 use conversion::Table;
 use festivals::months;
@@ -166,7 +166,7 @@ fn put_added_years(
     names: &[u8],
 ) -> Out
     requires { accepted table new.now ≡ true }
-    ensures { gathered out.new result ≡ addedPage (flat table new.now) (rules_of rules.now)
+    ensures { gathered out.new result ≡ added_page (flat table new.now) (rules_of rules.now)
         names.now year last (gathered out.old o) }
 {
     if last <= year {
@@ -200,7 +200,7 @@ pub fn put_growth(
     names: &[u8],
 ) -> Out
     requires { ((accepted table old.now ≡ true) × (accepted new_table new.now ≡ true)) × Grown table old.now new_table new.now }
-    ensures { gathered out.new result ≡ grownPage (flat new_table new.now) (rules_of rules.now) names.now
+    ensures { gathered out.new result ≡ grown_page (flat new_table new.now) (rules_of rules.now) names.now
         (flat table old.now) (gathered out.old o) }
 {
     let a = put_both_tables(o, out, table, old, new_table, new);

@@ -8,7 +8,7 @@ use Rattle.rules.specs.declared.Rule.{Rule}
 use Rattle.rules.specs.Lent.{lent}
 use Rattle.rules.specs.Rules.{rules_of, accepted_rules}
 use Rattle.rules.specs.Sky.{Sky}
-use Rattle.rules.specs.Festivals.{dayList}
+use Rattle.rules.specs.Festivals.{day_list}
 use Rattle.festivals.specs.Kathmandu.{kathmandu}
 use Rattle.grid.specs.Cells.{holiday_of}
 use Rattle.holiday.specs.declared.HolidayAnswer.{HolidayAnswer}
@@ -17,7 +17,7 @@ use Rattle.holiday.specs.declared.HolidayAnswer.TheVariants as HA
 -- over any sky and any calendar; ok says whether the rules are good: refusals 1, 2, 4, 5, 6.
 -- A holiday is a Saturday, or a day with a holiday in its list as shown
 unfoldable pub holiday_by : {I : Type 0} → Sky I → Calendar → List Rule → Bool → ℕ → ℕ → ℕ → Answer Bool
-holiday_by s c rs ok y m d = lent c ok (then (to_day c y m d) (λ n. answered (holiday_of n (dayList s c rs (bs y m d) n))))
+holiday_by s c rs ok y m d = lent c ok (then (to_day c y m d) (λ n. answered (holiday_of n (day_list s c rs (bs y m d) n))))
 
 -- over Kathmandu, by a calendar and lent rules
 abbrev pub holiday_under : Calendar → List ℕ → ℕ → ℕ → ℕ → Answer Bool

@@ -23,7 +23,7 @@ use Rattle.festivals.specs.Answers.{on_bs, on_ad}
 use Rattle.grid.specs.Kathmandu.{month_shown}
 use Rattle.kept.specs.State.{State, calendar, year_numbers, among, following, drawn, startable, Good}
 use Rattle.kept.specs.Operations.{blank, start, outcome, with_rules, take_rules, with_row, append_row, with_years, forgotten, after, row_first, drawn_on, ask_bs, ask_ad, row_first_month, ask_month, Operation, take, append, forget, asked_bs, asked_ad, asked_month, next, run}
-use Rattle.kept.proofs.Fresh.{numbers-fresh, fresh-anew, drawn-among, drawn-follow, among-longer}
+use Rattle.kept.proofs.Fresh.{numbers_fresh, fresh_anew, drawn_among, drawn_follow, among_longer}
 
 no_rules : accepted_rules [] ≡ true
 unfolding accepted_rules all_good count_kind
@@ -49,87 +49,87 @@ good_start t σ e =
 
 module _ (σ : State) (g : Good σ) where
   -- what an operation that is given under a test makes of a good state
-  good-outcome : (b : Bool) (k : Refusal) (τ : State) → (b ≡ true → Good τ) → Good (outcome σ (given b k (answered τ))).state
+  good_outcome : (b : Bool) (k : Refusal) (τ : State) → (b ≡ true → Good τ) → Good (outcome σ (given b k (answered τ))).state
   unfolding given
-  good-outcome true k τ h = h refl
-  good-outcome false k τ h = g
+  good_outcome true k τ h = h refl
+  good_outcome false k τ h = g
 
   pub good_rules : (xs : List ℕ) → accepted_rules xs ≡ true → Good (with_rules σ xs)
   good_rules xs e = record { start = g.start; table = g.table; rules = e; stored = refl; in_table = refl; follow = refl }
 
-  pub good-take : (xs : List ℕ) → Good (take_rules σ xs).state
+  pub good_take : (xs : List ℕ) → Good (take_rules σ xs).state
   unfolding take_rules
-  good-take xs = good-outcome (accepted_rules xs) BadRules _ (good_rules xs)
+  good_take xs = good_outcome (accepted_rules xs) BadRules _ (good_rules xs)
 
   -- the stored years are those of the longer table: they were worked out with it
-  pub good-row : (row : List ℕ) → accepted σ.table (σ.rows ++ row) ≡ true → Good (with_row σ row)
-  good-row row e =
+  pub good_row : (row : List ℕ) → accepted σ.table (σ.rows ++ row) ≡ true → Good (with_row σ row)
+  good_row row e =
       let c = flat σ.table (σ.rows ++ row) in
       let ys = year_numbers σ.stored in
-      let same = sym (numbers-fresh c σ.rules ys) in
+      let same = sym (numbers_fresh c σ.rules ys) in
       record {
         start = g.start;
         table = inr e;
         rules = g.rules;
-        stored = fresh-anew c σ.rules ys;
-        in_table = ap (among c) (sym same) ∙ among-longer (calendar σ) c refl (omega (arith, length-append σ.rows row)) ys g.in_table;
+        stored = fresh_anew c σ.rules ys;
+        in_table = ap (among c) (sym same) ∙ among_longer (calendar σ) c refl (omega (arith, length-append σ.rows row)) ys g.in_table;
         follow = ap following (sym same) ∙ g.follow;
       }
 
-  pub good-append : (row : List ℕ) → Good (append_row σ row).state
+  pub good_append : (row : List ℕ) → Good (append_row σ row).state
   unfolding append_row
-  good-append row = good-outcome _ BadTable _ (λ e. good-row row (and_right (eqb (length row) 13) _ e))
+  good_append row = good_outcome _ BadTable _ (λ e. good_row row (and_right (eqb (length row) 13) _ e))
 
-  good-years : (ys : List ℕ) → among (calendar σ) ys ≡ true → following ys ≡ true → Good (with_years σ ys)
-  good-years ys a b =
-      let same = numbers-fresh (calendar σ) σ.rules ys in
+  good_years : (ys : List ℕ) → among (calendar σ) ys ≡ true → following ys ≡ true → Good (with_years σ ys)
+  good_years ys a b =
+      let same = numbers_fresh (calendar σ) σ.rules ys in
       record {
         start = g.start;
         table = g.table;
         rules = g.rules;
-        stored = fresh-anew (calendar σ) σ.rules ys;
+        stored = fresh_anew (calendar σ) σ.rules ys;
         in_table = ap (among (calendar σ)) same ∙ a;
         follow = ap following same ∙ b;
       }
 
-  pub good-forgotten : Good (forgotten σ)
-  good-forgotten = good-years [] refl refl
+  pub good_forgotten : Good (forgotten σ)
+  good_forgotten = good_years [] refl refl
 
-  pub good-drawn : (y m : ℕ) → Good (with_years σ (drawn (calendar σ) y m))
-  good-drawn y m = good-years (drawn (calendar σ) y m) (drawn-among (calendar σ) y m) (drawn-follow (calendar σ) (first_from_law σ.table g.start) y m)
+  pub good_drawn : (y m : ℕ) → Good (with_years σ (drawn (calendar σ) y m))
+  good_drawn y m = good_years (drawn (calendar σ) y m) (drawn_among (calendar σ) y m) (drawn_follow (calendar σ) (first_from_law σ.table g.start) y m)
 
-  pub good-on : (a : Answer BsDate) → Good (with_years σ (drawn_on (calendar σ) a))
-  good-on (answered t) = good-drawn t.year t.month
-  good-on (refused k) = good-forgotten
+  pub good_on : (a : Answer BsDate) → Good (with_years σ (drawn_on (calendar σ) a))
+  good_on (answered t) = good_drawn t.year t.month
+  good_on (refused k) = good_forgotten
 
-  good-after : {A : Type 0} (ys : List ℕ) → Good (with_years σ ys) → (a : Answer A) → Good (after σ ys a)
-  good-after ys h (answered x) = h
-  good-after ys h (refused k) = g
+  good_after : {A : Type 0} (ys : List ℕ) → Good (with_years σ ys) → (a : Answer A) → Good (after σ ys a)
+  good_after ys h (answered x) = h
+  good_after ys h (refused k) = g
 
-  good-bs : (y m d : ℕ) (out : List ℕ) → Good (ask_bs σ y m d out).state
+  good_bs : (y m d : ℕ) (out : List ℕ) → Good (ask_bs σ y m d out).state
   unfolding ask_bs
-  good-bs y m d out = good-after (drawn (calendar σ) y m) (good-drawn y m) (row_first σ.rows (on_bs σ.table σ.rows σ.rules y m d out) out).answer
+  good_bs y m d out = good_after (drawn (calendar σ) y m) (good_drawn y m) (row_first σ.rows (on_bs σ.table σ.rows σ.rules y m d out) out).answer
 
-  good-ad : (y m d : ℕ) (out : List ℕ) → Good (ask_ad σ y m d out).state
+  good_ad : (y m d : ℕ) (out : List ℕ) → Good (ask_ad σ y m d out).state
   unfolding ask_ad
-  good-ad y m d out =
-      good-after (drawn_on (calendar σ) (from_ad (calendar σ) y m d)) (good-on (from_ad (calendar σ) y m d))
+  good_ad y m d out =
+      good_after (drawn_on (calendar σ) (from_ad (calendar σ) y m d)) (good_on (from_ad (calendar σ) y m d))
       (row_first σ.rows (on_ad σ.table σ.rows σ.rules y m d out) out).answer
 
-  good-month : (today : Date) (y m : ℕ) (cells festivals : List ℕ) → Good (ask_month σ today y m cells festivals).state
+  good_month : (today : Date) (y m : ℕ) (cells festivals : List ℕ) → Good (ask_month σ today y m cells festivals).state
   unfolding ask_month
-  good-month today y m cells festivals =
-      good-after (drawn (calendar σ) y m) (good-drawn y m)
+  good_month today y m cells festivals =
+      good_after (drawn (calendar σ) y m) (good_drawn y m)
       (row_first_month σ.rows (month_shown σ.table σ.rows σ.rules today y m cells festivals) cells festivals).answer
 
   good_next : (o : Operation) → Good (next σ o)
   unfolding next
-  good_next (take xs) = good-take xs
-  good_next (append row) = good-append row
-  good_next forget = good-forgotten
-  good_next (asked_bs y m d out) = good-bs y m d out
-  good_next (asked_ad y m d out) = good-ad y m d out
-  good_next (asked_month today y m cells festivals) = good-month today y m cells festivals
+  good_next (take xs) = good_take xs
+  good_next (append row) = good_append row
+  good_next forget = good_forgotten
+  good_next (asked_bs y m d out) = good_bs y m d out
+  good_next (asked_ad y m d out) = good_ad y m d out
+  good_next (asked_month today y m cells festivals) = good_month today y m cells festivals
 
 -- ---- any sequence
 

@@ -20,7 +20,7 @@ use Rattle.conversion.specs.Flat.{first_day, accepted, flat}
 use Rattle.conversion.proofs.Accepted.{from_1901, to_2099, accepted_not}
 use Rattle.rules.specs.Rules.{accepted_rules}
 use Rattle.rules.specs.Lent.{accepting}
-use Rattle.rules.proofs.Lent.{lent-not}
+use Rattle.rules.proofs.Lent.{lent_not}
 use Rattle.kept.specs.declared.Store.{Store}
 use Rattle.kept.specs.declared.Kept.{Kept}
 use Rattle.kept.specs.State.{State, startable}
@@ -44,9 +44,9 @@ module _ (t : Table) where
   unfolding start given then
   started e = rw e
 
-  pub not-started : startable t ≡ false → ◌≡◌ {A = Answer Unit} (refused BadTable) (then (start t) (λ σ. answered tt))
+  pub not_started : startable t ≡ false → ◌≡◌ {A = Answer Unit} (refused BadTable) (then (start t) (λ σ. answered tt))
   unfolding start given then
-  not-started e = rw e
+  not_started e = rw e
 
 zeros_alone : (n : ℕ) → replicate n 0 ≡ padded n []
 zeros_alone n = ap (λ (k : ℕ). replicate k 0) (sym (sub-zero n))
@@ -80,34 +80,34 @@ module _ (σ : State) (xs : List ℕ) where
   not_taken e = rw e
 
 module _ (σ : State) (row : List ℕ) where
-  append-test : (b : Bool) → (eqb (length row) 13 && accepted σ.table (σ.rows ++ row)) ≡ b → append_row σ row ≡ outcome σ (given b BadTable (answered (with_row σ row)))
+  append_test : (b : Bool) → (eqb (length row) 13 && accepted σ.table (σ.rows ++ row)) ≡ b → append_row σ row ≡ outcome σ (given b BadTable (answered (with_row σ row)))
   unfolding append_row
-  append-test b e = rw e
+  append_test b e = rw e
 
   pub appended : length row ≡ 13 → accepted σ.table (σ.rows ++ row) ≡ true → append_row σ row ≡ done (with_row σ row)
   unfolding given
-  appended l g = append-test true (simp (eq-eqb (length row) 13 l, g))
+  appended l g = append_test true (simp (eq-eqb (length row) 13 l, g))
 
-  not-accepted : accepted σ.table (σ.rows ++ row) ≡ false → append_row σ row ≡ undone σ BadTable
+  not_accepted : accepted σ.table (σ.rows ++ row) ≡ false → append_row σ row ≡ undone σ BadTable
   unfolding given
-  not-accepted g = append-test false (simp (g, and_false))
+  not_accepted g = append_test false (simp (g, and_false))
 
   -- a row of other than thirteen numbers
   pub other_length : (length row ≡ 13 → ⊥) → append_row σ row ≡ undone σ BadTable
   unfolding given
-  other_length h = append-test false (simp (ne_eqb (length row) 13 h))
+  other_length h = append_test false (simp (ne_eqb (length row) 13 h))
 
   -- a row more than there may be
   pub no_place : length row ≡ 13 → 1651 < length σ.rows → append_row σ row ≡ undone σ BadTable
   no_place l h =
-      not-accepted (accepted_not σ.table (σ.rows ++ row) (λ f. omega (arith, f.frame.whole, f.frame.few, length-append σ.rows row)))
+      not_accepted (accepted_not σ.table (σ.rows ++ row) (λ f. omega (arith, f.frame.whole, f.frame.few, length-append σ.rows row)))
 
   -- a table that is not accepted with the row
-  pub not-appended : length row ≡ 13 → accepted_rules σ.rules ≡ true → (list rules : List ℕ) → list ≡ σ.rows ++ row → rules ≡ σ.rules
+  pub not_appended : length row ≡ 13 → accepted_rules σ.rules ≡ true → (list rules : List ℕ) → list ≡ σ.rows ++ row → rules ≡ σ.rules
       → (k : Refusal) → refused k ≡ accepting (flat σ.table list) (accepted_rules rules) → append_row σ row ≡ undone σ k
-  not-appended l o list rules p q k z =
+  not_appended l o list rules p q k z =
       let e = z ∙ ap (λ (x : List ℕ). accepting (flat σ.table x) (accepted_rules rules)) p ∙ ap (λ (x : List ℕ). accepting (flat σ.table (σ.rows ++ row)) (accepted_rules x)) q in
-      let g = lent-not (flat σ.table (σ.rows ++ row)) (accepted_rules σ.rules) (answered (with_row σ row)) k e in
+      let g = lent_not (flat σ.table (σ.rows ++ row)) (accepted_rules σ.rules) (answered (with_row σ row)) k e in
       let t : (eqb (length row) 13 && accepted σ.table (σ.rows ++ row)) ≡ accepted σ.table (σ.rows ++ row) = simp (eq-eqb (length row) 13 l) in
-      append-test _ t
+      append_test _ t
       ∙ ap (outcome σ) (ap (given (accepted σ.table (σ.rows ++ row)) BadTable) (sym (given_on (accepted_rules σ.rules) BadRules _ o)) ∙ g)

@@ -7,7 +7,7 @@ use native.Mathlib.Omega.{arith}
 use lib.ListN.{length, take, drop, replicate, length-replicate, replicate-append-replicate, length-append}
 use lib.Seq.{sets, drop_at, take-append_seam}
 use Rattle.paper.specs.Answers.{Answer, answered, refused}
-use Rattle.paper.proofs.Stores.{sets-append, sets-front}
+use Rattle.paper.proofs.Stores.{sets_append, sets_front}
 use Rattle.conversion.specs.Flat.{flat}
 use Rattle.kept.specs.declared.Store.{Store}
 use Rattle.kept.specs.declared.Kept.{Kept}
@@ -20,14 +20,14 @@ use Rattle.kept.proofs.Stores.{years_stored}
 -- ---- a list at the front of a list of zeros
 
 module _ (n : ℕ) (l : List ℕ) (h : length l ≤ n) where
-  rest-zeros : drop {A = ℕ} (length l) (replicate n 0) ≡ replicate (n - length l) 0
-  rest-zeros =
+  rest_zeros : drop {A = ℕ} (length l) (replicate n 0) ≡ replicate (n - length l) 0
+  rest_zeros =
       let e : length l + (n - length l) ≡ n = omega arith in
       let z : replicate {A = ℕ} (length l) 0 ++ replicate (n - length l) 0 ≡ replicate n 0 = replicate-append-replicate (length l) (n - length l) 0 ∙ ap (λ (k : ℕ). replicate k 0) e in
       ap (drop (length l)) (sym z) ∙ drop_at (replicate (length l) 0) (replicate (n - length l) 0) (length l) (length-replicate (length l) 0)
 
-  pub zeros-front : sets (replicate n 0) 0 l ≡ padded n l
-  zeros-front = sets-front l (replicate n 0) (omega (arith, length-replicate {A = ℕ} n 0)) ∙ ap (λ (z : List ℕ). l ++ z) rest-zeros
+  pub zeros_front : sets (replicate n 0) 0 l ≡ padded n l
+  zeros_front = sets_front l (replicate n 0) (omega (arith, length-replicate {A = ℕ} n 0)) ∙ ap (λ (z : List ℕ). l ++ z) rest_zeros
 
 -- one list behind another
 pub zeros_both : (n : ℕ) (a b l m : List ℕ) → length a + length b ≤ n → l ≡ sets (replicate n 0) 0 a → m ≡ sets l (length a) b → m ≡ padded n (a ++ b)
@@ -35,8 +35,8 @@ zeros_both n a b l m h p q =
     q
     ∙ ap (λ (z : List ℕ). sets z (length a) b) p
     ∙ ap (λ (k : ℕ). sets (sets (replicate n 0) 0 a) k b) (sym (zero-add (length a)))
-    ∙ sym (sets-append a b (replicate n 0) 0)
-    ∙ zeros-front n (a ++ b) (omega (arith, length-append a b))
+    ∙ sym (sets_append a b (replicate n 0) 0)
+    ∙ zeros_front n (a ++ b) (omega (arith, length-append a b))
 
 -- ---- a record that a call made
 
@@ -73,10 +73,10 @@ module _ (k : Kept) (w : Ready k) where
   forgot g s r e q = made r (with_years σ []) g (stored_other [] s r e q)
 
   -- other rules
-  pub holds-rules : (list after : List ℕ) (s : Store) → Good (with_rules σ list) → length list ≤ 2560 → after ≡ sets (replicate 2560 0) 0 list → s ≡ store_of []
+  pub holds_rules : (list after : List ℕ) (s : Store) → Good (with_rules σ list) → length list ≤ 2560 → after ≡ sets (replicate 2560 0) 0 list → s ≡ store_of []
       → Holds (record { table = k.table; rows = k.rows; row_len = k.row_len; rules = after; rule_len = length list; store = s }) (with_rules σ list)
-  holds-rules list after s g h e q =
-      let z = e ∙ zeros-front 2560 list h in
+  holds_rules list after s g h e q =
+      let z = e ∙ zeros_front 2560 list h in
       made _ (with_rules σ list) g (λ i. record { table = k.table; rows = (w.is i).rows; row_len = (w.is i).row_len; rules = z i; rule_len = length list; store = q i })
 
   -- a row behind those held

@@ -17,22 +17,22 @@ use Rattle.kept.specs.declared.Store.{Store}
 use Rattle.kept.specs.State.{Year, year_of, year_numbers, fresh_all, anew, drawn, following}
 use Rattle.kept.specs.Held.{years, store_of}
 use Rattle.kept.specs.Inner.{Fresh, store_for}
-use Rattle.kept.proofs.Fresh.{drawn-late, drawn-first, drawn-two, nothing-resolved}
+use Rattle.kept.proofs.Fresh.{drawn_late, drawn_first, drawn_two, nothing_resolved}
 
 -- ---- the years of a store, by its count
 
 module _ (s : Store) where
-  pub years-none : s.count ≡ 0 → years s ≡ []
+  pub years_none : s.count ≡ 0 → years s ≡ []
   unfolding years
-  years-none e = rw e
+  years_none e = rw e
 
-  pub years-one : s.count ≡ 1 → years s ≡ year_of s.year s.years.this.days ∷ []
+  pub years_one : s.count ≡ 1 → years s ≡ year_of s.year s.years.this.days ∷ []
   unfolding years
-  years-one e = rw e
+  years_one e = rw e
 
-  pub years-two : (s.count ≡ 0 → ⊥) → (s.count ≡ 1 → ⊥) → years s ≡ year_of (s.year - 1) s.years.before.days ∷ year_of s.year s.years.this.days ∷ []
+  pub years_two : (s.count ≡ 0 → ⊥) → (s.count ≡ 1 → ⊥) → years s ≡ year_of (s.year - 1) s.years.before.days ∷ year_of s.year s.years.this.days ∷ []
   unfolding years
-  years-two h k = rw (ne_eqb s.count 0 h, ne_eqb s.count 1 k)
+  years_two h k = rw (ne_eqb s.count 0 h, ne_eqb s.count 1 k)
 
 -- the store of some years holds them
 pub years_stored : (ks : List Year) → following (year_numbers ks) ≡ true → years (store_of ks) ≡ ks
@@ -76,7 +76,7 @@ module _ (c : Calendar) (rules : List ℕ) where
   -- what is stored serves where it is fresh
   module _ (s : Store) (g : Fresh c rules s) (h : s.count ≡ 0 → ⊥) where
     both_stored : (s.count ≡ 1 → ⊥) → year_of (s.year - 1) s.years.before.days ∷ year_of s.year s.years.this.days ∷ [] ≡ fresh_all c rules ((s.year - 1) ∷ s.year ∷ [])
-    both_stored k = sym (years-two s h k) ∙ g ∙ ap (anew c rules) (years-two s h k)
+    both_stored k = sym (years_two s h k) ∙ g ∙ ap (anew c rules) (years_two s h k)
 
     pub stored-before : (s.count ≡ 1 → ⊥) → s.years.before.days ≡ right (s.year - 1)
     unfolding first_days
@@ -87,24 +87,24 @@ module _ (c : Calendar) (rules : List ℕ) where
     stored-this = go (eqb s.count 1) refl
       where
         go : (b : Bool) → eqb s.count 1 ≡ b → s.years.this.days ≡ right s.year
-        go true e = let k = eqb-true s.count 1 e in ap first_days (sym (years-one s k) ∙ g ∙ ap (anew c rules) (years-one s k))
+        go true e = let k = eqb-true s.count 1 e in ap first_days (sym (years_one s k) ∙ g ∙ ap (anew c rules) (years_one s k))
         go false e = ap second_days (both_stored (eqb-false s.count 1 e))
 
   -- the store of the years that a month draws from has the two years that its lists come from
   module _ (y m : ℕ) (h : YearIn c y) where
     late-years : 2 < m → (store_for c rules (drawn c y m)).years ≡ years_in c (rules_of rules) y m
     unfolding store_of years_for
-    late-years l = rw (drawn-late c y m h l, lt-leb m 2 l)
+    late-years l = rw (drawn_late c y m h l, lt-leb m 2 l)
 
     first-years : m ≤ 2 → y - 1 < c.first → (store_for c rules (drawn c y m)).years ≡ years_in c (rules_of rules) y m
     unfolding store_of years_for
     first-years l k =
-        let out = nothing-resolved kathmandu c (y - 1) (simp (lt-leb c.first (y - 1) k)) (rules_of rules) in
-        rw (drawn-first c y m h l k, le-leb m 2 l, out)
+        let out = nothing_resolved kathmandu c (y - 1) (simp (lt-leb c.first (y - 1) k)) (rules_of rules) in
+        rw (drawn_first c y m h l k, le-leb m 2 l, out)
 
-    both-years : m ≤ 2 → c.first ≤ y - 1 → (store_for c rules (drawn c y m)).years ≡ years_in c (rules_of rules) y m
+    both_years : m ≤ 2 → c.first ≤ y - 1 → (store_for c rules (drawn c y m)).years ≡ years_in c (rules_of rules) y m
     unfolding store_of years_for
-    both-years l k = rw (drawn-two c y m h l k, le-leb m 2 l)
+    both_years l k = rw (drawn_two c y m h l k, le-leb m 2 l)
 
     pub drawn-years : (store_for c rules (drawn c y m)).years ≡ years_in c (rules_of rules) y m
-    drawn-years = ⊎_elim (λ l. ⊎_elim (both-years l) (first-years l) (split c.first (y - 1))) late-years (split m 2)
+    drawn-years = ⊎_elim (λ l. ⊎_elim (both_years l) (first-years l) (split c.first (y - 1))) late-years (split m 2)

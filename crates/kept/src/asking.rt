@@ -4,7 +4,7 @@ ghost use Rattle.paper.specs.Answers.{answered};
 ghost use Rattle.conversion.specs.Calendar.{to_day, from_day, from_ad};
 ghost use Rattle.conversion.specs.Flat.{accepted, flat};
 ghost use Rattle.rules.specs.Rules.{accepted_rules};
-ghost use Rattle.festivals.specs.Inner.{listedOn, listed_at};
+ghost use Rattle.festivals.specs.Inner.{listed_on, listed_at};
 ghost use Rattle.festivals.specs.Answers.{on_bs, on_ad};
 ghost use Rattle.kept.specs.State.{drawn};
 ghost use Rattle.kept.specs.Operations.{row_first, drawn_on, ask_bs, ask_ad};
@@ -39,7 +39,7 @@ fn list_day(
     requires day_value { to_day (flat table rows.now) bs.year bs.month bs.day ≡ answered number }
     ensures { Fresh (flat table rows.now) rules.now store
         → DrewDay (flat table rows.now) rules.now store (drawn (flat table rows.now) bs.year bs.month)
-        (listedOn table rows.now rules.now number out.old bs) result out.new }
+        (listed_on table rows.now rules.now number out.old bs) result out.new }
 {
     let years = drawn_years(table, rows, rules, store, bs.year, bs.month);
     let answer = list_from(rules, bs, number, years.years, out);

@@ -10,16 +10,16 @@ use Rattle.lines.specs.Lines.{has_feed}
 
 module _ (s : List ℕ) (i : ℕ) where
   -- a line feed stands there
-  pub feed-here : i < length s → get_or s i 0 ≡ 10 → true ≡ has_feed (drop i s)
+  pub feed_here : i < length s → get_or s i 0 ≡ 10 → true ≡ has_feed (drop i s)
   unfolding has_feed
-  feed-here h e = rw (cut s i h, eq-eqb (get_or s i 0) 10 e)
+  feed_here h e = rw (cut s i h, eq-eqb (get_or s i 0) 10 e)
 
   -- another byte stands there
-  pub feed-turn : i < length s → (get_or s i 0 ≡ 10 → ⊥) → has_feed (drop (i + 1) s) ≡ has_feed (drop i s)
+  pub feed_turn : i < length s → (get_or s i 0 ≡ 10 → ⊥) → has_feed (drop (i + 1) s) ≡ has_feed (drop i s)
   unfolding has_feed
-  feed-turn h e = rw (cut s i h, ne_eqb (get_or s i 0) 10 e)
+  feed_turn h e = rw (cut s i h, ne_eqb (get_or s i 0) 10 e)
 
   -- the text ends there
-  pub feed-over : length s ≤ i → false ≡ has_feed (drop i s)
+  pub feed_over : length s ≤ i → false ≡ has_feed (drop i s)
   unfolding has_feed
-  feed-over h = rw (over s i h)
+  feed_over h = rw (over s i h)

@@ -76,10 +76,10 @@ bytes_given buffer kept false = refl
 
 module _ (input : Input) (piece₀ buffer₀ : List ℕ) (left : ℕ) (goes : input.ends ≡ false) (fewer : left ≤ input.left - 1) where
   -- the line feed came
-  pub next-fed : (piece : List ℕ) (to : ℕ) {from next : ℕ} {buffer after : List ℕ} {held h : Held}
+  pub next_fed : (piece : List ℕ) (to : ℕ) {from next : ℕ} {buffer after : List ℕ} {held h : Held}
       → Reads (length buffer₀) (waiting piece₀ input) buffer held (drop from (front piece to)) → length buffer ≡ length buffer₀
       → Fills (front piece to) from buffer held after (Feed h next) → NextLine input piece₀ buffer₀ piece after (given h left false next to)
-  next-fed piece to {next = next} {after = after} {h = h} r l f = record {
+  next_fed piece to {next = next} {after = after} {h = h} r l f = record {
     came = r.came;
     next = λ g. fed (sym (rw l at f.same ∙ r.same) ∙ ap (λ (c : Current). whole c (drop next (front piece to))) (held_given after h.kept h.skipping)) refl refl;
     past = on_past goes;
@@ -89,13 +89,13 @@ module _ (input : Input) (piece₀ buffer₀ : List ℕ) (left : ℕ) (goes : in
   }
 
   -- the input is over
-  over-held : (piece came after : List ℕ) (kept : ℕ) (skipping : Bool) → kept ≤ length buffer₀ → length after ≡ length buffer₀
+  over_held : (piece came after : List ℕ) (kept : ℕ) (skipping : Bool) → kept ≤ length buffer₀ → length after ≡ length buffer₀
       → line (length buffer₀) (short []) (waiting piece₀ input ++ came) ≡ going (current after kept skipping)
       → NextLine input piece₀ buffer₀ piece after (last_of (record { kept = kept; skipping = skipping }) left)
-  over-held piece came after kept true h l e =
+  over_held piece came after kept true h l e =
       record { came = came; next = λ g. last e (λ z. let bad : ◌≡◌ {A = ℕ} 0 1 = cc in omega arith) refl refl; past = on_past goes; bytes = refl; inside = omega arith; fewer = fewer }
-  over-held piece came after zero false h l e = record { came = came; next = λ g. over e refl; past = on_past goes; bytes = refl; inside = omega arith; fewer = omega arith }
-  over-held piece came after (suc kept) false h l e =
+  over_held piece came after zero false h l e = record { came = came; next = λ g. over e refl; past = on_past goes; bytes = refl; inside = omega arith; fewer = omega arith }
+  over_held piece came after (suc kept) false h l e =
       let n : eqb (suc kept) 0 ≡ false = ne_eqb (suc kept) 0 (λ z. omega arith) in
       rw n (record { came = came; next = λ g. last e (kept_some after kept (omega arith)) refl refl; past = on_past goes; bytes = refl; inside = h; fewer = fewer })
 
@@ -103,7 +103,7 @@ module _ (input : Input) (piece₀ buffer₀ : List ℕ) (left : ℕ) (goes : in
       → Reads (length buffer₀) (waiting piece₀ input) buffer held (drop from p) → length buffer ≡ length buffer₀ → length after ≡ length buffer₀
       → Fills p from buffer held after (Open h) → NextLine input piece₀ buffer₀ piece after (last_of h left)
   next_last {piece = piece} {after = after} {h = h} r l k f =
-      over-held piece r.came after h.kept h.skipping (rw l at (f.inside (rw l r.inside))) k (sym (rw l at f.same ∙ r.same))
+      over_held piece r.came after h.kept h.skipping (rw l at (f.inside (rw l r.inside))) k (sym (rw l at f.same ∙ r.same))
 
 -- a read failed, or the steps were used up
 pub next_unread : {input : Input} {piece₀ buffer₀ piece after : List ℕ} → input.ends ≡ false → NextLine input piece₀ buffer₀ piece after (ended true)

@@ -48,8 +48,8 @@ pub record Told (room : ℕ) (bytes : List ℕ) (lines : List Current) (rest : L
   pub same : (t : List ℕ) → lines_of room (bytes ++ t) ≡ lines ++ lines_of room (rest ++ t)
 
 module _ {room : ℕ} {bytes : List ℕ} {lines : List Current} {rest : List ℕ} (told : Told room bytes lines rest) (came : List ℕ) where
-  told-fed : (l : Current) (w : List ℕ) → line room (short []) (rest ++ came) ≡ whole l w → Told room (bytes ++ came) (lines ++ (l ∷ [])) w
-  told-fed l w e = record {
+  told_fed : (l : Current) (w : List ℕ) → line room (short []) (rest ++ came) ≡ whole l w → Told room (bytes ++ came) (lines ++ (l ∷ [])) w
+  told_fed l w e = record {
     same = λ t.
         ap (lines_of room) (append_assoc bytes came t)
         ∙ (told.same (came ++ t)
@@ -58,8 +58,8 @@ module _ {room : ℕ} {bytes : List ℕ} {lines : List Current} {rest : List ℕ
         ∙ sym (append_assoc lines (l ∷ []) (lines_of room (w ++ t))))));
   }
 
-  told-open : (d : Current) → line room (short []) (rest ++ came) ≡ going d → lines_of room (bytes ++ came) ≡ lines ++ last_line d
-  told-open d e = told.same came ∙ ap (λ (x : List Current). lines ++ x) (lines_open room (short []) d (rest ++ came) e)
+  told_open : (d : Current) → line room (short []) (rest ++ came) ≡ going d → lines_of room (bytes ++ came) ≡ lines ++ last_line d
+  told_open d e = told.same came ∙ ap (λ (x : List Current). lines ++ x) (lines_open room (short []) d (rest ++ came) e)
 
 -- ---- where an input stands
 
@@ -98,7 +98,7 @@ stand_next {bytes = bytes} (closed e s) n = no_more bytes s (n.past e)
 stand_next {input} {r} {bytes} {piece} {buffer} {piece'} {buffer'} {lines} (awaits e t) n = go (n.next e)
   where
     go : Next (line (length buffer) (short []) (waiting piece input ++ n.came)) piece' buffer' r → Later (length buffer) lines piece' buffer' r
-    go (fed w o f) = line_more (bytes ++ n.came) (awaits o (told-fed t n.came (line_in buffer' r) (waiting piece' r) w)) f
-    go (last w s o f) = line_more (bytes ++ n.came) (closed o (told-open t n.came (line_in buffer' r) w ∙ ap (λ (x : List Current). lines ++ x) (last_some (line_in buffer' r) s))) f
-    go (over w z) = no_more (bytes ++ n.came) (told-open t n.came (short []) w ∙ append-nil lines) z
+    go (fed w o f) = line_more (bytes ++ n.came) (awaits o (told_fed t n.came (line_in buffer' r) (waiting piece' r) w)) f
+    go (last w s o f) = line_more (bytes ++ n.came) (closed o (told_open t n.came (line_in buffer' r) w ∙ ap (λ (x : List Current). lines ++ x) (last_some (line_in buffer' r) s))) f
+    go (over w z) = no_more (bytes ++ n.came) (told_open t n.came (short []) w ∙ append-nil lines) z
     go (unread z) = cut_off z

@@ -16,7 +16,7 @@ use Rattle.naming.specs.declared.lines.Line.TheVariants as line
 use Rattle.naming.specs.declared.checking.Checked.{Checked}
 use Rattle.naming.specs.declared.checking.Checked.TheVariants.{InForm, At}
 use Rattle.naming.specs.Names.{Name, Names, are, fails, ahead, Lines, ended, lines_of, is, judged, line_of, names_from, marked, names_of, told, checked}
-use Rattle.naming.proofs.Splits.{line_length, line_at, line-at}
+use Rattle.naming.proofs.Splits.{line_length, line_at, line_at_law}
 use Rattle.naming.proofs.Judges.{ends_filled, wrong_line, name_line}
 
 -- what is told of the lines from a place on
@@ -47,28 +47,28 @@ module _ (file : List ℕ) (at end n least : ℕ) (a : at < length file) (e : en
   text = line_at file at end
 
   -- the last line has a byte
-  last-filled : length file ≤ end → is_end text ≡ false
-  last-filled h =
-      let r = line-at file at end (omega arith) e in
+  last_filled : length file ≤ end → is_end text ≡ false
+  last_filled h =
+      let r = line_at_law file at end (omega arith) e in
       let l = ap length r.long in
       ends_filled text (λ z. omega arith)
 
-  pub check-wrong : (fault : Fault) → line.Wrong fault ≡ line_of (judged least text) → At n fault ≡ told_from file at n least
-  check-wrong fault w =
-      let r = line-at file at end (omega arith) e in
+  pub check_wrong : (fault : Fault) → line.Wrong fault ≡ line_of (judged least text) → At n fault ≡ told_from file at n least
+  check_wrong fault w =
+      let r = line_at_law file at end (omega arith) e in
       let j = wrong_line (judged least text) fault w in
-      ⊎_elim (λ h. rw (r.over h, last-filled h, j)) (λ h. rw (r.feed h, j)) (split (length file) end)
+      ⊎_elim (λ h. rw (r.over h, last_filled h, j)) (λ h. rw (r.feed h, j)) (split (length file) end)
 
   module _ (number : ℕ) (w : line.Name number ≡ line_of (judged least text)) where
     pub check-unfed : length file ≤ end → At n NoFeed ≡ told_from file at n least
     check-unfed h =
-        let r = line-at file at end (omega arith) e in
+        let r = line_at_law file at end (omega arith) e in
         let j = name_line (judged least text) number w in
         let k = j.same in
-        rw (r.over h, last-filled h, k)
+        rw (r.over h, last_filled h, k)
 
     pub check-turn : end < length file → told_from file (end + 1) (n + 1) (number + 1) ≡ told_from file at n least
     check-turn h =
-        let r = line-at file at end (omega arith) e in
+        let r = line_at_law file at end (omega arith) e in
         let j = name_line (judged least text) number w in
         named_turn n least number text (lines_of (drop (end + 1) file)) j.name j.same j.number_same ∙ ap (λ (l : Lines). told (names_from n least l)) (sym (r.feed h))

@@ -12,13 +12,13 @@ use lib.ListN.{drop}
 use Rattle.text.specs.Digits.{mark, run, worth, digits, starts, got, no, decimal}
 use Rattle.text.specs.Quoted.{bytes}
 use Rattle.text.proofs.Runs.{never}
-use Rattle.text.proofs.Decimals.{decimal-other, decimal-digits}
+use Rattle.text.proofs.Decimals.{decimal_other, decimal_digits}
 use Rattle.utf8.specs.Controls.{control, first_control, missing, clear}
 use Rattle.naming.specs.declared.lines.Fault.{Fault}
 use Rattle.naming.specs.declared.lines.Fault.TheVariants.{Mark, NoFeed}
 use Rattle.naming.specs.Names.{Name, Names, are, fails, ahead, Lines, ended, last, longer, lines_of, Judged, is, wrong, headed, judged, named, names_from, marked, names_of, text_of, text_in}
 use Rattle.naming.specs.Claims.{written, Good, Rising, text_at}
-use Rattle.naming.proofs.Heads.{equals_ends, headed_digits, headed_empty, text-none}
+use Rattle.naming.proofs.Heads.{equals_ends, headed_digits, headed_empty, text_none}
 use Rattle.naming.proofs.Judges.{Accepted, accepted, name_judged}
 
 no_names : {n : ℕ} {fault : Fault} {xs : List Name} → fails n fault ≡ are xs → ⊥
@@ -63,7 +63,7 @@ record Reads (least : ℕ) (lines : Lines) (xs : List Name) : Type 0 where
 
 none_read : (least : ℕ) → Reads least (last []) []
 unfolding joined
-none_read least = record { rising = tt; same = refl; text = λ number. text-none number [] none headed_empty }
+none_read least = record { rising = tt; same = refl; text = λ number. text_none number [] none headed_empty }
 
 name_read : (least : ℕ) (s : List ℕ) (more : Lines) (x : Name) (xs : List Name) → Accepted least s x → Reads (suc x.number) more xs → Reads least (ended s more) (x ∷ xs)
 unfolding joined text_of
@@ -162,7 +162,7 @@ writes_from (x ∷ xs) n least r =
 -- what begins with a number begins with no mark
 mark_unread : (t : List ℕ) → decimal 65535 (239 ∷ t) ≡ no
 unfolding worth
-mark_unread t = decimal-other 65535 (239 ∷ t) refl refl
+mark_unread t = decimal_other 65535 (239 ∷ t) refl refl
 
 unmarked : (s : List ℕ) (n : ℕ) (t : List ℕ) → decimal 65535 s ≡ got n t → marked s ≡ false
 unfolding marked
@@ -178,7 +178,7 @@ unfolding marked
 written_unmarked [] r = refl
 written_unmarked (x ∷ xs) r =
     let t = bytes "=" ++ (x.text ++ (bytes "\n" ++ written xs)) in
-    unmarked (written (x ∷ xs)) x.number t (decimal-digits 65535 x.number t r.1.small (equals_ends (x.text ++ (bytes "\n" ++ written xs))))
+    unmarked (written (x ∷ xs)) x.number t (decimal_digits 65535 x.number t r.1.small (equals_ends (x.text ++ (bytes "\n" ++ written xs))))
 
 pub file_writes : (xs : List Name) → Rising 0 xs → names_of (written xs) ≡ are xs
 unfolding names_of

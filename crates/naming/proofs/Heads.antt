@@ -9,14 +9,14 @@ use lib.ListN.{drop}
 use Rattle.text.specs.Digits.{worth, starts_digit, Got, got, no, found, past, digits, decimal}
 use Rattle.text.specs.Quoted.{bytes}
 use Rattle.text.proofs.Runs.{never}
-use Rattle.text.proofs.Decimals.{decimal-other, decimal-digits, digits_decimal}
+use Rattle.text.proofs.Decimals.{decimal_other, decimal_digits, digits_decimal}
 use Rattle.text.proofs.Texts.{append_past}
 use Rattle.naming.specs.Names.{headed, text_of}
 
 module _ (s : List ℕ) (at : ℕ) (z : at ≡ 0) where
-  pub headed-none : decimal 65535 (drop at s) ≡ no → no ≡ headed s
+  pub headed_none : decimal 65535 (drop at s) ≡ no → no ≡ headed s
   unfolding headed
-  headed-none e = let f : decimal 65535 s ≡ no = rw z at e in rw f
+  headed_none e = let f : decimal 65535 s ≡ no = rw z at e in rw f
 
   module _ {n : ℕ} {t : List ℕ} (e : decimal 65535 (drop at s) ≡ got n t) where
     pub headed-unequal : past (bytes "=") t ≡ no → no ≡ headed s
@@ -29,7 +29,7 @@ module _ (s : List ℕ) (at : ℕ) (z : at ≡ 0) where
 
 pub headed_empty : headed [] ≡ no
 unfolding headed
-headed_empty = rw (decimal-other 65535 [] refl refl)
+headed_empty = rw (decimal_other 65535 [] refl refl)
 
 -- what is read is the writing of the number, an equals sign and the text
 pub record Headed (s : List ℕ) (n : ℕ) (text : List ℕ) : Type 0 where
@@ -59,22 +59,22 @@ equals_ends t = refl
 
 pub headed_digits : (n : ℕ) (text : List ℕ) → n ≤ 65535 → headed (digits n ++ (bytes "=" ++ text)) ≡ got n text
 unfolding headed
-headed_digits n text h = rw (decimal-digits 65535 n (bytes "=" ++ text) h (equals_ends text))
+headed_digits n text h = rw (decimal_digits 65535 n (bytes "=" ++ text) h (equals_ends text))
 
 -- ---- the line with a number
 
 module _ (number : ℕ) (s : List ℕ) (other : Option (List ℕ)) where
-  pub text-none : headed s ≡ no → text_of number s other ≡ other
+  pub text_none : headed s ≡ no → text_of number s other ≡ other
   unfolding text_of
-  text-none e = rw e
+  text_none e = rw e
 
-  pub text-differs : {n : ℕ} {t : List ℕ} → headed s ≡ got n t → eqb n number ≡ false → text_of number s other ≡ other
+  pub text_differs : {n : ℕ} {t : List ℕ} → headed s ≡ got n t → eqb n number ≡ false → text_of number s other ≡ other
   unfolding text_of
-  text-differs e f = rw (e, f)
+  text_differs e f = rw (e, f)
 
-  pub text-here : {n : ℕ} {t : List ℕ} → headed s ≡ got n t → eqb n number ≡ true → text_of number s other ≡ some t
+  pub text_here : {n : ℕ} {t : List ℕ} → headed s ≡ got n t → eqb n number ≡ true → text_of number s other ≡ some t
   unfolding text_of
-  text-here e f = rw (e, f)
+  text_here e f = rw (e, f)
 
 -- what stands in a line does not hang on the lines after it
 pub data Texts (number : ℕ) (s : List ℕ) : Type 0 where
@@ -85,9 +85,9 @@ pub texts_of : (number : ℕ) (s : List ℕ) → Texts number s
 texts_of number s = go (headed s) refl
   where
     same : {n : ℕ} {t : List ℕ} → headed s ≡ got n t → (f : Bool) → eqb n number ≡ f → Texts number s
-    same {n} {t} e true f = here t (λ o. text-here number s o e f)
-    same {n} {t} e false f = else (λ o. text-differs number s o e f)
+    same {n} {t} e true f = here t (λ o. text_here number s o e f)
+    same {n} {t} e false f = else (λ o. text_differs number s o e f)
 
     go : (g : Got ℕ) → headed s ≡ g → Texts number s
     go (got n t) e = same e (eqb n number) refl
-    go no e = else (λ o. text-none number s o e)
+    go no e = else (λ o. text_none number s o e)

@@ -31,24 +31,24 @@ ends_filled [] h = absurd (h refl)
 ends_filled (b ∷ s) h = refl
 
 module _ (n : ℕ) (s : List ℕ) where
-  pub text-empty : is_end s ≡ true → wrong NoText ≡ texted n s
+  pub text_empty : is_end s ≡ true → wrong NoText ≡ texted n s
   unfolding texted
-  text-empty e = rw e
+  text_empty e = rw e
 
-  pub text-other : is_end s ≡ false → utf8 s ≡ false → wrong NotUtf8 ≡ texted n s
+  pub text_other : is_end s ≡ false → utf8 s ≡ false → wrong NotUtf8 ≡ texted n s
   unfolding texted
-  text-other e u = rw (e, u)
+  text_other e u = rw (e, u)
 
-  pub text-cleared : is_end s ≡ false → utf8 s ≡ true → cleared n s (first_control false s) ≡ texted n s
+  pub text_cleared : is_end s ≡ false → utf8 s ≡ true → cleared n s (first_control false s) ≡ texted n s
   unfolding texted
-  text-cleared e u = rw (e, u)
+  text_cleared e u = rw (e, u)
 
 -- ---- the line
 
 module _ (least : ℕ) (s : List ℕ) where
-  pub line-form : headed s ≡ no → wrong Form ≡ judged least s
+  pub line_form_law : headed s ≡ no → wrong Form ≡ judged least s
   unfolding judged
-  line-form e = rw e
+  line_form_law e = rw e
 
   module _ {n : ℕ} {t : List ℕ} (e : headed s ≡ got n t) where
     pub line-less : n < least → wrong NotGreater ≡ judged least s
@@ -77,9 +77,9 @@ pub record Accepted (least : ℕ) (s : List ℕ) (x : Name) : Type 0 where
   pub same : s ≡ digits x.number ++ (bytes "=" ++ x.text)
 
 module _ (least : ℕ) (s : List ℕ) (x : Name) (n : ℕ) (t : List ℕ) (h : Headed s n t) (l : least ≤ n) where
-  accepted-text : texted n t ≡ is x → Accepted least s x
+  accepted_text : texted n t ≡ is x → Accepted least s x
   unfolding texted
-  accepted-text e = go (is_end t) refl (utf8 t) refl (first_control false t) refl e
+  accepted_text e = go (is_end t) refl (utf8 t) refl (first_control false t) refl e
     where
       go : (a : Bool) → is_end t ≡ a → (b : Bool) → utf8 t ≡ b → (o : Option ℕ) → first_control false t ≡ o
           → cond a (wrong NoText) (cond b (cleared n t o) (wrong NotUtf8)) ≡ is x → Accepted least s x
@@ -100,7 +100,7 @@ unfolding judged
 accepted least s x e = go (headed s) refl e
   where
     more : (n : ℕ) (t : List ℕ) → headed s ≡ got n t → (f : Bool) → leb least n ≡ f → cond f (texted n t) (wrong NotGreater) ≡ is x → Accepted least s x
-    more n t p true f e = accepted-text least s x n t (headed_only s n t p) (leb-true least n f) e
+    more n t p true f e = accepted_text least s x n t (headed_only s n t p) (leb-true least n f) e
     more n t p false f e = absurd (no_name e)
 
     go : (g : Got ℕ) → headed s ≡ g → found g (λ n t. cond (leb least n) (texted n t) (wrong NotGreater)) (wrong Form) ≡ is x → Accepted least s x
@@ -111,7 +111,7 @@ accepted least s x e = go (headed s) refl e
 pub name_judged : (least : ℕ) (x : Name) → least ≤ x.number → Good x → judged least (digits x.number ++ (bytes "=" ++ x.text)) ≡ is x
 name_judged least x h g =
     let s = digits x.number ++ (bytes "=" ++ x.text) in
-    sym (line-text least s (headed_digits x.number x.text g.small) h) ∙ sym (text-cleared x.number x.text g.filled g.encoded)
+    sym (line-text least s (headed_digits x.number x.text g.small) h) ∙ sym (text_cleared x.number x.text g.filled g.encoded)
     ∙ ap (cleared x.number x.text) (none-missing (first_control false x.text) g.plain)
   where
     none-missing : (o : Option ℕ) → missing o ≡ true → o ≡ none

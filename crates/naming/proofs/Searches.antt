@@ -18,8 +18,8 @@ use Rattle.naming.specs.declared.finding.Found.{Found}
 use Rattle.naming.specs.declared.finding.Found.TheVariants as found
 use Rattle.naming.specs.Names.{lines_of, text_of, text_in, present, shown, has_name, name_of}
 use Rattle.naming.specs.Inner.{begin_says, BeginInside, Begins, found_says, FoundInside, Finds}
-use Rattle.naming.proofs.Splits.{line_length, line_at, line-at}
-use Rattle.naming.proofs.Heads.{headed_empty, Texts, here, else, texts_of, text-none}
+use Rattle.naming.proofs.Splits.{line_length, line_at, line_at_law}
+use Rattle.naming.proofs.Heads.{headed_empty, Texts, here, else, texts_of, text_none}
 
 -- the front of a text is a part of it
 pub front_taken : (most : ℕ) (s : List ℕ) (n : ℕ) → n ≡ length (front most s) → take n s ≡ front most s
@@ -39,35 +39,35 @@ abbrev pub text_from : List ℕ → ℕ → ℕ → Option (List ℕ)
 text_from file number at = text_in number (lines_of (drop at file))
 
 pub find_over : (file : List ℕ) (number at : ℕ) → length file ≤ at → text_from file number at ≡ none
-find_over file number at h = rw (over file at h) (text-none number [] none headed_empty)
+find_over file number at h = rw (over file at h) (text_none number [] none headed_empty)
 
 module _ (file : List ℕ) (number at end : ℕ) (a : at ≤ length file) (e : end ≡ at + line_length file at) where
   abbrev pub line : List ℕ
   line = line_at file at end
 
   -- the line and those after it
-  find-line : text_from file number at ≡ text_of number line (text_from file number (end + 1))
-  find-line =
-      let r = line-at file at end a e in
+  find_line : text_from file number at ≡ text_of number line (text_from file number (end + 1))
+  find_line =
+      let r = line_at_law file at end a e in
       ⊎_elim (λ h. rw (r.over h, find_over file number (end + 1) (omega arith))) (λ h. rw (r.feed h)) (split (length file) end)
 
-  pub find-turn : none ≡ text_of number line none → text_from file number (end + 1) ≡ text_from file number at
-  find-turn n = go (texts_of number line)
+  pub find_turn : none ≡ text_of number line none → text_from file number (end + 1) ≡ text_from file number at
+  find_turn n = go (texts_of number line)
     where
       go : Texts number line → text_from file number (end + 1) ≡ text_from file number at
       go (here t f) = absurd (let p = f none in let q : none ≡ some t = n ∙ p in let z : ◌≡◌ {A = ℕ} 0 1 = cc in let bad : ⊥ = omega arith in bad)
-      go (else f) = sym (find-line ∙ f (text_from file number (end + 1)))
+      go (else f) = sym (find_line ∙ f (text_from file number (end + 1)))
 
-  pub find-here : (t : List ℕ) → some t ≡ text_of number line none → some t ≡ text_from file number at
-  find-here t n = go (texts_of number line)
+  pub find_here : (t : List ℕ) → some t ≡ text_of number line none → some t ≡ text_from file number at
+  find_here t n = go (texts_of number line)
     where
       go : Texts number line → some t ≡ text_from file number at
-      go (here u f) = n ∙ f none ∙ sym (find-line ∙ f (text_from file number (end + 1)))
+      go (here u f) = n ∙ f none ∙ sym (find_line ∙ f (text_from file number (end + 1)))
       go (else f) = absurd (let p = f none in let q : some t ≡ none = n ∙ p in let z : ◌≡◌ {A = ℕ} 0 1 = cc in let bad : ⊥ = omega arith in bad)
 
   -- a place in the line as a place in the file
-  pub find-place : (k : ℕ) → k ≤ length line → take (end - (at + k)) (drop (at + k) file) ≡ drop k line
-  find-place k h =
+  pub find_place : (k : ℕ) → k ≤ length line → take (end - (at + k)) (drop (at + k) file) ≡ drop k line
+  find_place k h =
       let p : take (end - (at + k)) (drop (at + k) file) ≡ take (end - at - k) (drop k (drop at file)) = rw (drop-drop k at file, diff) in
       p ∙ sym (drop_take k (end - at) (drop at file))
     where
@@ -77,38 +77,38 @@ module _ (file : List ℕ) (number at end : ℕ) (a : at ≤ length file) (e : e
 -- ---- what the code's answers tell
 
 module _ {s : List ℕ} {number : ℕ} (r : Begin) (p : Begins s number r) where
-  pub begins-none : r ≡ begin.Not → none ≡ text_of number s none
-  begins-none q = sym (ap (begin_says s) q) ∙ p.same
+  pub begins_none : r ≡ begin.Not → none ≡ text_of number s none
+  begins_none q = sym (ap (begin_says s) q) ∙ p.same
 
-  pub begins-at : {k : ℕ} → r ≡ begin.At k → some (drop k s) ≡ text_of number s none
-  begins-at q = sym (ap (begin_says s) q) ∙ p.same
+  pub begins_at : {k : ℕ} → r ≡ begin.At k → some (drop k s) ≡ text_of number s none
+  begins_at q = sym (ap (begin_says s) q) ∙ p.same
 
-  pub begins-inside : {k : ℕ} → r ≡ begin.At k → k ≤ length s
-  begins-inside q = subst (BeginInside s) q p.inside
+  pub begins_inside : {k : ℕ} → r ≡ begin.At k → k ≤ length s
+  begins_inside q = subst (BeginInside s) q p.inside
 
 module _ {s : List ℕ} {number : ℕ} (r : Found) (p : Finds s number r) where
-  finds-text : {from to : ℕ} → r ≡ found.Text from to → text_in number (lines_of s) ≡ some (take (to - from) (drop from s))
-  finds-text q = sym p.same ∙ ap (found_says s) q
+  finds_text : {from to : ℕ} → r ≡ found.Text from to → text_in number (lines_of s) ≡ some (take (to - from) (drop from s))
+  finds_text q = sym p.same ∙ ap (found_says s) q
 
-  finds-none : r ≡ found.Nothing → text_in number (lines_of s) ≡ none
-  finds-none q = sym p.same ∙ ap (found_says s) q
+  finds_none : r ≡ found.Nothing → text_in number (lines_of s) ≡ none
+  finds_none q = sym p.same ∙ ap (found_says s) q
 
-  pub finds-inside : {from to : ℕ} → r ≡ found.Text from to → (from ≤ to) × (to ≤ length s)
-  finds-inside q = subst (FoundInside s) q p.inside
+  pub finds_inside : {from to : ℕ} → r ≡ found.Text from to → (from ≤ to) × (to ≤ length s)
+  finds_inside q = subst (FoundInside s) q p.inside
 
   pub has_some : {from to : ℕ} → r ≡ found.Text from to → true ≡ has_name number s
   unfolding has_name
-  has_some q = sym (ap present (finds-text q))
+  has_some q = sym (ap present (finds_text q))
 
-  pub has-none : r ≡ found.Nothing → false ≡ has_name number s
+  pub has_none : r ≡ found.Nothing → false ≡ has_name number s
   unfolding has_name
-  has-none q = sym (ap present (finds-none q))
+  has_none q = sym (ap present (finds_none q))
 
-  pub name-none : r ≡ found.Nothing → name_of number s ≡ []
+  pub name_none : r ≡ found.Nothing → name_of number s ≡ []
   unfolding name_of
-  name-none q = ap shown (finds-none q)
+  name_none q = ap shown (finds_none q)
 
-  pub name-some : {from to : ℕ} (n : ℕ) → r ≡ found.Text from to → n ≡ length (front 120 (take (to - from) (drop from s)))
+  pub name_some : {from to : ℕ} (n : ℕ) → r ≡ found.Text from to → n ≡ length (front 120 (take (to - from) (drop from s)))
       → name_of number s ≡ take n (take (to - from) (drop from s))
   unfolding name_of
-  name-some {from} {to} n q e = ap shown (finds-text q) ∙ sym (front_taken 120 (take (to - from) (drop from s)) n e)
+  name_some {from} {to} n q e = ap shown (finds_text q) ∙ sym (front_taken 120 (take (to - from) (drop from s)) n e)

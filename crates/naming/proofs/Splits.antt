@@ -22,12 +22,12 @@ abbrev pub line_length : List ℕ → ℕ → ℕ
 line_length s i = length (first_line (lines_of (drop i s)))
 
 module _ (s : List ℕ) (i : ℕ) where
-  pub line-over : length s ≤ i → line_length s i ≡ 0
-  line-over h = rw (over s i h)
+  pub line_over : length s ≤ i → line_length s i ≡ 0
+  line_over h = rw (over s i h)
 
   module _ (h : i < length s) where
-    pub line-feed : get_or s i 0 ≡ 10 → line_length s i ≡ 0
-    line-feed e = rw (cut s i h, eq-eqb (get_or s i 0) 10 e)
+    pub line_feed : get_or s i 0 ≡ 10 → line_length s i ≡ 0
+    line_feed e = rw (cut s i h, eq-eqb (get_or s i 0) 10 e)
 
     pub line_turn : (get_or s i 0 ≡ 10 → ⊥) → line_length s i ≡ suc (line_length s (i + 1))
     line_turn n = rw (cut s i h, ne_eqb (get_or s i 0) 10 n, longer_first (get_or s i 0) (lines_of (drop (i + 1) s)))
@@ -94,5 +94,5 @@ module _ (file : List ℕ) (at end : ℕ) (a : at ≤ length file) (e : end ≡ 
         long = p ∙ ap first_line (sym l);
       }
 
-  pub line-at : At
-  line-at = at_split (split_of (drop at file))
+  pub line_at_law : At
+  line_at_law = at_split (split_of (drop at file))

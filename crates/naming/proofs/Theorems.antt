@@ -24,13 +24,13 @@ exact = record {
 -- ---- the name of a number
 
 module _ (s : List ℕ) (xs : List Name) (number : ℕ) (e : names_of s ≡ are xs) where
-  name-found : name_of number s ≡ shown (text_at number xs)
+  name_found : name_of number s ≡ shown (text_at number xs)
   unfolding name_of
-  name-found = ap shown ((in_form_law s xs e).text number)
+  name_found = ap shown ((in_form_law s xs e).text number)
 
-  has-found : has_name number s ≡ present (text_at number xs)
+  has_found : has_name number s ≡ present (text_at number xs)
   unfolding has_name
-  has-found = ap present ((in_form_law s xs e).text number)
+  has_found = ap present ((in_form_law s xs e).text number)
 
 -- what is shown of a name of a list that rises
 record Fits (t : List ℕ) : Type 0 where
@@ -50,10 +50,10 @@ fits number least (x ∷ xs) r = go (eqb x.number number) (fits number (suc x.nu
 
 pub looked : Looked
 looked s xs number e =
-    let n = name-found s xs number e in
+    let n = name_found s xs number e in
     let f = fits number 0 xs (in_form_law s xs e).rising in
     record {
-      has = has-found s xs number e;
+      has = has_found s xs number e;
       name = n;
       whole = λ t p l. n ∙ ap shown p ∙ fronts.whole 120 t l;
       encoded = ap utf8 n ∙ f.encoded;

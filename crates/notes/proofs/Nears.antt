@@ -17,9 +17,9 @@ use Rattle.festivals.specs.Kathmandu.{nepal_day}
 use Rattle.notes.specs.Near.{dated_moon, minutes_to, nearness}
 
 module _ (c : Calendar) (x : Float) where
-  pub moon-undated : none ≡ nepal_day x → none ≡ dated_moon c x
+  pub moon_undated : none ≡ nepal_day x → none ≡ dated_moon c x
   unfolding dated_moon next
-  moon-undated e = rw (← e)
+  moon_undated e = rw (← e)
 
   module _ (n : ℕ) (e : some n ≡ nepal_day x) where
     pub moon-inside : (t : BsDate) → from_day c n ≡ answered t → some (n, t) ≡ dated_moon c x
@@ -31,9 +31,9 @@ module _ (c : Calendar) (x : Float) where
     moon-outside f = rw (← e, f)
 
 module _ (x : Float) (n d len m : ℕ) where
-  pub near-after : d ≡ 1 → m ≡ minutes_to (whole (pos n)) (local_day x) → some (true, m) ≡ nearness x n d len
+  pub near_after : d ≡ 1 → m ≡ minutes_to (whole (pos n)) (local_day x) → some (true, m) ≡ nearness x n d len
   unfolding nearness
-  near-after e f = rw (eq-eqb d 1 e, f)
+  near_after e f = rw (eq-eqb d 1 e, f)
 
   module _ (k : d ≡ 1 → ⊥) where
     pub near-neither : (d ≡ len → ⊥) → none ≡ nearness x n d len

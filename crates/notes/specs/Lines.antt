@@ -64,21 +64,21 @@ rule_pieces number name = bytes "\n      " ∷ digits number ∷ bytes " " ∷ n
 
 module _ (names : List ℕ) (month : ℕ) where
   -- a rule, if it is one of the month
-  unfoldable pub itemPieces : Rule → List Text
-  itemPieces r = cond (is_of month r) (rule_pieces r.name (name_text r.name names)) []
+  unfoldable pub item_pieces : Rule → List Text
+  item_pieces r = cond (is_of month r) (rule_pieces r.name (name_text r.name names)) []
 
   -- the rules of a list, behind others or none
-  unfoldable pub listPieces : Bool → List Rule → List Text
-  listPieces begun [] = end_of begun ∷ []
-  listPieces begun (r ∷ rs) = itemPieces r ++ listPieces (begun || is_of month r) rs
+  unfoldable pub list_pieces : Bool → List Rule → List Text
+  list_pieces begun [] = end_of begun ∷ []
+  list_pieces begun (r ∷ rs) = item_pieces r ++ list_pieces (begun || is_of month r) rs
 
 module _ (rules : List Rule) (names : List ℕ) where
   -- the month, and its rules each on a line
-  unfoldable pub rulesPieces : ℕ → List Text
-  rulesPieces month = bytes "    rules of lunar month " ∷ digits month ∷ bytes ":" ∷ listPieces names month false rules
+  unfoldable pub rules_pieces : ℕ → List Text
+  rules_pieces month = bytes "    rules of lunar month " ∷ digits month ∷ bytes ":" ∷ list_pieces names month false rules
 
   -- a new moon after the beginning of its month or else before the end, what it opens, and the rules of the two months that meet there
-  unfoldable pub besidePieces : BsDate → Bool → Bool → ℕ → List Text
-  besidePieces t opens after minutes =
+  unfoldable pub beside_pieces : BsDate → Bool → Bool → ℕ → List Text
+  beside_pieces t opens after minutes =
       where_pieces t after minutes
-      ++ (opening_pieces t opens ++ (rulesPieces (earlier_of after t.month) ++ rulesPieces (later_of after t.month)))
+      ++ (opening_pieces t opens ++ (rules_pieces (earlier_of after t.month) ++ rules_pieces (later_of after t.month)))

@@ -4,7 +4,7 @@ ghost use Rattle.wall.specs.Names.{name_text};
 ghost use Rattle.rules.specs.Rules.{rule_at, rules_of};
 ghost use Rattle.output.specs.Pieces.{Puts};
 ghost use Rattle.notes.specs.Lines.{month_before, month_after, earlier_of, later_of, moment_pieces, where_pieces, opening_pieces, none_pieces};
-ghost use Rattle.notes.specs.Lines.{is_of, end_of, rule_pieces, itemPieces, listPieces, rulesPieces, besidePieces};
+ghost use Rattle.notes.specs.Lines.{is_of, end_of, rule_pieces, item_pieces, list_pieces, rules_pieces, beside_pieces};
 
 use conversion::BsDate;
 use gregorian::UtDay;
@@ -49,7 +49,7 @@ fn put_if_of_month(
     i: usize,
 ) -> Listed
     requires { i * 8 + 8 ≤ length rules.now }
-    ensures puts { Puts out.old l.out (itemPieces names.now month (rule_at rules.now i)) out.new result.out }
+    ensures puts { Puts out.old l.out (item_pieces names.now month (rule_at rules.now i)) out.new result.out }
     ensures some_value { result.some ≡ (l.some || is_of month (rule_at rules.now i)) }
 {
     let r = rules::rule_at(rules, i);
@@ -73,7 +73,7 @@ fn put_rules_end(l: Listed, out: &mut [u8]) -> Out
 
 // The computed rules of a lunar month, each on its line; or none.
 fn put_rule_lines(o: Out, out: &mut [u8], month: u16, rules: &[u16], names: &[u8]) -> Out
-    ensures { Puts out.old o (listPieces names.now month false (rules_of rules.now)) out.new result }
+    ensures { Puts out.old o (list_pieces names.now month false (rules_of rules.now)) out.new result }
 {
     let mut l = Listed {
         out: o,
@@ -90,7 +90,7 @@ fn put_rule_lines(o: Out, out: &mut [u8], month: u16, rules: &[u16], names: &[u8
 
 // A lunar month and its rules.
 pub fn put_month_rules(o: Out, out: &mut [u8], month: u16, rules: &[u16], names: &[u8]) -> Out
-    ensures { Puts out.old o (rulesPieces (rules_of rules.now) names.now month) out.new result }
+    ensures { Puts out.old o (rules_pieces (rules_of rules.now) names.now month) out.new result }
 {
     let a = output::put_labelled(o, out, b"    rules of lunar month ", month as u64);
     let b = output::put_text(a, out, b":");
@@ -175,7 +175,7 @@ pub fn put_beside(
     rules: &[u16],
     names: &[u8],
 ) -> Out
-    ensures { Puts out.old o (besidePieces (rules_of rules.now) names.now date opens after minutes)
+    ensures { Puts out.old o (beside_pieces (rules_of rules.now) names.now date opens after minutes)
         out.new result }
 {
     let a = put_where(o, out, date, after, minutes);

@@ -66,11 +66,11 @@ pub record Left {A : Type 0} (f : A → List ℕ) (list : List A) (l₀ : List �
   pub whole : puts (gathered l o) (map f (drop i list)) ≡ puts (gathered l₀ o₀) (map f list)
 
 module _ {A : Type 0} {f : A → List ℕ} {list : List A} {l₀ : List ℕ} {o₀ : Out} where
-  pub left-all : Left f list l₀ o₀ 0 l₀ o₀
-  left-all = record { whole = refl }
+  pub left_all : Left f list l₀ o₀ 0 l₀ o₀
+  left_all = record { whole = refl }
 
-  pub left-turn : {i : ℕ} {l : List ℕ} {o : Out} {m : List ℕ} {p : Out} (d : A) → Left f list l₀ o₀ i l o → i < length list → Gathers l o (f (get_or list i d) ∷ []) m p → Left f list l₀ o₀ (i + 1) m p
-  left-turn {i} d a h w = record { whole = ap (λ (g : Gathered). puts g (map f (drop (i + 1) list))) w.same ∙ (rw add-one (rw (drop-cons list i d h) at a.whole)) }
+  pub left_turn : {i : ℕ} {l : List ℕ} {o : Out} {m : List ℕ} {p : Out} (d : A) → Left f list l₀ o₀ i l o → i < length list → Gathers l o (f (get_or list i d) ∷ []) m p → Left f list l₀ o₀ (i + 1) m p
+  left_turn {i} d a h w = record { whole = ap (λ (g : Gathered). puts g (map f (drop (i + 1) list))) w.same ∙ (rw add-one (rw (drop-cons list i d h) at a.whole)) }
 
   pub left_none : {i : ℕ} {l : List ℕ} {o : Out} → Left f list l₀ o₀ i l o → length list ≤ i → Gathers l₀ o₀ (map f list) l o
   left_none {i} a h = record { same = rw (drop_of_length-le list {i = i} h) at a.whole }

@@ -46,6 +46,6 @@ module _ (n : ℕ) {a : DateAnswer} (e : date_says a ≡ date_answer n) where
   unfolding date_pieces
   date_is q = ap dated_pieces (sym (ap date_says q) ∙ e)
 
-  pub date-none : {k : Refusal} → a ≡ DA.Refused k → bytes "no date" ∷ [] ≡ date_pieces n
+  pub date_none : {k : Refusal} → a ≡ DA.Refused k → bytes "no date" ∷ [] ≡ date_pieces n
   unfolding date_pieces
-  date-none q = ap dated_pieces (sym (ap date_says q) ∙ e)
+  date_none q = ap dated_pieces (sym (ap date_says q) ∙ e)

@@ -28,28 +28,28 @@ unfolding of_bits
 served p = inside limit p tt
 
 module _ {t : Float} (p : Within 20 1680000 t) where
-  obliquity-number : Within 20 24600000 (obliquity t)
+  obliquity_number : Within 20 24600000 (obliquity t)
   unfolding obliquity near
-  obliquity-number = within 24600000 (lit (dec 23439291 6) ⊟ by (dec 130042 7) (got p)) tt
+  obliquity_number = within 24600000 (lit (dec 23439291 6) ⊟ by (dec 130042 7) (got p)) tt
 
   -- 0.42 radians
   tilt : Within 20 440402 (obliquity t ⊗ deg)
   unfolding deg div near
-  tilt = within 440402 (got obliquity-number ⊠ lit deg) tt
+  tilt = within 440402 (got obliquity_number ⊠ lit deg) tt
 
-  mean-number : Within 20 (58100 * 2 ^ 20) (mean_longitude t)
+  mean_number : Within 20 (58100 * 2 ^ 20) (mean_longitude t)
   unfolding mean_longitude near
-  mean-number = within (58100 * 2 ^ 20) (lit (dec 28046646 5) ⊞ by (dec 3600076983 5) (got p) ⊞ by (dec 3032 7) (got p) ⊠ got p) tt
+  mean_number = within (58100 * 2 ^ 20) (lit (dec 28046646 5) ⊞ by (dec 3600076983 5) (got p) ⊞ by (dec 3032 7) (got p) ⊠ got p) tt
 
-  anomaly-number : Within 20 (58100 * 2 ^ 20) (anomaly t)
+  anomaly_number : Within 20 (58100 * 2 ^ 20) (anomaly t)
   unfolding anomaly near
-  anomaly-number = within (58100 * 2 ^ 20) (lit (dec 35752911 5) ⊞ by (dec 3599905029 5) (got p) ⊟ by (dec 1537 7) (got p) ⊠ got p) tt
+  anomaly_number = within (58100 * 2 ^ 20) (lit (dec 35752911 5) ⊞ by (dec 3599905029 5) (got p) ⊟ by (dec 1537 7) (got p) ⊠ got p) tt
 
-  product-number : Within 20 459000 (sine (obliquity t ⊗ deg) ⊗ sine (sun_longitude t ⊗ deg))
-  product-number = within 459000 (got (tilt_sine tilt) ⊠ got (sine_number _)) tt
+  product_number : Within 20 459000 (sine (obliquity t ⊗ deg) ⊗ sine (sun_longitude t ⊗ deg))
+  product_number = within 459000 (got (tilt_sine tilt) ⊠ got (sine_number _)) tt
 
-  longitude-number : Within 20 (360 * 2 ^ 20) (sun_longitude t)
-  longitude-number = refined 20 tt (upto_within (sun_upto p))
+  longitude_number : Within 20 (360 * 2 ^ 20) (sun_longitude t)
+  longitude_number = refined 20 tt (upto_within (sun_upto p))
 
   module _ {lat : Float} (l : T (le (neg (dec 90 0)) lat && le lat (dec 90 0))) where
     latitude-number : Within 20 (90 * 2 ^ 20) lat
@@ -60,16 +60,16 @@ module _ {t : Float} (p : Within 20 1680000 t) where
     unfolding deg div near of_bits declination
     all-served = record {
       obliquity_angle = served (within far (got tilt) tt);
-      longitude_angle = served (within far (got longitude-number ⊠ lit deg) tt);
-      declination_arc = inside one product-number tt;
+      longitude_angle = served (within far (got longitude_number ⊠ lit deg) tt);
+      declination_arc = inside one product_number tt;
       half_obliquity = served (within far (got tilt ⧄ dec 2 0) tt);
-      twice_mean = served (within far (by (dec 2 0) (got mean-number ⊠ lit deg)) tt);
-      four_mean = served (within far (by (dec 4 0) (got mean-number ⊠ lit deg)) tt);
-      anomaly_angle = served (within far (got anomaly-number ⊠ lit deg) tt);
-      twice_anomaly = served (within far (by (dec 2 0) (got anomaly-number ⊠ lit deg)) tt);
+      twice_mean = served (within far (by (dec 2 0) (got mean_number ⊠ lit deg)) tt);
+      four_mean = served (within far (by (dec 4 0) (got mean_number ⊠ lit deg)) tt);
+      anomaly_angle = served (within far (got anomaly_number ⊠ lit deg) tt);
+      twice_anomaly = served (within far (by (dec 2 0) (got anomaly_number ⊠ lit deg)) tt);
       horizon = served (within far (by (dec 90833 3) (lit deg)) tt);
       latitude_angle = served (within far (got latitude-number ⊠ lit deg) tt);
-      declination_angle = served (within far (got (small_arc product-number)) tt);
+      declination_angle = served (within far (got (small_arc product_number)) tt);
     }
 
 -- on every date, at every place

@@ -148,38 +148,38 @@ turns_small {a} p = quarter (turns a) (within 262144 (got p ⊠ lit per_half_tur
 -- an angle of at most A, which is at most 0.5, has a sine of at most R
 module _ (A R : ℕ) (half-or-less : T (leb A 524288)) (below : T (ltb R (2 ^ 20))) (wider : T (leb A R))
     (bounded : (y : Float) (p : Within 20 A y) → T (good (swung (got p)) && leb (bound (swung (got p))) R)) where
-  swing-small : {a : Float} → Within 20 A a → Within 20 R (swing a zero zero)
+  swing_small : {a : Float} → Within 20 A a → Within 20 R (swing a zero zero)
   unfolding swing sine_series mul of_bits
-  swing-small {a} p = rw no_sign (uncut below (within R (swung (got p)) (bounded a p)))
+  swing_small {a} p = rw no_sign (uncut below (within R (swung (got p)) (bounded a p)))
 
-  above-small : (m : ℕ) (e : ℤ) → Within 20 A (fin false m e) → Within 20 R (sine_above (fin false m e))
+  above_small : (m : ℕ) (e : ℤ) → Within 20 A (fin false m e) → Within 20 R (sine_above (fin false m e))
   unfolding sine_above
-  above-small m e p = rw (no_turn_law (turns (fin false m e)) (turns_above m e) (turns_small (widen 524288 half-or-less p))) (swing-small p)
+  above_small m e p = rw (no_turn_law (turns (fin false m e)) (turns_above m e) (turns_small (widen 524288 half-or-less p))) (swing_small p)
 
   above_of : (x : Float) → lt zero x ≡ true → Within 20 A x → Within 20 R (sine_above x)
   unfolding lt of_bits
   above_of nan h p = absurd p.size
   above_of (inf s) h p = absurd p.size
   above_of (fin true m e) h p = absurd (true≢false (sym h))
-  above_of (fin false m e) h p = above-small m e p
+  above_of (fin false m e) h p = above_small m e p
 
-  signed-small : (x : Float) → Within 20 A x → Within 20 R (signed x (sine_above (magnitude x)))
+  signed_small : (x : Float) → Within 20 A x → Within 20 R (signed x (sine_above (magnitude x)))
   unfolding signed turned magnitude
-  signed-small x p = go (lt zero x) (lt x zero) refl refl
+  signed_small x p = go (lt zero x) (lt x zero) refl refl
     where
       go : (a b : Bool) → lt zero x ≡ a → lt x zero ≡ b → Within 20 R (cond a (sine_above (cond a x (cond b (neg x) zero))) (cond b (neg (sine_above (cond a x (cond b (neg x) zero)))) x))
       go true b h k = above_of x h p
       go false true h k = negated (above_of (neg x) (zero_lt_neg x ∙ k) (negated p))
       go false false h k = widen R wider p
 
-  pub small-sine : {x : Float} → Within 20 A x → Within 20 R (sine x)
+  pub small_sine : {x : Float} → Within 20 A x → Within 20 R (sine x)
   unfolding sine
-  small-sine {x} p = either (in_range x) (signed-small x p) (zero_number R)
+  small_sine {x} p = either (in_range x) (signed_small x p) (zero_number R)
 
 -- of at most 0.42 radians
 pub tilt_sine : {x : Float} → Within 20 440402 x → Within 20 454000 (sine x)
 unfolding of_bits
-tilt_sine p = small-sine 440402 454000 tt tt tt (λ y q. tt) p
+tilt_sine p = small_sine 440402 454000 tt tt tt (λ y q. tt) p
 
 -- ---- the arcsine of a number of at most 0.4378
 abbrev arcs : Formula 20 → Formula 20

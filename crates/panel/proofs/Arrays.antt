@@ -29,7 +29,7 @@ use Rattle.shelf.specs.Numbers.{laid, Made}
 use Rattle.shelf.specs.Inner.{kept_of, placed, table_of, rows_of}
 use Rattle.panel.specs.Boundary.{code, gives, MonthPlaces, month_numbers}
 use Rattle.panel.specs.Keeping.{Keeping, written, start_in, kept_done, on_array, kept_month, placed_by}
-use Rattle.shelf.proofs.Made.{made_holds, made_table, made-rows, put-laid}
+use Rattle.shelf.proofs.Made.{made_holds, made_table, made_rows, put_laid}
 use Rattle.panel.proofs.Handing.{both}
 
 -- ---- the two cases of an array
@@ -55,11 +55,11 @@ moved {t} {n = n} P e g f = subst (λ (v : Table). TableHeld v n → P v n) e (s
 
 pub of_table : {a : List ℕ} {σ : State} {t : Table} {rows : List ℕ} (P : Table → List ℕ → Type 0) → Made a σ → t ≡ table_of a → rows ≡ rows_of a → (TableHeld t rows → P t rows)
     → P σ.table σ.rows
-of_table {a} {σ} P m p q f = moved P (p ∙ made_table a σ m) (q ∙ made-rows a σ m) f m.good.table
+of_table {a} {σ} P m p q f = moved P (p ∙ made_table a σ m) (q ∙ made_rows a σ m) f m.good.table
 
 -- an array with the record of a state has the state
 placed_written : {A : Type 0} (x : Answer A) (k : Kept) (σ : State) (a : List ℕ) → Holds k σ → 4488 ≤ length a → placed_by x k a ≡ written a σ x
-placed_written (answered v) k σ a h n = put-laid a σ k h n
+placed_written (answered v) k σ a h n = put_laid a σ k h n
 placed_written (refused j) k σ a h n = refl
 
 -- the same by another name of the answer
@@ -92,41 +92,41 @@ no_next true τ a k e = absurd (refused_answered (sym e) refl)
 no_next false τ a k e = cc
 
 module _ (t : Table) (a : List ℕ) where
-  pub not-started : (k : Refusal) {n : ℕ} → refused k ≡ whether (start t) → n ≡ number k → (n, a) ≡ gives (start_in t a) (laid a) a
+  pub not_started : (k : Refusal) {n : ℕ} → refused k ≡ whether (start t) → n ≡ number k → (n, a) ≡ gives (start_in t a) (laid a) a
   unfolding start_in start
-  not-started k e c = rw (no_next (startable t) (blank t) a k e) (both c refl)
+  not_started k e c = rw (no_next (startable t) (blank t) a k e) (both c refl)
 
-  pub started-short : {n : ℕ} → yes ≡ whether (start t) → length a < 4488 → n ≡ number NoRoom → (n, a) ≡ gives (start_in t a) (laid a) a
+  pub started_short : {n : ℕ} → yes ≡ whether (start t) → length a < 4488 → n ≡ number NoRoom → (n, a) ≡ gives (start_in t a) (laid a) a
   unfolding start_in start given
-  started-short e h c = rw (room_next (startable t) (blank t) a e, lt-leb 4488 (length a) h) (both c refl)
+  started_short e h c = rw (room_next (startable t) (blank t) a e, lt-leb 4488 (length a) h) (both c refl)
 
   pub started : {after : List ℕ} (k : Kept) → yes ≡ whether (start t) → Holds k (blank t) → 4488 ≤ length a → after ≡ placed k a → (0, after) ≡ gives (start_in t a) (laid a) a
   unfolding start_in start given
-  started k e w h p = rw (room_next (startable t) (blank t) a e, le-leb 4488 (length a) h) (both refl (p ∙ put-laid a (blank t) k w h))
+  started k e w h p = rw (room_next (startable t) (blank t) a e, le-leb 4488 (length a) h) (both refl (p ∙ put_laid a (blank t) k w h))
 
 -- ---- what each kind of call hands over, from what it asks of the record of the array
 
 module _ {a : List ℕ} {σ : State} {k : Kept} (m : Made a σ) (read : k ≡ kept_of a) where
-  pub handed-done : {n : ℕ} {after : List ℕ} (r : Done) (does : State → Outcome) → (Ready k → DoneAs r (does (held k))) → n ≡ code (valid_says r.answer)
+  pub handed_done : {n : ℕ} {after : List ℕ} (r : Done) (does : State → Outcome) → (Ready k → DoneAs r (does (held k))) → n ≡ code (valid_says r.answer)
       → after ≡ placed_by (valid_says r.answer) r.state a → ◌≡◌ {A = ℕ × List ℕ} (n, after) (kept_done a (does σ))
-  handed-done r does f c p =
+  handed_done r does f c p =
       let h = of_made (λ (τ : State). DoneAs r (does τ)) m read f in
       both (c ∙ ap code h.answer) (p ∙ placed_as (does σ).state a h.holds m.room h.answer)
 
   -- a day's list, whose answer `tells` the number and the places
-  pub handed-list : {P : Type 0} {n : ℕ} {places : P} {buffer after : List ℕ} (tells : Answer ℕ → ℕ × P) (r : Asked) (asks : State → Reply) → (Ready k → AskedAs r buffer (asks (held k)))
+  pub handed_list : {P : Type 0} {n : ℕ} {places : P} {buffer after : List ℕ} (tells : Answer ℕ → ℕ × P) (r : Asked) (asks : State → Reply) → (Ready k → AskedAs r buffer (asks (held k)))
       → (n, places) ≡ tells (list_says r.answer) → after ≡ placed_by (list_says r.answer) r.state a
       → ◌≡◌ {A = ℕ × (P × (List ℕ × List ℕ))} (n, (places, (buffer, after))) (on_array a (asks σ).state (asks σ).listed.answer (tells (asks σ).listed.answer, (asks σ).listed.buffer))
-  handed-list {buffer = buffer} tells r asks f g p =
+  handed_list {buffer = buffer} tells r asks f g p =
       let h = of_made (λ (τ : State). AskedAs r buffer (asks τ)) m read f in
       let e = g ∙ ap tells h.answer in
       let q = p ∙ placed_as (asks σ).state a h.holds m.room h.answer in
       λ i. ((e i).0, ((e i).1, (h.written i, q i)))
 
-  pub handed-month : {n : ℕ} {places : MonthPlaces} {cells festivals after : List ℕ} (r : AskedMonth) (asks : State → MonthReply) (old : MonthPlaces)
+  pub handed_month : {n : ℕ} {places : MonthPlaces} {cells festivals after : List ℕ} (r : AskedMonth) (asks : State → MonthReply) (old : MonthPlaces)
       → (Ready k → MonthAs r cells festivals (asks (held k))) → (n, places) ≡ gives (grid_says r.answer) month_numbers old → after ≡ placed_by (grid_says r.answer) r.state a
       → ◌≡◌ {A = ℕ × (MonthPlaces × ((List ℕ × List ℕ) × List ℕ))} (n, (places, ((cells, festivals), after))) (kept_month a (asks σ) old)
-  handed-month {cells = cells} {festivals} r asks old f g p =
+  handed_month {cells = cells} {festivals} r asks old f g p =
       let h = of_made (λ (τ : State). MonthAs r cells festivals (asks τ)) m read f in
       let e = g ∙ ap (λ (x : Answer Month). gives x month_numbers old) h.answer in
       let q = p ∙ placed_as (asks σ).state a h.holds m.room h.answer in

@@ -90,8 +90,8 @@ beside {P} {X} e = ap (λ (z : (ℕ × P) × X). (z.0.0, (z.0.1, z.1))) e
 
 module _ {K : Type 0} {A S : K → Type 0} {B : Type 0} {C : (k : K) → A k → ℕ → S k → Type 0} {after : (k : K) → S k → B} where
   -- a contract that is an equation of the number and all that was lent with what a definition tells leaves one outcome
-  one-outcome : (told : (k : K) → A k → Told B) → ((k : K) (a : A k) (x : ℕ) (s : S k) → C k a x s → ◌≡◌ {A = Told B} (x, after k s) (told k a)) → OneOutcome C after
-  one-outcome told e k a x y s t p q =
+  one_outcome : (told : (k : K) → A k → Told B) → ((k : K) (a : A k) (x : ℕ) (s : S k) → C k a x s → ◌≡◌ {A = Told B} (x, after k s) (told k a)) → OneOutcome C after
+  one_outcome told e k a x y s t p q =
       let d : ◌≡◌ {A = Told B} (x, after k s) (y, after k t) = e k a x s p ∙ sym (e k a y t q) in
       (ap (λ (z : Told B). z.0) d, ap (λ (z : Told B). z.1) d)
 
@@ -101,16 +101,16 @@ module _ {K : Type 0} {A S : K → Type 0} {B : Type 0} {C : (k : K) → A k →
       → ((k : K) (a : A k) → ((told k a).0 ≡ 0 → ⊥) → (told k a).1 ≡ before k a) → Crosses C before after
   crosses told e h =
       record {
-        once = one-outcome told e;
+        once = one_outcome told e;
         left = λ k a x s p n.
             let d = e k a x s p in
             ap (λ (z : Told B). z.1) d ∙ h k a (λ z. n (ap (λ (z : Told B). z.0) d ∙ z));
       }
 
   -- a contract that is an equation with `gives`
-  pub by-gives : {X : Type 0} (answer : (k : K) → A k → Answer X) (parts : X → B)
+  pub by_gives : {X : Type 0} (answer : (k : K) → A k → Answer X) (parts : X → B)
       → ((k : K) (a : A k) (x : ℕ) (s : S k) → C k a x s → ◌≡◌ {A = Told B} (x, after k s) (gives (answer k a) parts (before k a))) → Crosses C before after
-  by-gives answer parts e = crosses (λ k a. gives (answer k a) parts (before k a)) e (λ k a. gives_left (answer k a) parts (before k a))
+  by_gives answer parts e = crosses (λ k a. gives (answer k a) parts (before k a)) e (λ k a. gives_left (answer k a) parts (before k a))
 
   -- a function that refuses nothing
   pub by_value : (value : (k : K) → A k → B) → ((k : K) (a : A k) (x : ℕ) (s : S k) → C k a x s → (x ≡ 0) × (after k s ≡ value k a)) → Crosses C before after
@@ -118,9 +118,9 @@ module _ {K : Type 0} {A S : K → Type 0} {B : Type 0} {C : (k : K) → A k →
 
 module _ {K : Type 0} {A S : K → Type 0} {P : Type 0} {C : (k : K) → A k → ℕ → S k → Type 0} {before : (k : K) → A k → ℕ × P} {after : (k : K) → S k → ℕ × P} where
   -- a contract that is an equation with `gives_some`
-  pub by-some : {X : Type 0} (answer : (k : K) → A k → Answer (Option X)) (parts : X → P)
+  pub by_some : {X : Type 0} (answer : (k : K) → A k → Answer (Option X)) (parts : X → P)
       → ((k : K) (a : A k) (x : ℕ) (s : S k) → C k a x s → ◌≡◌ {A = Told (ℕ × P)} (x, after k s) (gives_some (answer k a) parts (before k a))) → Crosses C before after
-  by-some answer parts e = crosses (λ k a. gives_some (answer k a) parts (before k a)) e (λ k a. some_left (answer k a) parts (before k a))
+  by_some answer parts e = crosses (λ k a. gives_some (answer k a) parts (before k a)) e (λ k a. some_left (answer k a) parts (before k a))
 
 -- ---- with buffers
 
@@ -194,66 +194,66 @@ no_days R.NoRow old h = refl
 
 module _ {A P D : Type 0} (tell : Paper.Told → D → D) (parts : A → P) where
   -- the number that is given is the answer's
-  pub told-code : (a : Answer A) (old : P × D) → (gives_told tell a parts old).0 ≡ code a
-  told-code (answered x) old = refl
-  told-code (refused k) old = refl
+  pub told_code : (a : Answer A) (old : P × D) → (gives_told tell a parts old).0 ≡ code a
+  told_code (answered x) old = refl
+  told_code (refused k) old = refl
 
   -- a number other than 0 leaves the answer's places
-  pub parts-kept : (a : Answer A) (old : P × D) → ((gives_told tell a parts old).0 ≡ 0 → ⊥) → (gives_told tell a parts old).1.0 ≡ old.0
-  parts-kept (answered x) old h = absurd (h refl)
-  parts-kept (refused k) old h = refl
+  pub parts_kept : (a : Answer A) (old : P × D) → ((gives_told tell a parts old).0 ≡ 0 → ⊥) → (gives_told tell a parts old).1.0 ≡ old.0
+  parts_kept (answered x) old h = absurd (h refl)
+  parts_kept (refused k) old h = refl
 
   -- where n alone tells something, another number leaves its place
-  pub told-kept : (n : ℕ) → ((k : Refusal) (old : D) → (number k ≡ n → ⊥) → tell (told k) old ≡ old) → (a : Answer A) (old : P × D)
+  pub told_kept : (n : ℕ) → ((k : Refusal) (old : D) → (number k ≡ n → ⊥) → tell (told k) old ≡ old) → (a : Answer A) (old : P × D)
       → ((gives_told tell a parts old).0 ≡ n → ⊥) → (gives_told tell a parts old).1.1 ≡ old.1
-  told-kept n quiet (answered x) old h = refl
-  told-kept n quiet (refused k) old h = quiet k old.1 h
+  told_kept n quiet (answered x) old h = refl
+  told_kept n quiet (refused k) old h = quiet k old.1 h
 
 module _ {K : Type 0} {A S : K → Type 0} {C : (k : K) → A k → ℕ → S k → Type 0} {P D B X : Type 0} {before : (k : K) → A k → (P × D) × B} {after : (k : K) → S k → (P × D) × B} where
   -- THE LAW for such a call: `answer` is its answer, and `buffer` what it leaves in the buffer, which a refusal does not change
-  by-telling : (tell : Paper.Told → D → D) (n : ℕ) → ((k : Refusal) (old : D) → (number k ≡ n → ⊥) → tell (told k) old ≡ old)
+  by_telling : (tell : Paper.Told → D → D) (n : ℕ) → ((k : Refusal) (old : D) → (number k ≡ n → ⊥) → tell (told k) old ≡ old)
       → (answer : (k : K) → A k → Answer X) (parts : X → P) (buffer : (k : K) → A k → B)
       → ((k : K) (a : A k) (j : Refusal) → answer k a ≡ refused j → buffer k a ≡ (before k a).1)
       → ((k : K) (a : A k) (x : ℕ) (s : S k) → C k a x s → ◌≡◌ {A = Told (P × D) × B} ((x, (after k s).0), (after k s).1) (gives_told tell (answer k a) parts (before k a).0, buffer k a))
       → CrossesTelling n C before after
-  by-telling tell n quiet answer parts buffer kept e =
+  by_telling tell n quiet answer parts buffer kept e =
       record {
-        once = one-outcome (λ k a. let g = gives_told tell (answer k a) parts (before k a).0 in (g.0, (g.1, buffer k a))) (λ k a x s p. beside (e k a x s p));
+        once = one_outcome (λ k a. let g = gives_told tell (answer k a) parts (before k a).0 in (g.0, (g.1, buffer k a))) (λ k a x s p. beside (e k a x s p));
         left = λ k a x s p z.
             let d = e k a x s p in
             let old = (before k a).0 in
             let other : (gives_told tell (answer k a) parts old).0 ≡ 0 → ⊥ = λ q. z (ap (λ (g : Told (P × D) × B). g.0.0) d ∙ q) in
-            let r = other_refused (answer k a) (λ q. other (told-code tell parts (answer k a) old ∙ q)) in (
-              ap (λ (g : Told (P × D) × B). g.0.1.0) d ∙ parts-kept tell parts (answer k a) old other,
+            let r = other_refused (answer k a) (λ q. other (told_code tell parts (answer k a) old ∙ q)) in (
+              ap (λ (g : Told (P × D) × B). g.0.1.0) d ∙ parts_kept tell parts (answer k a) old other,
               ap (λ (g : Told (P × D) × B). g.1) d ∙ kept k a r.0 r.1,
             );
-        told-left = λ k a x s p z.
+        told_left = λ k a x s p z.
             let d = e k a x s p in
-            ap (λ (g : Told (P × D) × B). g.0.1.1) d ∙ told-kept tell parts n quiet (answer k a) (before k a).0 (λ q. z (ap (λ (g : Told (P × D) × B). g.0.0) d ∙ q));
+            ap (λ (g : Told (P × D) × B). g.0.1.1) d ∙ told_kept tell parts n quiet (answer k a) (before k a).0 (λ q. z (ap (λ (g : Told (P × D) × B). g.0.0) d ∙ q));
       }
 
 module _ {K : Type 0} {A S : K → Type 0} {C : (k : K) → A k → ℕ → S k → Type 0} where
   -- a day's list
-  pub by-list : {before : (k : K) → A k → ℕ × List ℕ} {after : (k : K) → S k → ℕ × List ℕ} (answer : (k : K) → A k → Answer (List Pair))
+  pub by_list : {before : (k : K) → A k → ℕ × List ℕ} {after : (k : K) → S k → ℕ × List ℕ} (answer : (k : K) → A k → Answer (List Pair))
       → ((k : K) (a : A k) (x : ℕ) (s : S k) → C k a x s → ◌≡◌ {A = (ℕ × ℕ) × List ℕ} ((x, (after k s).0), (after k s).1) (gives_list (listed (answer k a) (before k a).1) (before k a).0))
       → Crosses C before after
-  by-list {before} answer e =
+  by_list {before} answer e =
       crosses (λ k a. told_list (listed (answer k a) (before k a).1) (before k a).0) (λ k a x s p. beside (e k a x s p)) (λ k a. list_leaves (answer k a) (before k a))
 
   -- a month
-  pub by-month : {before : (k : K) → A k → MonthState} {after : (k : K) → S k → MonthState} (answer : (k : K) → A k → Answer Grid)
+  pub by_month : {before : (k : K) → A k → MonthState} {after : (k : K) → S k → MonthState} (answer : (k : K) → A k → Answer Grid)
       → ((k : K) (a : A k) (x : ℕ) (s : S k) → C k a x s
       → ◌≡◌ {A = (ℕ × MonthPlaces) × (List ℕ × List ℕ)} ((x, (after k s).0), (after k s).1) (gives_month (shown (answer k a) (before k a).1.0 (before k a).1.1) (before k a).0))
       → Crosses C before after
-  by-month {before} answer e =
+  by_month {before} answer e =
       crosses (λ k a. told_month (shown (answer k a) (before k a).1.0 (before k a).1.1) (before k a).0) (λ k a x s p. beside (e k a x s p)) (λ k a. month_leaves (answer k a) (before k a))
 
   -- a search for the starts of a tithi
-  pub by-starts : {before : (k : K) → A k → (ℕ × ℕ) × List Float} {after : (k : K) → S k → (ℕ × ℕ) × List Float} (n : (k : K) → A k → ℕ) (from to : (k : K) → A k → Float)
+  pub by_starts : {before : (k : K) → A k → (ℕ × ℕ) × List Float} {after : (k : K) → S k → (ℕ × ℕ) × List Float} (n : (k : K) → A k → ℕ) (from to : (k : K) → A k → Float)
       → ((k : K) (a : A k) (x : ℕ) (s : S k) → C k a x s → ((after k s).1 ≡ starts_buffer (n k a) (from k a) (to k a) (before k a).1)
       × ◌≡◌ {A = Told (ℕ × ℕ)} (x, (after k s).0) (gives (starts_answer (n k a) (from k a) (to k a) (length (before k a).1)) (λ x. x) (before k a).0))
       → Crosses C before after
-  by-starts {before} n from to e =
+  by_starts {before} n from to e =
       crosses
       (λ k a. let g = gives (starts_answer (n k a) (from k a) (to k a) (length (before k a).1)) (λ x. x) (before k a).0 in (g.0, (g.1, starts_buffer (n k a) (from k a) (to k a) (before k a).1)))
       (λ k a x s p. let q = e k a x s p in beside (both q.1 q.0))
@@ -273,21 +273,21 @@ module _ {K : Type 0} {A S : K → Type 0} {C : (k : K) → A k → ℕ → S k 
       → ◌≡◌ {A = Told (ℕ × ℕ) × List ℕ} ((x, (after k s).0), (after k s).1) (gives_read (read_into (text k a) (before k a).1) (before k a).0))
       → CrossesTelling 12 C before after
   by_read {before} text e =
-      by-telling line_in 12 no_line (λ k a. (read_into (text k a) (before k a).1).0) (λ n. n) (λ k a. (read_into (text k a) (before k a).1).1)
+      by_telling line_in 12 no_line (λ k a. (read_into (text k a) (before k a).1).0) (λ n. n) (λ k a. (read_into (text k a) (before k a).1).1)
       (λ k a j h. rule_files.read_left (text k a) (before k a).1 j h) e
 
   -- a day's list asked by Gregorian date
-  pub by-list-ad : {before : (k : K) → A k → (ℕ × (ℕ × ℕ)) × List ℕ} {after : (k : K) → S k → (ℕ × (ℕ × ℕ)) × List ℕ} (answer : (k : K) → A k → Answer (List Pair))
+  pub by_list_ad : {before : (k : K) → A k → (ℕ × (ℕ × ℕ)) × List ℕ} {after : (k : K) → S k → (ℕ × (ℕ × ℕ)) × List ℕ} (answer : (k : K) → A k → Answer (List Pair))
       → ((k : K) (a : A k) (x : ℕ) (s : S k) → C k a x s
       → ◌≡◌ {A = Told (ℕ × (ℕ × ℕ)) × List ℕ} ((x, (after k s).0), (after k s).1) (gives_list_ad (listed (answer k a) (before k a).1) (before k a).0))
       → CrossesTelling 7 C before after
-  by-list-ad {before} answer e =
-      by-telling days_in 7 no_days (λ k a. (listed (answer k a) (before k a).1).answer) (λ n. n) (λ k a. (listed (answer k a) (before k a).1).buffer)
+  by_list_ad {before} answer e =
+      by_telling days_in 7 no_days (λ k a. (listed (answer k a) (before k a).1).answer) (λ n. n) (λ k a. (listed (answer k a) (before k a).1).buffer)
       (λ k a j h. list_left (answer k a) (before k a).1 j h) e
 
   -- a date asked by Gregorian date, without a buffer
-  pub by-days : {P X : Type 0} {before : (k : K) → A k → P × (ℕ × ℕ)} {after : (k : K) → S k → P × (ℕ × ℕ)} (answer : (k : K) → A k → Answer X) (parts : X → P)
+  pub by_days : {P X : Type 0} {before : (k : K) → A k → P × (ℕ × ℕ)} {after : (k : K) → S k → P × (ℕ × ℕ)} (answer : (k : K) → A k → Answer X) (parts : X → P)
       → ((k : K) (a : A k) (x : ℕ) (s : S k) → C k a x s → ◌≡◌ {A = Told (P × (ℕ × ℕ))} (x, after k s) (gives_told days_in (answer k a) parts (before k a)))
       → CrossesTelling {B = Unit {0}} 7 C (λ k a. (before k a, tt)) (λ k s. (after k s, tt))
-  by-days answer parts e =
-      by-telling days_in 7 no_days answer parts (λ k a. tt) (λ k a j h. refl) (λ k a x s p. both (e k a x s p) refl)
+  by_days answer parts e =
+      by_telling days_in 7 no_days answer parts (λ k a. tt) (λ k a j h. refl) (λ k a x s p. both (e k a x s p) refl)

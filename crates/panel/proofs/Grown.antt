@@ -17,12 +17,12 @@ use Rattle.kept.specs.State.{State, calendar}
 use Rattle.kept.specs.Operations.{append_row}
 use Rattle.steady.specs.Composed.{Place, ref}
 use Rattle.steady.specs.Kept.{KeptSteady}
-use Rattle.steady.proofs.Kept.{kept-steady}
+use Rattle.steady.proofs.Kept.{kept_steady}
 use Rattle.shelf.specs.Numbers.{Made}
 use Rattle.panel.specs.Boundary.{gives, days_in, gives_told, numbers, bs_numbers, month_numbers}
 use Rattle.panel.specs.Lent.{MonthState, three, dated, listed, listed_ad, month, lend_three, lend_dated, lend_list, lend_list_ad, lend_month}
 use Rattle.panel.specs.Claims.{Grows}
-use Rattle.panel.proofs.Crossing.{Told, gives_code, told-code, told_list, told_list_ad, told_month}
+use Rattle.panel.proofs.Crossing.{Told, gives_code, told_code, told_list, told_list_ad, told_month}
 use Rattle.panel.proofs.Longer.{grows}
 use Rattle.panel.proofs.kept_lists.panel_kept_festivals_on.Reads as FestivalsOn
 use Rattle.panel.proofs.kept_lists.panel_kept_festivals_on_ad.Reads as FestivalsOnAd
@@ -38,7 +38,7 @@ but_array {P} {X} e = ap (λ (z : Told (P × (X × List ℕ))). (z.0, (z.1.0, z.
 module _ (σ : State) (some : σ.rows ≡ [] → ⊥) (row : List ℕ) (done : (append_row σ row).answer ≡ answered tt) (a b : List ℕ) (m : Made a σ) (n : Made b (append_row σ row).state)
     (p q : Place) (e f : ℕ → Place) where
   grown : KeptSteady σ (append_row σ row).state
-  grown = kept-steady σ m.good some row done
+  grown = kept_steady σ m.good some row done
 
   pub festivals_on : (y m d : ℕ) (old : ℕ × List ℕ) → Grows FestivalsOn.Learnt (λ k s. listed s.1.1.1.1)
       (λ k. (ref p a, (y, (m, (d, lend_list e old))))) (λ k. (ref q b, (y, (m, (d, lend_list f old))))) 4 (λ b. Added (calendar σ) y)
@@ -49,7 +49,7 @@ module _ (σ : State) (some : σ.rows ≡ [] → ⊥) (row : List ℕ) (done : (
   pub festivals_on_ad : (y m d : ℕ) (old : (ℕ × (ℕ × ℕ)) × List ℕ) → Grows FestivalsOnAd.Learnt (λ k s. listed_ad s.1.1.1.1)
       (λ k. (ref p a, (y, (m, (d, lend_list_ad e old))))) (λ k. (ref q b, (y, (m, (d, lend_list_ad f old))))) 7 (λ b. AddedDay (calendar σ) (calendar (append_row σ row).state) (day_number (date y m d)))
   festivals_on_ad y u d old =
-      grows {W = Listed} (λ w. w.answer) (λ w. told_list_ad w old.0) (λ w. told-code days_in (λ n. n) w.answer old.0) (outside_number _ _) _ (grown.list_ad y u d old.1) (λ z h. Iff.rfl)
+      grows {W = Listed} (λ w. w.answer) (λ w. told_list_ad w old.0) (λ w. told_code days_in (λ n. n) w.answer old.0) (outside_number _ _) _ (grown.list_ad y u d old.1) (λ z h. Iff.rfl)
       (λ k x s c. but_array (c.made σ m)) (λ k x s c. but_array (c.made (append_row σ row).state n))
 
   pub month_grid_law : (today : Date) (y m : ℕ) (old : MonthState) → Grows MonthGrid.Learnt (λ k s. month s.1.1.1.1.1.1)
@@ -69,5 +69,5 @@ module _ (σ : State) (some : σ.rows ≡ [] → ⊥) (row : List ℕ) (done : (
   pub ad_to_bs : (y m d : ℕ) (old : (ℕ × ℕ × ℕ) × (ℕ × ℕ)) → Grows AdToBs.Learnt (λ k s. dated s.1.1.1.1)
       (λ k. (ref p a, (y, (m, (d, lend_dated e old))))) (λ k. (ref q b, (y, (m, (d, lend_dated f old))))) 7 (λ b. Added (calendar σ) b.0.0)
   ad_to_bs y u d old =
-      grows (λ z. z) (λ z. gives_told days_in z bs_numbers old) (λ z. told-code days_in bs_numbers z old) (outside_number _ _) _ (grown.to_bs y u d) (λ z h. rw h Iff.rfl)
+      grows (λ z. z) (λ z. gives_told days_in z bs_numbers old) (λ z. told_code days_in bs_numbers z old) (outside_number _ _) _ (grown.to_bs y u d) (λ z h. rw h Iff.rfl)
       (λ k x s c. c.made σ m) (λ k x s c. c.made (append_row σ row).state n)

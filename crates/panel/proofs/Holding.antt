@@ -23,7 +23,7 @@ use Rattle.panel.specs.Lent as L
 use Rattle.panel.specs.Lent.{MonthState, three, dated, listed_ad, month, with_array}
 use Rattle.panel.specs.Keeping.{Keeping, written, start_in, kept_done, kept_years, kept_list, kept_list_ad, kept_month}
 use Rattle.panel.specs.Claims.{Crosses, CrossesTelling, Meant, OfMeant}
-use Rattle.panel.proofs.Crossing.{Told, crosses, other_refused, gives_code, gives_left, told-code, parts-kept, told-kept, no_days}
+use Rattle.panel.proofs.Crossing.{Told, crosses, other_refused, gives_code, gives_left, told_code, parts_kept, told_kept, no_days}
 use Rattle.panel.proofs.Handing.{both}
 use Rattle.panel.proofs.keeping.panel_kept_start.Reads as Start
 use Rattle.panel.proofs.keeping.panel_kept_take_rules.Reads as TakeRules
@@ -45,35 +45,35 @@ module _ {K : Type 0} {A S : K → Type 0} {B : Type 0} {C : (k : K) → A k →
   telling k a (inl h) = (number NoRoom, before k a)
   telling k a (inr u) = on k a u.0
 
-  is-told : (k : K) (a : A k) (m : Meant (array k a)) (x : ℕ) (s : S k) → C k a x s → ◌≡◌ {A = Told B} (x, after k s) (telling k a m)
-  is-told k a (inl h) x s c = (e k a x s c).short h
-  is-told k a (inr u) x s c = (e k a x s c).made u.0 u.1
+  is_told : (k : K) (a : A k) (m : Meant (array k a)) (x : ℕ) (s : S k) → C k a x s → ◌≡◌ {A = Told B} (x, after k s) (telling k a m)
+  is_told k a (inl h) x s c = (e k a x s c).short h
+  is_told k a (inr u) x s c = (e k a x s c).made u.0 u.1
 
-  kept-once : (k : K) (a : A k) (x y : ℕ) (s t : S k) → OfMeant C array k a x s → OfMeant C array k a y t → (x ≡ y) × (after k s ≡ after k t)
-  kept-once k a x y s t p q =
-      let d : ◌≡◌ {A = Told B} (x, after k s) (y, after k t) = is-told k a p.0 x s p.1 ∙ sym (is-told k a p.0 y t q.1) in
+  kept_once : (k : K) (a : A k) (x y : ℕ) (s t : S k) → OfMeant C array k a x s → OfMeant C array k a y t → (x ≡ y) × (after k s ≡ after k t)
+  kept_once k a x y s t p q =
+      let d : ◌≡◌ {A = Told B} (x, after k s) (y, after k t) = is_told k a p.0 x s p.1 ∙ sym (is_told k a p.0 y t q.1) in
       (ap (λ (z : Told B). z.0) d, ap (λ (z : Told B). z.1) d)
 
   -- what holds of all that is lent where the array is too short, and where it is told otherwise, holds of what a call leaves
   leaves : (P : ℕ → Type 0) (Q : B → B → Type 0) → ((b : B) → Q b b) → ((k : K) (a : A k) (σ : State) → P (on k a σ).0 → Q (on k a σ).1 (before k a))
       → (k : K) (a : A k) (x : ℕ) (s : S k) → OfMeant C array k a x s → P x → Q (after k s) (before k a)
-  leaves P Q r f k a x s (inl h, c) n = let d = is-told k a (inl h) x s c in rw (ap (λ (z : Told B). z.1) d) (r (before k a))
-  leaves P Q r f k a x s (inr u, c) n = let d = is-told k a (inr u) x s c in rw (ap (λ (z : Told B). z.1) d) (f k a u.0 (rw (ap (λ (z : Told B). z.0) d) at n))
+  leaves P Q r f k a x s (inl h, c) n = let d = is_told k a (inl h) x s c in rw (ap (λ (z : Told B). z.1) d) (r (before k a))
+  leaves P Q r f k a x s (inr u, c) n = let d = is_told k a (inr u) x s c in rw (ap (λ (z : Told B). z.1) d) (f k a u.0 (rw (ap (λ (z : Told B). z.0) d) at n))
 
   pub by_state : ((k : K) (a : A k) (σ : State) → ((on k a σ).0 ≡ 0 → ⊥) → (on k a σ).1 ≡ before k a) → Crosses (OfMeant C array) before after
-  by_state f = record { once = kept-once; left = leaves (λ x. x ≡ 0 → ⊥) (λ b c. b ≡ c) (λ b. refl) f }
+  by_state f = record { once = kept_once; left = leaves (λ x. x ≡ 0 → ⊥) (λ b c. b ≡ c) (λ b. refl) f }
 
 module _ {K : Type 0} {A S : K → Type 0} {P D B : Type 0} {C : (k : K) → A k → ℕ → S k → Type 0} {array : (k : K) → A k → List ℕ} {before : (k : K) → A k → (P × D) × B} {after : (k : K) → S k → (P × D) × B}
     (on : (k : K) → A k → State → Told ((P × D) × B)) (e : (k : K) (a : A k) (x : ℕ) (s : S k) → C k a x s → Keeping (array k a) x (before k a) (after k s) (on k a)) where
-  pub by-telling-state : (n : ℕ)
+  pub by_telling_state : (n : ℕ)
       → ((k : K) (a : A k) (σ : State) → ((on k a σ).0 ≡ 0 → ⊥) → ((on k a σ).1.0.0 ≡ (before k a).0.0) × ((on k a σ).1.1 ≡ (before k a).1))
       → ((k : K) (a : A k) (σ : State) → ((on k a σ).0 ≡ n → ⊥) → (on k a σ).1.0.1 ≡ (before k a).0.1)
       → CrossesTelling n (OfMeant C array) before after
-  by-telling-state n f g =
+  by_telling_state n f g =
       record {
-        once = kept-once on e;
+        once = kept_once on e;
         left = leaves on e (λ x. x ≡ 0 → ⊥) (λ b c. (b.0.0 ≡ c.0.0) × (b.1 ≡ c.1)) (λ b. (refl, refl)) f;
-        told-left = leaves on e (λ x. x ≡ n → ⊥) (λ b c. b.0.1 ≡ c.0.1) (λ b. refl) g;
+        told_left = leaves on e (λ x. x ≡ n → ⊥) (λ b c. b.0.1 ≡ c.0.1) (λ b. refl) g;
       }
 
 -- places alone, beside no buffer
@@ -119,15 +119,15 @@ unfolding ask_ad
 ad_left σ y m d out k e = row_left σ.rows _ out k e
 
 module _ (a : List ℕ) (w : Reply) (out : List ℕ) (u : Untouched w out) where
-  list-kept : (old : ℕ) → ((kept_list a w old).0 ≡ 0 → ⊥) → (kept_list a w old).1 ≡ (old, (out, a))
-  list-kept old h =
+  list_kept : (old : ℕ) → ((kept_list a w old).0 ≡ 0 → ⊥) → (kept_list a w old).1 ≡ (old, (out, a))
+  list_kept old h =
       let r = other_refused w.listed.answer (λ z. h (gives_code w.listed.answer (λ n. n) old ∙ z)) in
       both (gives_left w.listed.answer (λ n. n) old h) (both (u r.0 r.1) (written_left a w.state w.listed.answer r.0 r.1))
 
-  list-ad-kept : (old : ℕ × (ℕ × ℕ)) → ((kept_list_ad a w old).0 ≡ 0 → ⊥) → ((kept_list_ad a w old).1.0.0 ≡ old.0) × ((kept_list_ad a w old).1.1 ≡ (out, a))
-  list-ad-kept old h =
-      let r = other_refused w.listed.answer (λ z. h (told-code days_in (λ n. n) w.listed.answer old ∙ z)) in
-      (parts-kept days_in (λ n. n) w.listed.answer old h, both (u r.0 r.1) (written_left a w.state w.listed.answer r.0 r.1))
+  list_ad_kept : (old : ℕ × (ℕ × ℕ)) → ((kept_list_ad a w old).0 ≡ 0 → ⊥) → ((kept_list_ad a w old).1.0.0 ≡ old.0) × ((kept_list_ad a w old).1.1 ≡ (out, a))
+  list_ad_kept old h =
+      let r = other_refused w.listed.answer (λ z. h (told_code days_in (λ n. n) w.listed.answer old ∙ z)) in
+      (parts_kept days_in (λ n. n) w.listed.answer old h, both (u r.0 r.1) (written_left a w.state w.listed.answer r.0 r.1))
 
 page_kept : (a : List ℕ) (σ : State) (today : Date) (y m : ℕ) (old : MonthState) → let w = ask_month σ today y m old.1.0 old.1.1 in
     ((kept_month a w old.0).0 ≡ 0 → ⊥) → (kept_month a w old.0).1 ≡ with_array old a
@@ -160,13 +160,13 @@ stored = by_state (λ k a σ. kept_years (year_numbers σ.stored)) (λ k a x s p
 pub festivals_on : Crosses (OfMeant FestivalsOn.Learnt (λ k a. a.0.now)) (λ k a. with_array (L.listed a.1.1.1.1) a.0.now) (λ k s. with_array (L.listed s.1.1.1.1) s.0.now)
 festivals_on =
     by_state (λ k a σ. let b = L.listed a.1.1.1.1 in kept_list a.0.now (ask_bs σ a.1.0 a.1.1.0 a.1.1.1.0 b.1) b.0) (λ k a x s p. p)
-    (λ k a σ. let b = L.listed a.1.1.1.1 in list-kept a.0.now (ask_bs σ a.1.0 a.1.1.0 a.1.1.1.0 b.1) b.1 (bs_left σ a.1.0 a.1.1.0 a.1.1.1.0 b.1) b.0)
+    (λ k a σ. let b = L.listed a.1.1.1.1 in list_kept a.0.now (ask_bs σ a.1.0 a.1.1.0 a.1.1.1.0 b.1) b.1 (bs_left σ a.1.0 a.1.1.0 a.1.1.1.0 b.1) b.0)
 
 pub festivals_on_ad : CrossesTelling 7 (OfMeant FestivalsOnAd.Learnt (λ k a. a.0.now)) (λ k a. with_array (listed_ad a.1.1.1.1) a.0.now) (λ k s. with_array (listed_ad s.1.1.1.1) s.0.now)
 festivals_on_ad =
-    by-telling-state (λ k a σ. let b = listed_ad a.1.1.1.1 in kept_list_ad a.0.now (ask_ad σ a.1.0 a.1.1.0 a.1.1.1.0 b.1) b.0) (λ k a x s p. p) 7
-    (λ k a σ. let b = listed_ad a.1.1.1.1 in list-ad-kept a.0.now (ask_ad σ a.1.0 a.1.1.0 a.1.1.1.0 b.1) b.1 (ad_left σ a.1.0 a.1.1.0 a.1.1.1.0 b.1) b.0)
-    (λ k a σ. let b = listed_ad a.1.1.1.1 in told-kept days_in (λ n. n) 7 no_days (ask_ad σ a.1.0 a.1.1.0 a.1.1.1.0 b.1).listed.answer b.0)
+    by_telling_state (λ k a σ. let b = listed_ad a.1.1.1.1 in kept_list_ad a.0.now (ask_ad σ a.1.0 a.1.1.0 a.1.1.1.0 b.1) b.0) (λ k a x s p. p) 7
+    (λ k a σ. let b = listed_ad a.1.1.1.1 in list_ad_kept a.0.now (ask_ad σ a.1.0 a.1.1.0 a.1.1.1.0 b.1) b.1 (ad_left σ a.1.0 a.1.1.0 a.1.1.1.0 b.1) b.0)
+    (λ k a σ. let b = listed_ad a.1.1.1.1 in told_kept days_in (λ n. n) 7 no_days (ask_ad σ a.1.0 a.1.1.0 a.1.1.1.0 b.1).listed.answer b.0)
 
 pub month_grid_law : Crosses (OfMeant MonthGrid.Learnt (λ k a. a.0.now)) (λ k a. with_array (month a.1.1.1.1.1.1) a.0.now) (λ k s. with_array (month s.1.1.1.1.1.1) s.0.now)
 month_grid_law =
@@ -182,6 +182,6 @@ bs_to_ad =
 
 pub ad_to_bs : CrossesTelling {B = Unit {0}} 7 (OfMeant AdToBs.Learnt (λ k a. a.0.now)) (λ k a. (dated a.1.1.1.1, tt)) (λ k s. (dated s.1.1.1.1, tt))
 ad_to_bs =
-    by-telling-state (λ k a σ. let g = gives_told days_in (ask_from_ad σ a.1.0 a.1.1.0 a.1.1.1.0) bs_numbers (dated a.1.1.1.1) in (g.0, (g.1, tt))) (λ k a x s p. alone p) 7
-    (λ k a σ h. (parts-kept days_in bs_numbers (ask_from_ad σ a.1.0 a.1.1.0 a.1.1.1.0) (dated a.1.1.1.1) h, refl))
-    (λ k a σ. told-kept days_in bs_numbers 7 no_days (ask_from_ad σ a.1.0 a.1.1.0 a.1.1.1.0) (dated a.1.1.1.1))
+    by_telling_state (λ k a σ. let g = gives_told days_in (ask_from_ad σ a.1.0 a.1.1.0 a.1.1.1.0) bs_numbers (dated a.1.1.1.1) in (g.0, (g.1, tt))) (λ k a x s p. alone p) 7
+    (λ k a σ h. (parts_kept days_in bs_numbers (ask_from_ad σ a.1.0 a.1.1.0 a.1.1.1.0) (dated a.1.1.1.1) h, refl))
+    (λ k a σ. told_kept days_in bs_numbers 7 no_days (ask_from_ad σ a.1.0 a.1.1.0 a.1.1.1.0) (dated a.1.1.1.1))

@@ -27,7 +27,7 @@ use Rattle.steady.proofs.Composed.{any}
 use Rattle.panel.specs.Boundary.{code, gives, days_in, gives_told, numbers, bs_numbers, month_of, month_numbers}
 use Rattle.panel.specs.Lent.{MonthState, one, two, three, dated, listed, listed_ad, month, lend_table, lend_one, lend_two, lend_three, lend_dated, lend_list, lend_list_ad, lend_month}
 use Rattle.panel.specs.Claims.{NumberIf, Grows}
-use Rattle.panel.proofs.Crossing.{Told, zero_answered, other_refused, gives_code, told-code, told_list, told_list_ad, told_month, beside}
+use Rattle.panel.proofs.Crossing.{Told, zero_answered, other_refused, gives_code, told_code, told_list, told_list_ad, told_month, beside}
 use Rattle.panel.proofs.Handing.{both}
 use Rattle.panel.proofs.conversions.panel_bs_month_len.Reads as BsMonthLen
 use Rattle.panel.proofs.conversions.panel_validate_bs_date.Reads as ValidateBsDate
@@ -91,7 +91,7 @@ module _ (t : Table) (rows more : List ℕ) (good : accepted t rows ≡ true) (l
   pub bs_month_len : (y m : ℕ) (old : ℕ) → Grows BsMonthLen.Learnt (λ k s. one s.1.1.1.1.1.1.1)
       (λ k. lend_table t p rows (y, (m, lend_one e old))) (λ k. lend_table t q (rows ++ more) (y, (m, lend_one f old))) 4 (λ b. Added (flat t rows) y)
   bs_month_len y m old =
-      grows (λ z. z) (λ z. gives z (λ x. x) old) (λ z. gives_code z (λ x. x) old) refl _ (plain.month-len y m) (λ z h. Iff.rfl) (λ k x s c. c) (λ k x s c. c)
+      grows (λ z. z) (λ z. gives z (λ x. x) old) (λ z. gives_code z (λ x. x) old) refl _ (plain.month_len_law y m) (λ z h. Iff.rfl) (λ k x s c. c) (λ k x s c. c)
 
   pub validate_bs_date : (y m d : ℕ) → Grows {B = Unit} ValidateBsDate.Learnt (λ k s. tt)
       (λ k. lend_table t p rows (y, (m, (d, tt)))) (λ k. lend_table t q (rows ++ more) (y, (m, (d, tt)))) 4 (λ b. Added (flat t rows) y)
@@ -107,7 +107,7 @@ module _ (t : Table) (rows more : List ℕ) (good : accepted t rows ≡ true) (l
   pub ad_to_bs : (y m d : ℕ) (old : (ℕ × ℕ × ℕ) × (ℕ × ℕ)) → Grows AdToBs.Learnt (λ k s. dated s.1.1.1.1.1.1.1.1)
       (λ k. lend_table t p rows (y, (m, (d, lend_dated e old)))) (λ k. lend_table t q (rows ++ more) (y, (m, (d, lend_dated f old)))) 7 (λ b. Added (flat t rows) b.0.0)
   ad_to_bs y m d old =
-      grows (λ z. z) (λ z. gives_told days_in z bs_numbers old) (λ z. told-code days_in bs_numbers z old) (outside_number _ _) _ (plain.to_bs y m d) (λ z h. rw h Iff.rfl) (λ k x s c. c) (λ k x s c. c)
+      grows (λ z. z) (λ z. gives_told days_in z bs_numbers old) (λ z. told_code days_in bs_numbers z old) (outside_number _ _) _ (plain.to_bs y m d) (λ z h. rw h Iff.rfl) (λ k x s c. c) (λ k x s c. c)
 
   -- the year is the first place
   pub step_month_law : (y m : ℕ) (i : ℤ) (old : ℕ × ℕ) → Grows StepMonth.Learnt (λ k s. two s.1.1.1.1.1.1.1.1)
@@ -127,7 +127,7 @@ module _ (t : Table) (rows more : List ℕ) (good : accepted t rows ≡ true) (l
         (λ k. lend_table t p rows (ref a rules, (y, (m, (d, lend_list_ad e old))))) (λ k. lend_table t q (rows ++ more) (ref b rules, (y, (m, (d, lend_list_ad f old))))) 7
         (λ b. AddedDay (flat t rows) (flat t (rows ++ more)) (day_number (date y m d)))
     festivals_on_ad y m d old =
-        grows {W = Listed} (λ w. w.answer) (λ w. told_list_ad w old.0) (λ w. told-code days_in (λ n. n) w.answer old.0) (outside_number _ _) _ ((steady t rows more rules any good longer).list_ad y m d old.1) (λ z h. Iff.rfl)
+        grows {W = Listed} (λ w. w.answer) (λ w. told_list_ad w old.0) (λ w. told_code days_in (λ n. n) w.answer old.0) (outside_number _ _) _ ((steady t rows more rules any good longer).list_ad y m d old.1) (λ z h. Iff.rfl)
         (λ k x s c. beside c) (λ k x s c. beside c)
 
     pub is_holiday : (y m d : ℕ) (old : ℕ) → Grows IsHoliday.Learnt (λ k s. one s.1.1.1.1.1.1.1.1.1)

@@ -24,7 +24,7 @@ use Rattle.steady.specs.Once.{OneAnswer}
 use Rattle.panel.specs.Boundary.{numbers, bs_numbers, readings, month_of, lent, kala_by}
 use Rattle.panel.specs.Lent.{one, two, three, four, span, walked, dated, listed, listed_ad, month}
 use Rattle.panel.specs.Claims.{Crosses, CrossesTelling}
-use Rattle.panel.proofs.Crossing.{by-gives, by_value, by-some, by-starts, by-list, by-list-ad, by-days, by-month, by_written, by_read}
+use Rattle.panel.proofs.Crossing.{by_gives, by_value, by_some, by_starts, by_list, by_list_ad, by_days, by_month, by_written, by_read}
 use Rattle.panel.proofs.dates.panel_date_new.Reads as DateNew
 use Rattle.panel.proofs.dates.panel_date_day_number.Reads as DayNumber
 use Rattle.panel.proofs.dates.panel_date_weekday.Reads as Weekday
@@ -78,25 +78,25 @@ table_in a = lent a.0 a.1.0 a.1.1.0 a.1.1.1.0 a.1.1.1.1.0.now
 -- ---- dates
 
 pub date_new : Crosses DateNew.Learnt (λ k a. three a.1.1.1) (λ k s. three s.1.1.1)
-date_new = by-gives (λ k a. new_date a.0 a.1.0 a.1.1.0) numbers (λ k a x s p. p)
+date_new = by_gives (λ k a. new_date a.0 a.1.0 a.1.1.0) numbers (λ k a x s p. p)
 
 pub day_number_law : Crosses DayNumber.Learnt (λ k a. one a.1.1.1) (λ k s. one s.1.1.1)
-day_number_law = by-gives (λ k a. number_answer (date_in a)) (λ x. x) (λ k a x s p. p)
+day_number_law = by_gives (λ k a. number_answer (date_in a)) (λ x. x) (λ k a x s p. p)
 
 pub weekday : Crosses Weekday.Learnt (λ k a. one a.1.1.1) (λ k s. one s.1.1.1)
-weekday = by-gives (λ k a. weekday_answer (date_in a)) (λ x. x) (λ k a x s p. p)
+weekday = by_gives (λ k a. weekday_answer (date_in a)) (λ x. x) (λ k a x s p. p)
 
 pub date_next : Crosses DateNext.Learnt (λ k a. three a.1.1.1) (λ k s. three s.1.1.1)
-date_next = by-gives (λ k a. next_answer (date_in a)) numbers (λ k a x s p. p)
+date_next = by_gives (λ k a. next_answer (date_in a)) numbers (λ k a x s p. p)
 
 pub from_day_number : Crosses FromDayNumber.Learnt (λ k a. three a.1) (λ k s. three s.1)
-from_day_number = by-gives (λ k a. date_answer a.0) numbers (λ k a x s p. p)
+from_day_number = by_gives (λ k a. date_answer a.0) numbers (λ k a x s p. p)
 
 pub julian_day : Crosses JulianDay.Learnt (λ k a. one a.1.1.1.1) (λ k s. one s.1.1.1.1)
-julian_day = by-gives (λ k a. julian_answer (date_in a) a.1.1.1.0) (λ x. x) (λ k a x s p. p)
+julian_day = by_gives (λ k a. julian_answer (date_in a) a.1.1.1.0) (λ x. x) (λ k a x s p. p)
 
 pub npt_date : Crosses NptDate.Learnt (λ k a. three a.1) (λ k s. three s.1)
-npt_date = by-gives (λ k a. npt_answer a.0) numbers (λ k a x s p. p)
+npt_date = by_gives (λ k a. npt_answer a.0) numbers (λ k a x s p. p)
 
 -- ---- conversions
 
@@ -104,16 +104,16 @@ pub check_table : OneAnswer CheckTable.Learnt
 check_table k a x y s t p q = p ∙ sym q
 
 pub bs_month_len : Crosses BsMonthLen.Learnt (λ k a. one a.1.1.1.1.1.1.1) (λ k s. one s.1.1.1.1.1.1.1)
-bs_month_len = by-gives (λ k a. month_len (table_in a) a.1.1.1.1.1.0 a.1.1.1.1.1.1.0) (λ x. x) (λ k a x s p. p)
+bs_month_len = by_gives (λ k a. month_len (table_in a) a.1.1.1.1.1.0 a.1.1.1.1.1.1.0) (λ x. x) (λ k a x s p. p)
 
 pub validate_bs_date : OneAnswer ValidateBsDate.Learnt
 validate_bs_date k a x y s t p q = p ∙ sym q
 
 pub bs_to_ad : Crosses BsToAd.Learnt (λ k a. three a.1.1.1.1.1.1.1.1) (λ k s. three s.1.1.1.1.1.1.1.1)
-bs_to_ad = by-gives (λ k a. let x = a.1.1.1.1.1 in to_ad (table_in a) x.0 x.1.0 x.1.1.0) numbers (λ k a x s p. p)
+bs_to_ad = by_gives (λ k a. let x = a.1.1.1.1.1 in to_ad (table_in a) x.0 x.1.0 x.1.1.0) numbers (λ k a x s p. p)
 
 pub ad_to_bs : CrossesTelling {B = Unit {0}} 7 AdToBs.Learnt (λ k a. (dated a.1.1.1.1.1.1.1.1, tt)) (λ k s. (dated s.1.1.1.1.1.1.1.1, tt))
-ad_to_bs = by-days (λ k a. let x = a.1.1.1.1.1 in from_ad (table_in a) x.0 x.1.0 x.1.1.0) bs_numbers (λ k a x s p. p)
+ad_to_bs = by_days (λ k a. let x = a.1.1.1.1.1 in from_ad (table_in a) x.0 x.1.0 x.1.1.0) bs_numbers (λ k a x s p. p)
 
 -- ---- trigonometry
 
@@ -138,54 +138,54 @@ pub delta_t_law : Crosses DeltaT.Learnt (λ k a. one a.1) (λ k s. one s.1)
 delta_t_law = by_value _ (λ k a x s p. p)
 
 pub tt_from_ut : Crosses TtFromUt.Learnt (λ k a. one a.1) (λ k s. one s.1)
-tt_from_ut = by-gives (λ k a. tt_answer a.0) (λ x. x) (λ k a x s p. p)
+tt_from_ut = by_gives (λ k a. tt_answer a.0) (λ x. x) (λ k a x s p. p)
 
 pub sun_longitude_law : Crosses SunLongitude.Learnt (λ k a. one a.1) (λ k s. one s.1)
-sun_longitude_law = by-gives (λ k a. sun_answer a.0) (λ x. x) (λ k a x s p. p)
+sun_longitude_law = by_gives (λ k a. sun_answer a.0) (λ x. x) (λ k a x s p. p)
 
 pub moon_longitude_law : Crosses MoonLongitude.Learnt (λ k a. one a.1) (λ k s. one s.1)
-moon_longitude_law = by-gives (λ k a. moon_answer a.0) (λ x. x) (λ k a x s p. p)
+moon_longitude_law = by_gives (λ k a. moon_answer a.0) (λ x. x) (λ k a x s p. p)
 
 pub elongation : Crosses Elongation.Learnt (λ k a. one a.1) (λ k s. one s.1)
-elongation = by-gives (λ k a. elongation_answer a.0) (λ x. x) (λ k a x s p. p)
+elongation = by_gives (λ k a. elongation_answer a.0) (λ x. x) (λ k a x s p. p)
 
 pub tithi_of_law : Crosses TithiOf.Learnt (λ k a. one a.1) (λ k s. one s.1)
 tithi_of_law = by_value _ (λ k a x s p. p)
 
 pub tithi_at : Crosses TithiAt.Learnt (λ k a. one a.1) (λ k s. one s.1)
-tithi_at = by-gives (λ k a. tithi_answer a.0) (λ x. x) (λ k a x s p. p)
+tithi_at = by_gives (λ k a. tithi_answer a.0) (λ x. x) (λ k a x s p. p)
 
 pub tithi_starts_between : Crosses TithiStarts.Learnt (λ k a. walked a.1.1.1) (λ k s. walked s.1.1.1)
-tithi_starts_between = by-starts (λ k a. a.0) (λ k a. a.1.0) (λ k a. a.1.1.0) (λ k a x s p. p)
+tithi_starts_between = by_starts (λ k a. a.0) (λ k a. a.1.0) (λ k a. a.1.1.0) (λ k a x s p. p)
 
 pub tithi_end : Crosses TithiEnd.Learnt (λ k a. two a.1) (λ k s. two s.1)
-tithi_end = by-some (λ k a. end_answer a.0) (λ x. x) (λ k a x s p. p)
+tithi_end = by_some (λ k a. end_answer a.0) (λ x. x) (λ k a x s p. p)
 
 -- ---- almanac
 
 pub sun_events_law : Crosses SunEvents.Learnt (λ k a. span a.1.1.1) (λ k s. span s.1.1.1)
-sun_events_law = by-some (λ k a. events_answer (date_in a)) (λ x. x) (λ k a x s p. p)
+sun_events_law = by_some (λ k a. events_answer (date_in a)) (λ x. x) (λ k a x s p. p)
 
 pub sunrise : Crosses Sunrise.Learnt (λ k a. two a.1.1.1) (λ k s. two s.1.1.1)
-sunrise = by-some (λ k a. rise_answer (date_in a)) (λ x. x) (λ k a x s p. p)
+sunrise = by_some (λ k a. rise_answer (date_in a)) (λ x. x) (λ k a x s p. p)
 
 pub sunset : Crosses Sunset.Learnt (λ k a. two a.1.1.1) (λ k s. two s.1.1.1)
-sunset = by-some (λ k a. set_answer (date_in a)) (λ x. x) (λ k a x s p. p)
+sunset = by_some (λ k a. set_answer (date_in a)) (λ x. x) (λ k a x s p. p)
 
 pub nishita_window : Crosses NishitaWindow.Learnt (λ k a. span a.1.1.1) (λ k s. span s.1.1.1)
-nishita_window = by-some (λ k a. nishita_answer (date_in a)) (λ x. x) (λ k a x s p. p)
+nishita_window = by_some (λ k a. nishita_answer (date_in a)) (λ x. x) (λ k a x s p. p)
 
 pub kala_instant : Crosses KalaInstant.Learnt (λ k a. two a.1.1.1.1) (λ k s. two s.1.1.1.1)
-kala_instant = by-some (λ k a. kala_by a.1.1.1.0 (date_in a)) (λ x. x) (λ k a x s p. p)
+kala_instant = by_some (λ k a. kala_by a.1.1.1.0 (date_in a)) (λ x. x) (λ k a x s p. p)
 
 pub npt_clock : Crosses NptClock.Learnt (λ k a. one a.1) (λ k s. one s.1)
-npt_clock = by-gives (λ k a. clock_answer a.0) (λ x. x) (λ k a x s p. p)
+npt_clock = by_gives (λ k a. clock_answer a.0) (λ x. x) (λ k a x s p. p)
 
 pub minutes_of_law : Crosses MinutesOf.Learnt (λ k a. one a.1) (λ k s. one s.1)
 minutes_of_law = by_value _ (λ k a x s p. p)
 
 pub reading : Crosses Reading.Learnt (λ k a. four a.1.1.1) (λ k s. four s.1.1.1)
-reading = by-gives (λ k a. reading_answer (date_in a)) readings (λ k a x s p. p)
+reading = by_gives (λ k a. reading_answer (date_in a)) readings (λ k a x s p. p)
 
 -- ---- day lists
 
@@ -193,15 +193,15 @@ pub check_rules : OneAnswer CheckRules.Learnt
 check_rules k a x y s t p q = p ∙ sym q
 
 pub festivals_on : Crosses FestivalsOn.Learnt (λ k a. listed a.1.1.1.1.1.1.1.1.1) (λ k s. listed s.1.1.1.1.1.1.1.1.1)
-festivals_on = by-list (λ k a. let rules = a.1.1.1.1.1.0.now in let x = a.1.1.1.1.1.1 in listOnBs kathmandu (table_in a) (rules_of rules) (accepted_rules rules) x.0 x.1.0 x.1.1.0) (λ k a x s p. p)
+festivals_on = by_list (λ k a. let rules = a.1.1.1.1.1.0.now in let x = a.1.1.1.1.1.1 in listOnBs kathmandu (table_in a) (rules_of rules) (accepted_rules rules) x.0 x.1.0 x.1.1.0) (λ k a x s p. p)
 
 pub festivals_on_ad : CrossesTelling 7 FestivalsOnAd.Learnt (λ k a. listed_ad a.1.1.1.1.1.1.1.1.1) (λ k s. listed_ad s.1.1.1.1.1.1.1.1.1)
-festivals_on_ad = by-list-ad (λ k a. let rules = a.1.1.1.1.1.0.now in let x = a.1.1.1.1.1.1 in listOnAd kathmandu (table_in a) (rules_of rules) (accepted_rules rules) x.0 x.1.0 x.1.1.0) (λ k a x s p. p)
+festivals_on_ad = by_list_ad (λ k a. let rules = a.1.1.1.1.1.0.now in let x = a.1.1.1.1.1.1 in listOnAd kathmandu (table_in a) (rules_of rules) (accepted_rules rules) x.0 x.1.0 x.1.1.0) (λ k a x s p. p)
 
 -- ---- holidays
 
 pub is_holiday : Crosses IsHoliday.Learnt (λ k a. one a.1.1.1.1.1.1.1.1.1) (λ k s. one s.1.1.1.1.1.1.1.1.1)
-is_holiday = by-gives (λ k a. let x = a.1.1.1.1.1.1 in holiday_under (table_in a) a.1.1.1.1.1.0.now x.0 x.1.0 x.1.1.0) Cells.one (λ k a x s p. p)
+is_holiday = by_gives (λ k a. let x = a.1.1.1.1.1.1 in holiday_under (table_in a) a.1.1.1.1.1.0.now x.0 x.1.0 x.1.1.0) Cells.one (λ k a x s p. p)
 
 -- ---- rule files
 
@@ -214,7 +214,7 @@ write_rules = by_written (λ k a. a.0.now) (λ k a x s p. p)
 -- ---- months
 
 pub step_month_law : Crosses StepMonth.Learnt (λ k a. two a.1.1.1.1.1.1.1.1) (λ k s. two s.1.1.1.1.1.1.1.1)
-step_month_law = by-gives (λ k a. let x = a.1.1.1.1.1 in step_month (table_in a) x.0 x.1.0 x.1.1.0) month_of (λ k a x s p. p)
+step_month_law = by_gives (λ k a. let x = a.1.1.1.1.1 in step_month (table_in a) x.0 x.1.0 x.1.1.0) month_of (λ k a x s p. p)
 
 pub month_grid_law : Crosses MonthGrid.Learnt (λ k a. month a.1.1.1.1.1.1.1.1.1.1.1) (λ k s. month s.1.1.1.1.1.1.1.1.1.1.1)
-month_grid_law = by-month (λ k a. let x = a.1.1.1.1.1.1 in let y = x.1.1.1 in month_under (table_in a) a.1.1.1.1.1.0.now (date_in x) y.0 y.1.0 (length y.1.1.0.now) (length y.1.1.1.0.now)) (λ k a x s p. p)
+month_grid_law = by_month (λ k a. let x = a.1.1.1.1.1.1 in let y = x.1.1.1 in month_under (table_in a) a.1.1.1.1.1.0.now (date_in x) y.0 y.1.0 (length y.1.1.0.now) (length y.1.1.1.0.now)) (λ k a x s p. p)

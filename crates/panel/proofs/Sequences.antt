@@ -22,7 +22,7 @@ use Rattle.panel.specs.Boundary.{gives, table}
 use Rattle.panel.specs.Lent.{month}
 use Rattle.panel.specs.Keeping.{written, start_in}
 use Rattle.panel.specs.Claims.{Carries, Calls, none, call}
-use Rattle.shelf.proofs.Made.{laid-made}
+use Rattle.shelf.proofs.Made.{laid_made}
 use Rattle.panel.proofs.Crossing.{Told, zero_answered, gives_code}
 use Rattle.panel.proofs.keeping.panel_kept_start.Reads as Start
 use Rattle.panel.proofs.keeping.panel_kept_take_rules.Reads as TakeRules
@@ -46,7 +46,7 @@ made_by_start t a after e =
     let z = zero_answered (start_in t a) (sym (ap (λ (x : Told (List ℕ)). x.0) e ∙ gives_code (start_in t a) (laid a) a)) in
     let s = started_by (start t) a z.0 z.1 in
     let l : after ≡ laid a z.0 = ap (λ (x : Told (List ℕ)). x.1) e ∙ ap (λ (x : Answer State). (gives x (laid a) a).1) z.1 in
-    (z.0, (s.0, subst⁻¹ (λ (x : List ℕ). Made x z.0) l (laid-made a z.0 (good_start t z.0 s.0) (leb-true 4488 (length a) s.1))))
+    (z.0, (s.0, subst⁻¹ (λ (x : List ℕ). Made x z.0) l (laid_made a z.0 (good_start t z.0 s.0) (leb-true 4488 (length a) s.1))))
 
 pub started : (k : _) (a : _) (s : _) → Start.Learnt k a 0 s → (σ : State) × ((start (table a.0 a.1.0 a.1.1.0 a.1.1.1.0) ≡ answered σ) × Made s.1.1.1.1.0.now σ)
 started k a s p = made_by_start _ _ _ p
@@ -59,7 +59,7 @@ good_next σ g o = good_run σ g (o ∷ [])
 
 -- an array after an answer, which has its state, or after a refusal, which leaves the state
 carried : {A : Type 0} {a after : List ℕ} {σ τ : State} {x : Answer A} → Made a σ → Good τ → Leaves σ x τ → after ≡ written a τ x → Made after τ
-carried {a = a} {τ = τ} {x = answered v} m g f e = rw e (laid-made a τ g m.room)
+carried {a = a} {τ = τ} {x = answered v} m g f e = rw e (laid_made a τ g m.room)
 carried {a = a} {τ = τ} {x = refused k} m g f e = rw (e, f k refl) m
 
 pub take_rules_law : Carries TakeRules.Learnt (λ k a. a.0.now) (λ k s. s.0.now) (λ k a. take a.1.0.now)
@@ -74,7 +74,7 @@ append_row_law k a x s p σ m =
 
 pub forgets : Carries Forget.Learnt (λ k a. a.0.now) (λ k s. s.0.now) (λ k a. forget)
 unfolding next
-forgets k a x s p σ m = rw (ap (λ (z : Told (List ℕ)). z.1) (p.made σ m)) (laid-made a.0.now (next σ forget) (good_next σ m.good forget) m.room)
+forgets k a x s p σ m = rw (ap (λ (z : Told (List ℕ)). z.1) (p.made σ m)) (laid_made a.0.now (next σ forget) (good_next σ m.good forget) m.room)
 
 pub festivals_on : Carries FestivalsOn.Learnt (λ k a. a.0.now) (λ k s. s.0.now) (λ k a. asked_bs a.1.0 a.1.1.0 a.1.1.1.0 a.1.1.1.1.0.now)
 unfolding next

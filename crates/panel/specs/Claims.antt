@@ -23,7 +23,7 @@ module _ {K : Type 0} {A S : K → Type 0} {P D B : Type 0} (n : ℕ) (C : (k : 
     pub left : (k : K) (a : A k) (x : ℕ) (s : S k) → C k a x s → (x ≡ 0 → ⊥)
         → ((after k s).0.0 ≡ (before k a).0.0) × ((after k s).1 ≡ (before k a).1)
     -- a number other than n leaves the place of what is told
-    pub told-left : (k : K) (a : A k) (x : ℕ) (s : S k) → C k a x s → (x ≡ n → ⊥) → (after k s).0.1 ≡ (before k a).0.1
+    pub told_left : (k : K) (a : A k) (x : ℕ) (s : S k) → C k a x s → (x ≡ n → ⊥) → (after k s).0.1 ≡ (before k a).0.1
 
 -- the number x is n where P holds, and 0 where it does not
 pub record NumberIf (x n : ℕ) (P : Type 0) : Type 0 where

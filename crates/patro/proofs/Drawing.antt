@@ -14,7 +14,7 @@ use Rattle.paper.specs.declared.Refusal.TheVariants as R
 use Rattle.paper.specs.Answers.{Answer, answered, refused}
 use Rattle.paper.proofs.Answers.{answered_same, refused_answered}
 use Rattle.paper.proofs.Tests.{split}
-use Rattle.paper.proofs.Stores.{sets-front}
+use Rattle.paper.proofs.Stores.{sets_front}
 use Rattle.text.specs.Written.{Wrote}
 use Rattle.text.proofs.Writes.{wrote_front}
 use Rattle.patro.specs.declared.pages.Laid.{Laid}
@@ -52,7 +52,7 @@ module _ (text out : List ℕ) where
   pub fits : {after : List ℕ} {n : ℕ} → length text ≤ 262143 → length text ≤ length out → Wrote out 0 text after n → Lays (laid (answered text) out) after (L.Bytes n)
   unfolding laid
   fits h k w =
-      rw (le-leb (length text) 262143 h, le-leb (length text) (length out) k) (record { says = ap answered (wrote_front w k).0; stored = w.stored ∙ sets-front text out k })
+      rw (le-leb (length text) 262143 h, le-leb (length text) (length out) k) (record { says = ap answered (wrote_front w k).0; stored = w.stored ∙ sets_front text out k })
 
 -- a page that is cut off where its own buffer of 262,144 bytes ends is too long, as the whole is
 cut_laid : (text l page : List ℕ) (n : ℕ) (out : List ℕ) → length l ≡ 262144 → Wrote l 0 text page n → laid (answered (take n page)) out ≡ laid (answered text) out
@@ -69,11 +69,11 @@ cut_laid text l page n out e w =
 
 -- what is drawn is laid
 module _ (a : Answer (List ℕ)) (l : List ℕ) (e : length l ≡ 262144) {page : List ℕ} {r : Laid} (w : Draws a l 0 page r) where
-  pub bytes-few : {n : ℕ} → r ≡ L.Bytes n → n ≤ 262144
-  bytes-few q = let p = (w.page _ q).1.1.end in omega arith
+  pub bytes_few : {n : ℕ} → r ≡ L.Bytes n → n ≤ 262144
+  bytes_few q = let p = (w.page _ q).1.1.end in omega arith
 
-  pub lays-drawn : (out : List ℕ) {n : ℕ} → r ≡ L.Bytes n → laid (answered (take n page)) out ≡ laid a out
-  lays-drawn out {n} q = let p = w.page _ q in cut_laid p.0 l page n out e p.1.1 ∙ ap (λ (z : Answer (List ℕ)). laid z out) (sym p.1.0)
+  pub lays_drawn : (out : List ℕ) {n : ℕ} → r ≡ L.Bytes n → laid (answered (take n page)) out ≡ laid a out
+  lays_drawn out {n} q = let p = w.page _ q in cut_laid p.0 l page n out e p.1.1 ∙ ap (λ (z : Answer (List ℕ)). laid z out) (sym p.1.0)
 
 pub lays_refused : (a : Answer (List ℕ)) (l out : List ℕ) {page : List ℕ} {r : Laid} {why : Refusal} → Draws a l 0 page r → r ≡ L.Refused why → Lays (laid a out) out (L.Refused why)
 unfolding laid

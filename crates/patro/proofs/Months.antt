@@ -19,7 +19,7 @@ use Rattle.rules.specs.Lent.{accepting}
 use Rattle.grid.specs.declared.Month.{Month}
 use Rattle.grid.specs.Month.{Shown, grid_says}
 use Rattle.grid.specs.Kathmandu.{month_shown}
-use Rattle.grid.proofs.Asked.{not-lent}
+use Rattle.grid.proofs.Asked.{not_lent}
 use Rattle.grid.proofs.Grids.{says_refused}
 use Rattle.wall.specs.Pages.{feed}
 use Rattle.kept.specs.declared.AskedMonth.{AskedMonth}
@@ -29,19 +29,19 @@ use Rattle.kept.specs.Held.{held, MonthAs}
 use Rattle.patro.specs.declared.pages.Laid.{Laid}
 use Rattle.patro.specs.declared.pages.Laid.TheVariants as L
 use Rattle.patro.specs.declared.pages.Part.TheVariants.{Whole}
-use Rattle.patro.specs.Pages.{month_in, pageBs}
-use Rattle.patro.specs.Years.{gap, behind, spaced, monthsFrom, yearPage}
+use Rattle.patro.specs.Pages.{month_in, page_bs}
+use Rattle.patro.specs.Years.{gap, behind, spaced, months_from, year_page}
 use Rattle.patro.specs.Inner.{Draws}
 use Rattle.patro.proofs.Drawing.{draws_page}
-use Rattle.patro.proofs.Parts.{bs-refused}
+use Rattle.patro.proofs.Parts.{bs_refused}
 
 -- ---- a month of a state
 
 module _ (σ : State) (today : Date) (y m : ℕ) where
   -- what a state that holds a row shows
-  asked-shown : empty σ.rows ≡ false → (ask_month σ today y m (replicate 504 0) (replicate 24576 0)).shown ≡ month_in σ.table σ.rows σ.rules today y m
+  asked_shown : empty σ.rows ≡ false → (ask_month σ today y m (replicate 504 0) (replicate 24576 0)).shown ≡ month_in σ.table σ.rows σ.rules today y m
   unfolding ask_month row_first_month
-  asked-shown h = rw h
+  asked_shown h = rw h
 
   -- it holds the same table and rules after it
   after_same : (cells festivals : List ℕ) → forgotten (ask_month σ today y m cells festivals).state ≡ forgotten σ
@@ -54,13 +54,13 @@ module _ (σ : State) (today : Date) (y m : ℕ) where
 
   module _ (h : empty σ.rows ≡ false) {r : AskedMonth} {cells festivals : List ℕ} (g : MonthAs r cells festivals (ask_month σ today y m (replicate 504 0) (replicate 24576 0))) where
     pub asked-answer : grid_says r.answer ≡ (month_in σ.table σ.rows σ.rules today y m).answer
-    asked-answer = g.answer ∙ ap (λ (w : Shown). w.answer) (asked-shown h)
+    asked-answer = g.answer ∙ ap (λ (w : Shown). w.answer) (asked_shown h)
 
     pub asked-cells : cells ≡ (month_in σ.table σ.rows σ.rules today y m).cells
-    asked-cells = g.first ∙ ap (λ (w : Shown). w.cells) (asked-shown h)
+    asked-cells = g.first ∙ ap (λ (w : Shown). w.cells) (asked_shown h)
 
     pub asked-festivals : festivals ≡ (month_in σ.table σ.rows σ.rules today y m).festivals
-    asked-festivals = g.second ∙ ap (λ (w : Shown). w.festivals) (asked-shown h)
+    asked-festivals = g.second ∙ ap (λ (w : Shown). w.festivals) (asked_shown h)
 
     pub asked-same : forgotten (held r.state) ≡ forgotten σ
     asked-same = ap forgotten g.holds.state ∙ after_same (replicate 504 0) (replicate 24576 0)
@@ -105,41 +105,41 @@ gap_feed m h = rw (ne_eqb m 1 h)
 
 module _ (t : Table) (rows rules names : List ℕ) (today : Date) (y : ℕ) where
   -- the month's page with what stands before it
-  spaced-by : (m : ℕ) {text : List ℕ} → gap m ≡ text → spaced t rows rules names today y m ≡ behind text (pageBs t rows rules names today y m Whole)
+  spaced_by : (m : ℕ) {text : List ℕ} → gap m ≡ text → spaced t rows rules names today y m ≡ behind text (page_bs t rows rules names today y m Whole)
   unfolding spaced
-  spaced-by m e = rw e
+  spaced_by m e = rw e
 
-  pub draws-spaced : (m : ℕ) {text l : List ℕ} {i : ℕ} {page : List ℕ} {j : ℕ} {after : List ℕ} {r : Laid} → gap m ≡ text → Wrote l i text page j
-      → Draws (pageBs t rows rules names today y m Whole) page j after r → Draws (spaced t rows rules names today y m) l i after r
-  draws-spaced m e w d = rw (spaced-by m e) (draws_behind w d)
+  pub draws_spaced : (m : ℕ) {text l : List ℕ} {i : ℕ} {page : List ℕ} {j : ℕ} {after : List ℕ} {r : Laid} → gap m ≡ text → Wrote l i text page j
+      → Draws (page_bs t rows rules names today y m Whole) page j after r → Draws (spaced t rows rules names today y m) l i after r
+  draws_spaced m e w d = rw (spaced_by m e) (draws_behind w d)
 
-  next-page : (text page : List ℕ) (m k : ℕ) → spaced t rows rules names today y m ≡ answered page
-      → behind text (monthsFrom t rows rules names today y m (suc k)) ≡ behind (text ++ page) (monthsFrom t rows rules names today y (m + 1) k)
-  unfolding monthsFrom then
-  next-page text page m k e = rw e (behind_both text page (monthsFrom t rows rules names today y (m + 1) k))
+  next_page : (text page : List ℕ) (m k : ℕ) → spaced t rows rules names today y m ≡ answered page
+      → behind text (months_from t rows rules names today y m (suc k)) ≡ behind (text ++ page) (months_from t rows rules names today y (m + 1) k)
+  unfolding months_from then
+  next_page text page m k e = rw e (behind_both text page (months_from t rows rules names today y (m + 1) k))
 
-  no-page : (text : List ℕ) (m k : ℕ) {why : Refusal} → spaced t rows rules names today y m ≡ refused why → behind text (monthsFrom t rows rules names today y m (suc k)) ≡ refused why
-  unfolding monthsFrom then
-  no-page text m k e = rw e
+  no_page : (text : List ℕ) (m k : ℕ) {why : Refusal} → spaced t rows rules names today y m ≡ refused why → behind text (months_from t rows rules names today y m (suc k)) ≡ refused why
+  unfolding months_from then
+  no_page text m k e = rw e
 
-  last-page : (text : List ℕ) (m : ℕ) → behind text (monthsFrom t rows rules names today y m 0) ≡ answered text
-  unfolding monthsFrom then
-  last-page text m = rw append-nil
+  last_page : (text : List ℕ) (m : ℕ) → behind text (months_from t rows rules names today y m 0) ≡ answered text
+  unfolding months_from then
+  last_page text m = rw append-nil
 
   -- the pages before a month are drawn, and with those that are left they are the year
   pub record Sofar (out : List ℕ) (month : ℕ) (page : List ℕ) (at : ℕ) : Type 0 where
     pub text : List ℕ
     pub wrote : Wrote out 0 text page at
-    pub left : behind text (monthsFrom t rows rules names today y month (13 - month)) ≡ yearPage t rows rules names today y
+    pub left : behind text (months_from t rows rules names today y month (13 - month)) ≡ year_page t rows rules names today y
 
-  pub sofar-none : (out : List ℕ) → Sofar out 1 out 0
-  sofar-none out = record { text = []; wrote = wrote_none out 0; left = behind_none (yearPage t rows rules names today y) }
+  pub sofar_none : (out : List ℕ) → Sofar out 1 out 0
+  sofar_none out = record { text = []; wrote = wrote_none out 0; left = behind_none (year_page t rows rules names today y) }
 
   module _ {out : List ℕ} {month : ℕ} {page : List ℕ} {at : ℕ} (s : Sofar out month page at) where
-    pub sofar-all : 13 ≤ month → Draws (yearPage t rows rules names today y) out 0 page (L.Bytes at)
+    pub sofar-all : 13 ≤ month → Draws (year_page t rows rules names today y) out 0 page (L.Bytes at)
     sofar-all h =
         let e : 13 - month ≡ 0 = omega arith in
-        draws_page (sym s.left ∙ ap (λ (k : ℕ). behind s.text (monthsFrom t rows rules names today y month k)) e ∙ last-page s.text month) s.wrote
+        draws_page (sym s.left ∙ ap (λ (k : ℕ). behind s.text (months_from t rows rules names today y month k)) e ∙ last_page s.text month) s.wrote
 
     module _ (h : month ≤ 12) {after : List ℕ} {r : Laid} (d : Draws (spaced t rows rules names today y month) page at after r) where
       left_one : 13 - month ≡ suc (12 - month)
@@ -152,15 +152,15 @@ module _ (t : Table) (rows rules names : List ℕ) (today : Date) (y : ℕ) wher
           record {
             text = s.text ++ p.0;
             wrote = writes.then s.wrote p.1.1;
-            left = rw e (sym (next-page s.text p.0 month (12 - month) p.1.0) ∙ (rw left_one at s.left));
+            left = rw e (sym (next_page s.text p.0 month (12 - month) p.1.0) ∙ (rw left_one at s.left));
           }
 
-      pub sofar-refused : {why : Refusal} → r ≡ L.Refused why → yearPage t rows rules names today y ≡ refused why
-      sofar-refused q = sym (rw left_one at s.left) ∙ no-page s.text month (12 - month) (d.refusal _ q)
+      pub sofar-refused : {why : Refusal} → r ≡ L.Refused why → year_page t rows rules names today y ≡ refused why
+      sofar-refused q = sym (rw left_one at s.left) ∙ no_page s.text month (12 - month) (d.refusal _ q)
 
   -- what is not accepted is refused with the first month
-  pub year-not-lent : (k : Refusal) → refused k ≡ accepting (flat t rows) (accepted_rules rules) → yearPage t rows rules names today y ≡ refused k
-  year-not-lent k e =
-      let g = not-lent (flat t rows) (accepted_rules rules) _ _ today y 1 _ _ k e in
-      let p = bs-refused t rows rules today y 1 (says_refused _ k (replicate 504 0) (replicate 24576 0) g).answer names Whole refl in
-      sym (behind_none (yearPage t rows rules names today y)) ∙ no-page [] 1 11 (spaced-by 1 (gap_none 1 refl) ∙ behind_refused [] p)
+  pub year_not_lent : (k : Refusal) → refused k ≡ accepting (flat t rows) (accepted_rules rules) → year_page t rows rules names today y ≡ refused k
+  year_not_lent k e =
+      let g = not_lent (flat t rows) (accepted_rules rules) _ _ today y 1 _ _ k e in
+      let p = bs_refused t rows rules today y 1 (says_refused _ k (replicate 504 0) (replicate 24576 0) g).answer names Whole refl in
+      sym (behind_none (year_page t rows rules names today y)) ∙ no_page [] 1 11 (spaced_by 1 (gap_none 1 refl) ∙ behind_refused [] p)

@@ -29,21 +29,21 @@ use Rattle.patro.specs.Inner.{state_of}
 -- ---- the first rows of a table
 
 module _ (rows : List ℕ) (n : ℕ) where
-  same-lens : (i m : ℕ) → 13 * i + m < n → lens (take n rows) i m ≡ lens rows i m
-  same-lens i m h = get_or-take n rows (13 * i + m) 0 h
+  same_lens : (i m : ℕ) → 13 * i + m < n → lens (take n rows) i m ≡ lens rows i m
+  same_lens i m h = get_or-take n rows (13 * i + m) 0 h
 
   same_sum : (i : ℕ) → 13 * i + 12 < n → sum (lens (take n rows) i) 12 ≡ sum (lens rows i) 12
-  same_sum i h = sum_ext (lens (take n rows) i) (lens rows i) 12 (λ m k. same-lens i m (omega arith))
+  same_sum i h = sum_ext (lens (take n rows) i) (lens rows i) 12 (λ m k. same_lens i m (omega arith))
 
   same_row : (i : ℕ) → 13 * i + 12 < n → row_ok rows i ≡ true → row_ok (take n rows) i ≡ true
   unfolding row_ok
   same_row i h e =
       and_both _ _
-      (all_every (len_ok (take n rows) i) 12 (λ m k. rw (same-lens i m (omega arith)) (all_at (len_ok rows i) 12 (and_left (all (len_ok rows i) 12) _ e) m k)))
-      (eq-eqb _ _ (same-lens i 12 h ∙ row_total rows i e ∙ sym (same_sum i h)))
+      (all_every (len_ok (take n rows) i) 12 (λ m k. rw (same_lens i m (omega arith)) (all_at (len_ok rows i) 12 (and_left (all (len_ok rows i) 12) _ e) m k)))
+      (eq-eqb _ _ (same_lens i 12 h ∙ row_total rows i e ∙ sym (same_sum i h)))
 
-  same-days : (k : ℕ) → 13 * k ≤ n → row_days (take n rows) k ≡ row_days rows k
-  same-days k h = sum_ext (λ i. sum (lens (take n rows) i) 12) (λ i. sum (lens rows i) 12) k (λ i l. same_sum i (omega arith))
+  same_days : (k : ℕ) → 13 * k ≤ n → row_days (take n rows) k ≡ row_days rows k
+  same_days k h = sum_ext (λ i. sum (lens (take n rows) i) 12) (λ i. sum (lens rows i) 12) k (λ i l. same_sum i (omega arith))
 
 -- whole rows, one at least
 pub accepted_front : (t : Table) (rows : List ℕ) (n : ℕ) → accepted t rows ≡ true → n ≤ length rows → n % 13 ≡ 0 → 13 ≤ n → accepted t (take n rows) ≡ true
@@ -64,7 +64,7 @@ accepted_front t rows n e h z l =
         day_from = a.day_from;
       };
       row = λ i b. same_row rows n i (omega arith) (f.row i (omega arith));
-      day_to = rw (k, same-days rows n (n / 13) (omega arith)) (omega (arith, f.day_to));
+      day_to = rw (k, same_days rows n (n / 13) (omega arith)) (omega (arith, f.day_to));
     })
 
 -- ---- a state of an accepted table

@@ -12,8 +12,8 @@ use Rattle.patro.specs.declared.pages.Part.TheVariants.{Whole}
 use Rattle.patro.specs.declared.pages.Laid.{Laid}
 use Rattle.patro.specs.declared.pages.Laid.TheVariants as L
 use Rattle.patro.specs.declared.pages.Drawn.{Drawn}
-use Rattle.patro.specs.Pages.{pageBs}
-use Rattle.patro.specs.Years.{spaced, yearPage}
+use Rattle.patro.specs.Pages.{page_bs}
+use Rattle.patro.specs.Years.{spaced, year_page}
 
 -- a page drawn in a buffer from a place on, as far as the buffer goes, or its refusal; what a refusal leaves in the buffer is open
 pub record Draws (a : Answer (List ℕ)) (out : List ℕ) (at : ℕ) (after : List ℕ) (r : Laid) : Type 0 where
@@ -29,13 +29,13 @@ state_of t rows rules = record { table = t; rows = rows; rules = rules; stored =
 -- pages over the table and the rules that a state holds
 module _ (σ : State) (names : List ℕ) (today : Date) (y : ℕ) where
   abbrev pub month_of : ℕ → Answer (List ℕ)
-  month_of m = pageBs σ.table σ.rows σ.rules names today y m Whole
+  month_of m = page_bs σ.table σ.rows σ.rules names today y m Whole
 
-  abbrev pub spacedOf : ℕ → Answer (List ℕ)
-  spacedOf m = spaced σ.table σ.rows σ.rules names today y m
+  abbrev pub spaced_of : ℕ → Answer (List ℕ)
+  spaced_of m = spaced σ.table σ.rows σ.rules names today y m
 
   abbrev pub year_of : Answer (List ℕ)
-  year_of = yearPage σ.table σ.rows σ.rules names today y
+  year_of = year_page σ.table σ.rows σ.rules names today y
 
 -- a page drawn over a state, which then holds the same table and rules
 pub record DrawsKept (σ : State) (page : Answer (List ℕ)) (out : List ℕ) (at : ℕ) (after : List ℕ) (r : Drawn) : Type 0 where

@@ -46,16 +46,16 @@ month_in t rows rules today y m = month_shown t rows rules today y m (replicate 
 
 module _ (t : Table) (rows rules names : List ℕ) (today : Date) where
   -- a part of that month
-  unfoldable pub pageBs : ℕ → ℕ → Part → Answer (List ℕ)
-  pageBs y m part =
+  unfoldable pub page_bs : ℕ → ℕ → Part → Answer (List ℕ)
+  page_bs y m part =
       let shown = month_in t rows rules today y m in
       then shown.answer (λ x. part_page names y m part x shown.cells shown.festivals)
 
   -- a BS month, a BS date, a Gregorian date by its BS date (refusals 1, 3, 7 come first)
-  unfoldable pub pageAsked : Asked → Answer (List ℕ)
-  pageAsked (A.Month y m) = pageBs y m P.Whole
-  pageAsked (A.Day y m d) = pageBs y m (P.Day d)
-  pageAsked (A.Date x) = then (from_ad (flat t rows) x.year x.month x.day) (λ b. pageBs b.year b.month (P.Day b.day))
+  unfoldable pub page_asked : Asked → Answer (List ℕ)
+  page_asked (A.Month y m) = page_bs y m P.Whole
+  page_asked (A.Day y m d) = page_bs y m (P.Day d)
+  page_asked (A.Date x) = then (from_ad (flat t rows) x.year x.month x.day) (λ b. page_bs b.year b.month (P.Day b.day))
 
 -- ---- a page in a lent buffer
 

@@ -13,7 +13,7 @@ use Rattle.patro.specs.declared.wanted.Wanted.{Wanted}
 use Rattle.patro.specs.declared.wanted.Wanted.TheVariants as W
 use Rattle.patro.specs.declared.wanted.Wish.{Wish}
 use Rattle.patro.specs.declared.wanted.Wish.TheVariants as I
-use Rattle.patro.specs.Pages.{pageBs, pageAsked}
+use Rattle.patro.specs.Pages.{page_bs, page_asked}
 
 -- ---- a year
 
@@ -28,23 +28,23 @@ behind text a = then a (λ rest. answered (text ++ rest))
 module _ (t : Table) (rows rules names : List ℕ) (today : Date) (y : ℕ) where
   -- the page of a month with what stands before it
   unfoldable pub spaced : ℕ → Answer (List ℕ)
-  spaced m = behind (gap m) (pageBs t rows rules names today y m Whole)
+  spaced m = behind (gap m) (page_bs t rows rules names today y m Whole)
 
   -- the pages of so many months from month m on, or the refusal of the first that is refused
-  unfoldable pub monthsFrom : ℕ → ℕ → Answer (List ℕ)
-  monthsFrom m zero = answered []
-  monthsFrom m (suc k) = then (spaced m) (λ page. behind page (monthsFrom (m + 1) k))
+  unfoldable pub months_from : ℕ → ℕ → Answer (List ℕ)
+  months_from m zero = answered []
+  months_from m (suc k) = then (spaced m) (λ page. behind page (months_from (m + 1) k))
 
   -- the year: its twelve months
-  abbrev pub yearPage : Answer (List ℕ)
-  yearPage = monthsFrom 1 12
+  abbrev pub year_page : Answer (List ℕ)
+  year_page = months_from 1 12
 
 -- ---- what is wanted
 
 -- a page of a month or of a day, or that of a year
 abbrev pub page_wanted : Table → List ℕ → List ℕ → List ℕ → Date → Wanted → Answer (List ℕ)
-page_wanted t rows rules names today (W.Page asked) = pageAsked t rows rules names today asked
-page_wanted t rows rules names today (W.Year y) = yearPage t rows rules names today y
+page_wanted t rows rules names today (W.Page asked) = page_asked t rows rules names today asked
+page_wanted t rows rules names today (W.Year y) = year_page t rows rules names today y
 
 -- a word that is a year wants its page, other words what they ask
 abbrev pub wished : Year → Words → Wish

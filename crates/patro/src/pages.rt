@@ -2,7 +2,7 @@
 ghost use Rattle.std.specs.Prelude.{◌≡◌, false, ◌≤◌, length};
 ghost use Rattle.kept.specs.Held.{held, Ready};
 ghost use Rattle.kept.specs.Operations.{empty};
-ghost use Rattle.patro.specs.Pages.{cell_of, titled, part_page, pageBs, pageAsked};
+ghost use Rattle.patro.specs.Pages.{cell_of, titled, part_page, page_bs, page_asked};
 ghost use Rattle.patro.specs.Inner.{Draws, DrawsKept, month_of};
 
 use commands::words::Asked;
@@ -111,7 +111,7 @@ fn draw_bs(
     names: &[u8],
     page: &mut [u8],
 ) -> Laid
-    ensures { Draws (pageBs table rows.now rules.now names.now today year month part)
+    ensures { Draws (page_bs table rows.now rules.now names.now today year month part)
         page.old 0 page.new result }
 {
     let mut cells = [0u16; 504];
@@ -141,7 +141,7 @@ fn draw_ad(
     names: &[u8],
     page: &mut [u8],
 ) -> Laid
-    ensures { Draws (pageAsked table rows.now rules.now names.now today (Asked.Date date))
+    ensures { Draws (page_asked table rows.now rules.now names.now today (Asked.Date date))
         page.old 0 page.new result }
 {
     match conversion::ad_to_bs(table, rows, date.year, date.month, date.day) {
@@ -170,7 +170,7 @@ pub fn draw(
     names: &[u8],
     page: &mut [u8],
 ) -> Laid
-    ensures { Draws (pageAsked table rows.now rules.now names.now today asked)
+    ensures { Draws (page_asked table rows.now rules.now names.now today asked)
         page.old 0 page.new result }
 {
     match asked {

@@ -4,8 +4,8 @@ ghost use Rattle.conversion.specs.Flat.{accepted};
 ghost use Rattle.rules.specs.Rules.{accepted_rules};
 ghost use Rattle.kept.specs.Operations.{empty};
 ghost use Rattle.kept.specs.Held.{held, Ready, Holds};
-ghost use Rattle.patro.specs.Years.{yearPage};
-ghost use Rattle.patro.specs.Inner.{Draws, DrawsKept, spacedOf, year_of, state_of};
+ghost use Rattle.patro.specs.Years.{year_page};
+ghost use Rattle.patro.specs.Inner.{Draws, DrawsKept, spaced_of, year_of, state_of};
 
 use crate::pages::{Drawn, Laid, draw_kept};
 use conversion::{Table, Validity};
@@ -50,7 +50,7 @@ fn draw_next(
     at: usize,
 ) -> Drawn
     requires { Ready state × (empty (held state).rows ≡ false) }
-    ensures { DrawsKept (held state) (spacedOf (held state) names.now today year month) page.old at page.new result }
+    ensures { DrawsKept (held state) (spaced_of (held state) names.now today year month) page.old at page.new result }
 {
     if month == 1 {
         return draw_kept(state, today, year, month, names, page, at);
@@ -90,7 +90,7 @@ pub fn draw_year(
     names: &[u8],
     page: &mut [u8],
 ) -> Laid
-    ensures { Draws (yearPage table rows.now rules.now names.now today year)
+    ensures { Draws (year_page table rows.now rules.now names.now today year)
         page.old 0 page.new result }
 {
     let lent = rules::accept(table, rows, rules);

@@ -13,11 +13,11 @@ use Rattle.keyed.proofs.Lines.{line_short}
 use Rattle.rulefile.specs.Files.{keys, rule_form}
 
 module _ (i k : ℕ) where
-  pub due-at : (s : List ℕ) → i % 8 ≡ k → line (get_or keys k []) s ≡ due rule_form i s
-  due-at s e = ap (λ (j : ℕ). line (get_or keys j []) s) (sym e)
+  pub due_at : (s : List ℕ) → i % 8 ≡ k → line (get_or keys k []) s ≡ due rule_form i s
+  due_at s e = ap (λ (j : ℕ). line (get_or keys j []) s) (sym e)
 
-  pub line-at : (n : ℕ) → i % 8 ≡ k → line_text (get_or keys k []) n ≡ line_text (rule_form.key i) n
-  line-at n e = ap (λ (j : ℕ). line_text (get_or keys j []) n) (sym e)
+  pub line_at_law : (n : ℕ) → i % 8 ≡ k → line_text (get_or keys k []) n ≡ line_text (rule_form.key i) n
+  line_at_law n e = ap (λ (j : ℕ). line_text (get_or keys j []) n) (sym e)
 
 -- ---- the last arm of a `match` whose other arms are 0, 1 and so on
 

@@ -10,7 +10,7 @@ use lib.ListN.{length, take}
 use lib.Seq.{length-sets, length-take-le}
 use Rattle.paper.specs.declared.Refusal.TheVariants.{BadRules, NoRoom, OutOfForm}
 use Rattle.paper.specs.Answers.{answered, refused, given}
-use Rattle.paper.proofs.Stores.{front_of, sets-front}
+use Rattle.paper.proofs.Stores.{front_of, sets_front}
 use Rattle.text.specs.Written.{Wrote}
 use Rattle.keyed.specs.Forms.{told_line}
 use Rattle.rules.specs.Rules.{accepted_rules}
@@ -22,9 +22,9 @@ use Rattle.rules.proofs.Few.{too_many}
 -- ---- reading
 
 module _ {s kept after : List ℕ} {r : Seen} (out : List ℕ) (w : Sees s kept after r) where
-  pub out-of-form : r.whole ≡ false → (refused (OutOfForm (r.count + 1)), out) ≡ read_into s out
+  pub out_of_form : r.whole ≡ false → (refused (OutOfForm (r.count + 1)), out) ≡ read_into s out
   unfolding rules_read given
-  out-of-form e =
+  out_of_form e =
       let f : (file_lines s).whole ≡ false = sym w.whole ∙ e in
       let n : r.count + 1 ≡ told_line (file_lines s) = omega (arith, w.count) in
       rw (f, n)
@@ -71,15 +71,15 @@ module _ {s kept after : List ℕ} {r : Seen} (out : List ℕ) (w : Sees s kept 
               let n = v.count in
               let h : length (file_lines s).numbers ≤ length out = omega (arith, w.count) in
               let k = le-leb (length (file_lines s).numbers) (length out) h in
-              let u = v.stored ∙ sets-front (file_lines s).numbers out h in
+              let u = v.stored ∙ sets_front (file_lines s).numbers out h in
               rw (q, a, k, u, n)
 
 -- ---- writing
 
 module _ (rules out : List ℕ) where
-  pub bad-rules : accepted_rules rules ≡ false → (refused BadRules, out) ≡ write_into rules out
+  pub bad_rules : accepted_rules rules ≡ false → (refused BadRules, out) ≡ write_into rules out
   unfolding file_written given
-  bad-rules e = rw e
+  bad_rules e = rw e
 
   module _ (e : accepted_rules rules ≡ true) where
     pub too_long : leb (length (file_text rules)) (length out) ≡ false → (refused NoRoom, out) ≡ write_into rules out
@@ -91,6 +91,6 @@ module _ (rules out : List ℕ) where
     unfolding file_written given
     all-written {new} {n} f w =
         let l = leb-true (length (file_text rules)) (length out) f in
-        let t = w.stored ∙ sets-front (file_text rules) out l in
+        let t = w.stored ∙ sets_front (file_text rules) out l in
         let m : n ≡ length (file_text rules) = omega (arith, w.end) in
         rw (e, f, t, m)

@@ -8,7 +8,7 @@ use lib.Dec.{leb, eqb}
 use lib.ListN.{length}
 use Rattle.paper.proofs.Tests.{and_left, and_right, never}
 use Rattle.rules.specs.declared.Rule.{Rule}
-use Rattle.rules.specs.Rules.{hasDate, plain, fixed, gregorian, computed, override, rules_from, rules_of, rule_good, all_good, count_kind, accepted_rules}
+use Rattle.rules.specs.Rules.{has_date, plain, fixed, gregorian, computed, override, rules_from, rules_of, rule_good, all_good, count_kind, accepted_rules}
 use Rattle.rules.proofs.Accepted.{good_rules}
 use Rattle.rules.proofs.Walk.{good_cons}
 
@@ -51,10 +51,10 @@ has_kind r e =
     let year = eqb r.year 0 in
     let half = leb r.half 1 in
     some_kind (fixed r) (gregorian r) (computed r) (override r) k₁ k₂ k₃ k₄
-    (λ q. first k₁ year (hasDate r 32) (and_left (k₁ && year && hasDate r 32) (plain r) q))
-    (λ q. first k₂ year (hasDate r 31) (and_left (k₂ && year && hasDate r 31) (plain r) q))
-    (λ q. first k₃ year (hasDate r 15) (and_left (k₃ && year && hasDate r 15) half (and_left (k₃ && year && hasDate r 15 && half) (leb r.kala 5) q)))
-    (first k₄ (hasDate r 32) (plain r))
+    (λ q. first k₁ year (has_date r 32) (and_left (k₁ && year && has_date r 32) (plain r) q))
+    (λ q. first k₂ year (has_date r 31) (and_left (k₂ && year && has_date r 31) (plain r) q))
+    (λ q. first k₃ year (has_date r 15) (and_left (k₃ && year && has_date r 15) half (and_left (k₃ && year && has_date r 15 && half) (leb r.kala 5) q)))
+    (first k₄ (has_date r 32) (plain r))
     (and_right (leb r.holiday 1) (fixed r || gregorian r || computed r || override r) e)
 
 all_kinds : (rs : List Rule) → all_good rs ≡ true → length rs ≤ kinds rs

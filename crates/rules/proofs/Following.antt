@@ -14,14 +14,14 @@ then_told (refused k) f e = absurd (refused_answered (then_refused k f) e)
 
 -- the shorter answers a, the longer b; what f makes of an answer of the shorter, g makes of it too
 module _ {X Y : Type 0} (a b : Answer X) (f g : X → Answer Y) (longer : (x : X) → a ≡ answered x → b ≡ answered x) (same : (x : X) → a ≡ answered x → f x ≡ g x) where
-  pub then-longer : (v : Y) → then a f ≡ answered v → then b g ≡ answered v
-  then-longer v e =
+  pub then_longer : (v : Y) → then a f ≡ answered v → then b g ≡ answered v
+  then_longer v e =
       let t = then_told a f e in
       ap (λ (z : Answer X). then z g) (longer t.0 t.1.0) ∙ then_answered t.0 g ∙ sym (same t.0 t.1.0) ∙ t.1.1
 
   -- what the longer answers, the shorter refuses exactly if it refuses what that goes on from
-  pub then-added : (k : Refusal) (P : Type 0) (x : X) (v : Y) → b ≡ answered x → RefusedIf a k P → then b g ≡ answered v → RefusedIf (then a f) k P
-  then-added k P x v q r e =
+  pub then_added : (k : Refusal) (P : Type 0) (x : X) (v : Y) → b ≡ answered x → RefusedIf a k P → then b g ≡ answered v → RefusedIf (then a f) k P
+  then_added k P x v q r e =
       record {
         when = λ p. ap (λ (z : Answer X). then z f) (r.when p) ∙ then_refused k f;
         only = λ j h. go j h a refl;

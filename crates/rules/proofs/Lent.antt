@@ -21,34 +21,34 @@ module _ (table rules : Bool) where
   abbrev tested : Answer Unit
   tested = given table BadTable (given rules BadRules (answered tt))
 
-  pub bad-table : table ≡ false → refused BadTable ≡ tested
-  bad-table g = sym (given_off table BadTable _ g)
+  pub bad_table : table ≡ false → refused BadTable ≡ tested
+  bad_table g = sym (given_off table BadTable _ g)
 
-  pub bad-rules : table ≡ true → rules ≡ false → refused BadRules ≡ tested
-  bad-rules g o = sym (given_on table BadTable _ g ∙ given_off rules BadRules _ o)
+  pub bad_rules : table ≡ true → rules ≡ false → refused BadRules ≡ tested
+  bad_rules g o = sym (given_on table BadTable _ g ∙ given_off rules BadRules _ o)
 
-  pub all-good : table ≡ true → rules ≡ true → answered tt ≡ tested
-  all-good g o = sym (given_on table BadTable _ g ∙ given_on rules BadRules _ o)
+  pub all_good_law : table ≡ true → rules ≡ true → answered tt ≡ tested
+  all_good_law g o = sym (given_on table BadTable _ g ∙ given_on rules BadRules _ o)
 
 module _ (c : Calendar) (ok : Bool) where
   -- where both are good, what is asked is answered
-  pub lent-on : {A : Type 0} (a : Answer A) → c.good ≡ true → ok ≡ true → lent c ok a ≡ a
-  lent-on a g o = given_on c.good BadTable _ g ∙ given_on ok BadRules a o
+  pub lent_on : {A : Type 0} (a : Answer A) → c.good ≡ true → ok ≡ true → lent c ok a ≡ a
+  lent_on a g o = given_on c.good BadTable _ g ∙ given_on ok BadRules a o
 
   -- what is answered was asked of what is good
-  pub lent-told : {A : Type 0} (a : Answer A) {x : A} → lent c ok a ≡ answered x → (c.good ≡ true) × (ok ≡ true) × (a ≡ answered x)
-  lent-told a e =
+  pub lent_told : {A : Type 0} (a : Answer A) {x : A} → lent c ok a ≡ answered x → (c.good ≡ true) × (ok ≡ true) × (a ≡ answered x)
+  lent_told a e =
       let p = given_answered c.good BadTable _ e in
       let q = given_answered ok BadRules a p.1 in
       (p.0, q.0, q.1)
 
-  pub accepted-both : ◌≡◌ {A = Answer Unit} (answered tt) (accepting c ok) → (c.good ≡ true) × (ok ≡ true)
-  accepted-both e = let t = lent-told {A = Unit} (answered tt) (sym e) in (t.0, t.1)
+  pub accepted_both : ◌≡◌ {A = Answer Unit} (answered tt) (accepting c ok) → (c.good ≡ true) × (ok ≡ true)
+  accepted_both e = let t = lent_told {A = Unit} (answered tt) (sym e) in (t.0, t.1)
 
   -- what is not accepted is refused, whatever is asked
-  pub lent-not : {A : Type 0} (a : Answer A) (k : Refusal) → refused k ≡ accepting c ok → lent c ok a ≡ refused k
+  pub lent_not : {A : Type 0} (a : Answer A) (k : Refusal) → refused k ≡ accepting c ok → lent c ok a ≡ refused k
   unfolding given
-  lent-not a k e = go c.good ok e
+  lent_not a k e = go c.good ok e
     where
       go : (g o : Bool) → ◌≡◌ {A = Answer Unit} (refused k) (given g BadTable (given o BadRules (answered tt))) → given g BadTable (given o BadRules a) ≡ refused k
       go true true f = absurd (let z : ◌≡◌ {A = ℕ} 0 1 = cc in omega arith)

@@ -9,7 +9,7 @@ use lib.Seq.{sets}
 use Rattle.paper.specs.declared.Refusal.{Refusal}
 use Rattle.paper.specs.declared.Refusal.TheVariants.{NoRoom}
 use Rattle.paper.specs.Answers.{Answer, answered, refused}
-use Rattle.paper.proofs.Stores.{sets-front}
+use Rattle.paper.proofs.Stores.{sets_front}
 use Rattle.rules.specs.Festivals.{Pair, numbers, listed}
 
 pub numbers_length : (es : List Pair) → length (numbers es) ≡ length es * 2
@@ -37,7 +37,7 @@ pub says_list : (l : List Pair) (out after : List ℕ) (k : ℕ) → length l * 
 unfolding listed
 says_list l out after k h p w =
     let e = le-leb (length l * 2) (length out) h in
-    let front = sets-front (numbers l) out (omega (arith, numbers_length l)) in
+    let front = sets_front (numbers l) out (omega (arith, numbers_length l)) in
     record { answer = rw (e, p); buffer = rw e (w ∙ front ∙ ap (λ (n : ℕ). numbers l ++ drop n out) (numbers_length l)) }
 
 -- a refusal changes no element, and elements past the answer stay

@@ -17,11 +17,11 @@ use Rattle.conversion.specs.declared.BsDate.{BsDate}
 use Rattle.conversion.specs.Calendar.{Calendar, day_at, outside, from_day}
 use Rattle.conversion.specs.Claims.{Added, RefusedIf}
 use Rattle.conversion.proofs.Days.{Valid, converts, converted, to_from}
-use Rattle.conversion.proofs.Longer.{Extends, day-longer, from-day-longer, from-day-added}
+use Rattle.conversion.proofs.Longer.{Extends, day_longer, from_day_longer, from_day_added}
 use Rattle.rules.specs.declared.Rule.{Rule}
 use Rattle.rules.specs.Sky.{Sky}
 use Rattle.rules.specs.Days.{next, holds}
-use Rattle.rules.specs.Festivals.{dated, first_day, last_day, moons, inMonth, opening, ruleDay, in_table, entry, entryOn, isComputed, dayPairs, dayList}
+use Rattle.rules.specs.Festivals.{dated, first_day, last_day, moons, in_month, opening, rule_day, in_table, entry, entry_on, is_computed, day_pairs, day_list}
 use Rattle.rules.specs.Longer.{AddedDay, SameEntry}
 
 -- ---- the tests of a date and of an entry
@@ -49,9 +49,9 @@ unfolding next holds
 next_holds (some a) f p q h = h a
 next_holds none f p q h = refl
 
-entry_by_day : {I : Type 0} (s : Sky I) (c : Calendar) (n : ℕ) (t : BsDate) → from_day c n ≡ answered t → (y : ℕ) (r : Rule) → entryOn s c y r n ≡ holds (ruleDay s c y r) (λ k. eqb k n)
-unfolding entryOn entry
-entry_by_day s c n t e y r = next_holds (ruleDay s c y r) (in_table c) (λ k. eqb k n) (λ k. eqb k n) (in_table_on c n t e)
+entry_by_day : {I : Type 0} (s : Sky I) (c : Calendar) (n : ℕ) (t : BsDate) → from_day c n ≡ answered t → (y : ℕ) (r : Rule) → entry_on s c y r n ≡ holds (rule_day s c y r) (λ k. eqb k n)
+unfolding entry_on entry
+entry_by_day s c n t e y r = next_holds (rule_day s c y r) (in_table c) (λ k. eqb k n) (λ k. eqb k n) (in_table_on c n t e)
 
 -- ---- the new moons of a year
 moons_in : {I : Type 0} (s : Sky I) (c : Calendar) (y : ℕ) → c.good ≡ true → c.first ≤ y → y < c.first + c.years → moons s c y ≡ s.new_moons (first_day c y) (last_day c y)
@@ -81,7 +81,7 @@ next_none o f h = rw h
 -- a day that the longer answers is refused by the shorter exactly if it lies in an added year
 pub day_refused : (c e : Calendar) → Extends c e → (n : ℕ) (t : BsDate) → from_day e n ≡ answered t → RefusedIf (from_day c n) (outside c n) (AddedDay c e n)
 day_refused c e x n t q =
-    let r = from-day-added c e x n t q in
+    let r = from_day_added c e x n t q in
     record {
       when = λ a. let same : a.date ≡ t = answered_same (sym a.is ∙ q) in r.when (rw same at a.added);
       only = λ j h. record { date = t; is = q; added = r.only j h };
@@ -93,24 +93,24 @@ Filled c = (i m : ℕ) → i < c.years → m < 12 → 1 ≤ c.len i m
 
 module _ {I : Type 0} (s : Sky I) (c e : Calendar) (x : Extends c e) (w : Filled c) where
   -- a test that no date of an added year passes
-  dated-same : (p : BsDate → Bool) → ((t : BsDate) → Added c t.year → p t ≡ false) → (n : ℕ) → dated (from_day c n) p ≡ dated (from_day e n) p
-  dated-same p h n =
-      same_dated p (from_day c n) (from_day e n) (λ t. from-day-longer c e x n t) (λ t k q r. h t ((from-day-added c e x n t r).only k q))
+  dated_same : (p : BsDate → Bool) → ((t : BsDate) → Added c t.year → p t ≡ false) → (n : ℕ) → dated (from_day c n) p ≡ dated (from_day e n) p
+  dated_same p h n =
+      same_dated p (from_day c n) (from_day e n) (λ t. from_day_longer c e x n t) (λ t k q r. h t ((from_day_added c e x n t r).only k q))
 
-  in-table-same : (n : ℕ) → SameEntry c e (in_table c n) (in_table e n)
-  in-table-same n = go (from_day c n) (from_day e n) refl refl
+  in_table_same : (n : ℕ) → SameEntry c e (in_table c n) (in_table e n)
+  in_table_same n = go (from_day c n) (from_day e n) refl refl
     where
       go : (a b : Answer BsDate) → from_day c n ≡ a → from_day e n ≡ b → SameEntry c e (in_table c n) (in_table e n)
-      go (answered t) b p q = inl (in_table_answered c n t p ∙ sym (in_table_answered e n t (from-day-longer c e x n t p)))
+      go (answered t) b p q = inl (in_table_answered c n t p ∙ sym (in_table_answered e n t (from_day_longer c e x n t p)))
       go (refused k) (refused j) p q = inl (in_table_refused c n k p ∙ sym (in_table_refused e n j q))
       go (refused k) (answered t) p q =
           inr (n, (in_table_refused c n k p, (in_table_answered e n t q, (day_refused c e x n t q).only k p)))
 
   module _ (y : ℕ) (h : y < c.first + c.years) where
-    in-month-same : (m : ℕ) → inMonth s c y m ≡ inMonth s e y m
-    unfolding inMonth
+    in-month-same : (m : ℕ) → in_month s c y m ≡ in_month s e y m
+    unfolding in_month
     in-month-same m =
-        fun_ext (λ z. ap (holds (s.day_of z)) (fun_ext (dated-same (λ t. eqb t.year y && eqb t.month m) (λ t l. rw (ne_eqb t.year y (λ q. omega arith))))))
+        fun_ext (λ z. ap (holds (s.day_of z)) (fun_ext (dated_same (λ t. eqb t.year y && eqb t.month m) (λ t l. rw (ne_eqb t.year y (λ q. omega arith))))))
 
     module _ (l : c.first ≤ y) where
       valid : (m d : ℕ) → 1 ≤ m → m ≤ 12 → 1 ≤ d → d ≤ c.len (y - c.first) (m - 1) → Valid c y m d
@@ -120,11 +120,11 @@ module _ {I : Type 0} (s : Sky I) (c e : Calendar) (x : Extends c e) (w : Filled
       -- a day of the year has the same number
       day-same : (m d : ℕ) → Valid c y m d → day_at c (y - c.first) (m - 1) (d - 1) ≡ day_at e (y - e.first) (m - 1) (d - 1)
       day-same m d v =
-          let b = day-longer c e x y m d _ (converts c y m d v) in
+          let b = day_longer c e x y m d _ (converts c y m d v) in
           answered_same (sym b ∙ converts e y m d (converted e y m d _ b))
 
-      first-same : first_day c y ≡ first_day e y
-      first-same = day-same 1 1 (valid 1 1 (omega arith) (omega arith) (omega arith) (w (y - c.first) 0 (omega arith) (omega arith)))
+      first_same : first_day c y ≡ first_day e y
+      first_same = day-same 1 1 (valid 1 1 (omega arith) (omega arith) (omega arith) (w (y - c.first) 0 (omega arith) (omega arith)))
 
       last-same : last_day c y ≡ last_day e y
       last-same =
@@ -139,7 +139,7 @@ module _ {I : Type 0} (s : Sky I) (c e : Calendar) (x : Extends c e) (w : Filled
         ⊎_elim
         (λ l.
         moons_in s c y x.good l h
-        ∙ ap (λ (n : ℕ). s.new_moons n (last_day c y)) (first-same l)
+        ∙ ap (λ (n : ℕ). s.new_moons n (last_day c y)) (first_same l)
         ∙ ap (s.new_moons (first_day e y)) (last-same l)
         ∙ sym (moons_in s e y x.good_too (omega (arith, x.first)) (omega (arith, x.first, x.years))))
         (λ l. moons_out s c y l ∙ sym (moons_out s e y (omega (arith, x.first))))
@@ -150,39 +150,39 @@ module _ {I : Type 0} (s : Sky I) (c e : Calendar) (x : Extends c e) (w : Filled
     unfolding opening
     opening-same m = rw (in-month-same m, moons-same)
 
-    rule-day-same : (r : Rule) → ruleDay s c y r ≡ ruleDay s e y r
-    unfolding ruleDay
+    rule-day-same : (r : Rule) → rule_day s c y r ≡ rule_day s e y r
+    unfolding rule_day
     rule-day-same r = rw (opening-same r.month)
 
     -- a computed entry differs only where it lies in an added year
     pub entry-same : (r : Rule) → SameEntry c e (entry s c y r) (entry s e y r)
     unfolding entry
-    entry-same r = go (ruleDay s c y r) refl
+    entry-same r = go (rule_day s c y r) refl
       where
-        q : ruleDay s e y r ≡ ruleDay s c y r
+        q : rule_day s e y r ≡ rule_day s c y r
         q = sym (rule-day-same r)
 
-        go : (o : Option ℕ) → ruleDay s c y r ≡ o → SameEntry c e (next (ruleDay s c y r) (in_table c)) (next (ruleDay s e y r) (in_table e))
+        go : (o : Option ℕ) → rule_day s c y r ≡ o → SameEntry c e (next (rule_day s c y r) (in_table c)) (next (rule_day s e y r) (in_table e))
         go none p = inl (next_none _ _ p ∙ sym (next_none _ _ (q ∙ p)))
         go (some n) p =
             ⊎_elim
             (λ l. inl (next_some _ _ n p ∙ l ∙ sym (next_some _ _ n (q ∙ p))))
             (λ l. inr (l.0, (next_some _ _ n p ∙ l.1.0, (next_some _ _ n (q ∙ p) ∙ l.1.1.0, l.1.1.1))))
-            (in-table-same n)
+            (in_table_same n)
 
     -- on a day of the shorter no computed entry differs
-    entry-on-same : (n : ℕ) (t : BsDate) → from_day c n ≡ answered t → (r : Rule) → entryOn s c y r n ≡ entryOn s e y r n
+    entry-on-same : (n : ℕ) (t : BsDate) → from_day c n ≡ answered t → (r : Rule) → entry_on s c y r n ≡ entry_on s e y r n
     entry-on-same n t g r =
-        entry_by_day s c n t g y r ∙ ap (λ o. holds o (λ k. eqb k n)) (rule-day-same r) ∙ sym (entry_by_day s e n t (from-day-longer c e x n t g) y r)
+        entry_by_day s c n t g y r ∙ ap (λ o. holds o (λ k. eqb k n)) (rule-day-same r) ∙ sym (entry_by_day s e n t (from_day_longer c e x n t g) y r)
 
   module _ (rs : List Rule) (n : ℕ) (t : BsDate) (q : from_day c n ≡ answered t) where
-    computed_same : (y : ℕ) → y < c.first + c.years → isComputed s c rs y t n ≡ isComputed s e rs y t n
-    unfolding isComputed
+    computed_same : (y : ℕ) → y < c.first + c.years → is_computed s c rs y t n ≡ is_computed s e rs y t n
+    unfolding is_computed
     computed_same y h = fun_ext (λ r. rw (entry-on-same y h n t q r))
 
     -- the list of a day of the shorter
-    pub list_same : dayList s c rs t n ≡ dayList s e rs t n
-    unfolding dayList dayPairs
+    pub list_same : day_list s c rs t n ≡ day_list s e rs t n
+    unfolding day_list day_pairs
     list_same =
         let h : t.year < c.first + c.years = (converted c _ _ _ n (to_from c n t q)).month.year_to in
         rw (computed_same (t.year - 1) (omega arith), computed_same t.year h)

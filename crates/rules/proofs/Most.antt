@@ -16,7 +16,7 @@ use Rattle.rules.specs.declared.lists.Day.{Day}
 use Rattle.rules.specs.declared.lists.Years.{Years}
 use Rattle.rules.specs.Rules.{count_kind}
 use Rattle.rules.specs.Sky.{Sky}
-use Rattle.rules.specs.Festivals.{Pair, picked, kept_after, kept, is_fixed, is_gregorian, is_override, isComputed, dayPairs, dayList}
+use Rattle.rules.specs.Festivals.{Pair, picked, kept_after, kept, is_fixed, is_gregorian, is_override, is_computed, day_pairs, day_list}
 use Rattle.rules.specs.Resolved.{shows, used, falls, used_in, pairs_by, list_by}
 use Rattle.rules.proofs.Accepted.{Counts}
 
@@ -78,37 +78,37 @@ first_four : (a b c d : Bool) → (a && b && c && d) ≡ true → a ≡ true
 first_four a b c d e = first_three a b c (and_left (a && b && c) d e)
 
 module _ (rs : List Rule) (w : Counts rs) where
-  fixed-most : (t : BsDate) → length (picked (is_fixed t) rs) ≤ 64
-  fixed-most t = omega (arith, w.fixed_few, picked_most 1 (is_fixed t) (λ r e. first_three _ _ _ e) rs)
+  fixed_most : (t : BsDate) → length (picked (is_fixed t) rs) ≤ 64
+  fixed_most t = omega (arith, w.fixed_few, picked_most 1 (is_fixed t) (λ r e. first_three _ _ _ e) rs)
 
-  gregorian-most : (g : Date) → length (picked (is_gregorian g) rs) ≤ 64
-  gregorian-most g = omega (arith, w.gregorian_few, picked_most 2 (is_gregorian g) (λ r e. first_three _ _ _ e) rs)
+  gregorian_most : (g : Date) → length (picked (is_gregorian g) rs) ≤ 64
+  gregorian_most g = omega (arith, w.gregorian_few, picked_most 2 (is_gregorian g) (λ r e. first_three _ _ _ e) rs)
 
-  override-most : (t : BsDate) → length (picked (is_override t) rs) ≤ 128
-  override-most t = omega (arith, w.overrides_few, picked_most 4 (is_override t) (λ r e. first_four _ _ _ _ e) rs)
+  override_most : (t : BsDate) → length (picked (is_override t) rs) ≤ 128
+  override_most t = omega (arith, w.overrides_few, picked_most 4 (is_override t) (λ r e. first_four _ _ _ _ e) rs)
 
   -- from two resolved years
-  pub list-most : (q : Day) (ys : Years) → length (list_by rs q ys) ≤ 384
+  pub list_most : (q : Day) (ys : Years) → length (list_by rs q ys) ≤ 384
   unfolding list_by pairs_by
-  list-most q ys =
+  list_most q ys =
       let b = used_in rs q.bs.year ys.before.days q.number in
       let t = used_in rs q.bs.year ys.this.days q.number in
       let few-b : length b ≤ 64 = omega (arith, w.computed_few, used_most rs q.bs.year ys.before.days q.number 0 rs) in
       let few-t : length t ≤ 64 = omega (arith, w.computed_few, used_most rs q.bs.year ys.this.days q.number 0 rs) in
       let early = leb q.bs.month 2 in
       five_most (picked (falls 1 q) rs) (picked (falls 2 q) rs) (cond early b []) t (picked (falls 4 q) rs)
-      (fixed-most q.bs) (gregorian-most q.ad) (early_most early b few-b) few-t (override-most q.bs)
+      (fixed_most q.bs) (gregorian_most q.ad) (early_most early b few-b) few-t (override_most q.bs)
 
   module _ {I : Type 0} (s : Sky I) (c : Calendar) where
-    computed-most : (y : ℕ) (t : BsDate) (n : ℕ) → length (picked (isComputed s c rs y t n) rs) ≤ 64
-    unfolding isComputed
-    computed-most y t n = omega (arith, w.computed_few, picked_most 3 (isComputed s c rs y t n) (λ r e. first_three _ _ _ e) rs)
+    computed-most : (y : ℕ) (t : BsDate) (n : ℕ) → length (picked (is_computed s c rs y t n) rs) ≤ 64
+    unfolding is_computed
+    computed-most y t n = omega (arith, w.computed_few, picked_most 3 (is_computed s c rs y t n) (λ r e. first_three _ _ _ e) rs)
 
     -- at most 384 entries a day
-    pub day-most : (t : BsDate) (n : ℕ) → length (dayList s c rs t n) ≤ 384
-    unfolding dayList dayPairs
+    pub day-most : (t : BsDate) (n : ℕ) → length (day_list s c rs t n) ≤ 384
+    unfolding day_list day_pairs
     day-most t n =
-        let b = picked (isComputed s c rs (t.year - 1) t n) rs in
+        let b = picked (is_computed s c rs (t.year - 1) t n) rs in
         let early = leb t.month 2 in
-        five_most (picked (is_fixed t) rs) (picked (is_gregorian (date_of n)) rs) (cond early b []) (picked (isComputed s c rs t.year t n) rs) (picked (is_override t) rs)
-        (fixed-most t) (gregorian-most (date_of n)) (early_most early b (computed-most (t.year - 1) t n)) (computed-most t.year t n) (override-most t)
+        five_most (picked (is_fixed t) rs) (picked (is_gregorian (date_of n)) rs) (cond early b []) (picked (is_computed s c rs t.year t n) rs) (picked (is_override t) rs)
+        (fixed_most t) (gregorian_most (date_of n)) (early_most early b (computed-most (t.year - 1) t n)) (computed-most t.year t n) (override_most t)

@@ -17,8 +17,8 @@ use Rattle.conversion.specs.Flat.{date}
 use Rattle.rules.specs.declared.Rule.{Rule}
 use Rattle.rules.specs.Lent.{accepting}
 use Rattle.rules.specs.Sky.{Sky}
-use Rattle.rules.specs.Festivals.{dayList, listOnBs, listOnAd}
-use Rattle.rules.proofs.Lent.{given_not, lent-on, lent-not}
+use Rattle.rules.specs.Festivals.{day_list, listOnBs, listOnAd}
+use Rattle.rules.proofs.Lent.{given_not, lent_on, lent_not}
 
 -- what a step makes of an answer that is known
 pub then_by : {A B : Type 0} (a : Answer A) (f : A → Answer B) (x : A) → a ≡ answered x → then a f ≡ f x
@@ -29,37 +29,37 @@ then_not a f k e = rw e (then_refused k f)
 
 module _ {I : Type 0} (s : Sky I) (c : Calendar) (rs : List Rule) (ok : Bool) (y m d : ℕ) where
   -- what is lent is refused
-  pub bs-lent : (k : Refusal) → refused k ≡ accepting c ok → listOnBs s c rs ok y m d ≡ refused k
+  pub bs_lent : (k : Refusal) → refused k ≡ accepting c ok → listOnBs s c rs ok y m d ≡ refused k
   unfolding listOnBs
-  bs-lent k e = lent-not c ok _ k e
+  bs_lent k e = lent_not c ok _ k e
 
-  pub ad-lent : (k : Refusal) → refused k ≡ accepting c ok → listOnAd s c rs ok y m d ≡ refused k
+  pub ad_lent : (k : Refusal) → refused k ≡ accepting c ok → listOnAd s c rs ok y m d ≡ refused k
   unfolding listOnAd
-  ad-lent k e = lent-not c ok _ k e
+  ad_lent k e = lent_not c ok _ k e
 
   module _ (g : c.good ≡ true) (o : ok ≡ true) where
-    pub on-bs : listOnBs s c rs ok y m d ≡ then (to_day c y m d) (λ n. answered (dayList s c rs (bs y m d) n))
+    pub on_bs_law : listOnBs s c rs ok y m d ≡ then (to_day c y m d) (λ n. answered (day_list s c rs (bs y m d) n))
     unfolding listOnBs
-    on-bs = lent-on c ok _ g o
+    on_bs_law = lent_on c ok _ g o
 
-    pub bs-refused : (k : Refusal) → to_day c y m d ≡ refused k → listOnBs s c rs ok y m d ≡ refused k
-    bs-refused k e = on-bs ∙ then_not (to_day c y m d) _ k e
+    pub bs_refused : (k : Refusal) → to_day c y m d ≡ refused k → listOnBs s c rs ok y m d ≡ refused k
+    bs_refused k e = on-bs ∙ then_not (to_day c y m d) _ k e
 
-    pub bs-list : (n : ℕ) → to_day c y m d ≡ answered n → listOnBs s c rs ok y m d ≡ answered (dayList s c rs (bs y m d) n)
+    pub bs-list : (n : ℕ) → to_day c y m d ≡ answered n → listOnBs s c rs ok y m d ≡ answered (day_list s c rs (bs y m d) n)
     bs-list n e = on-bs ∙ then_by (to_day c y m d) _ n e
 
     -- its date has no number
     pub ad-no-date : (k : Refusal) → refused k ≡ number_answer (date y m d) → listOnAd s c rs ok y m d ≡ refused k
     unfolding listOnAd
-    ad-no-date k e = lent-on c ok _ g o ∙ given_not (is_date y m d) NoSuchDate k _ _ e
+    ad-no-date k e = lent_on c ok _ g o ∙ given_not (is_date y m d) NoSuchDate k _ _ e
 
     module _ (h : is_date y m d ≡ true) where
-      pub on-ad : listOnAd s c rs ok y m d ≡ then (from_day c (day_number (date y m d))) (λ t. answered (dayList s c rs t (day_number (date y m d))))
+      pub on_ad_law : listOnAd s c rs ok y m d ≡ then (from_day c (day_number (date y m d))) (λ t. answered (day_list s c rs t (day_number (date y m d))))
       unfolding listOnAd
-      on-ad = lent-on c ok _ g o ∙ given_on (is_date y m d) NoSuchDate _ h
+      on_ad_law = lent_on c ok _ g o ∙ given_on (is_date y m d) NoSuchDate _ h
 
       -- the list of a day by its number
-      pub ad-list : (n : ℕ) → n ≡ day_number (date y m d) → listOnAd s c rs ok y m d ≡ then (from_day c n) (λ t. answered (dayList s c rs t n))
+      pub ad-list : (n : ℕ) → n ≡ day_number (date y m d) → listOnAd s c rs ok y m d ≡ then (from_day c n) (λ t. answered (day_list s c rs t n))
       ad-list n q = on-ad ∙ rw q
 
 -- a test that passes, or the refusal behind it
@@ -76,10 +76,10 @@ then_past (refused j) f k e = refused_as e
 
 module _ {I : Type 0} (s : Sky I) (c : Calendar) (rs : List Rule) (ok : Bool) (y m d : ℕ) where
   -- where a list is refused with 7 the rules are good, the date is one, and its day is refused with the same
-  pub ad-outside : (k : Refusal) → c.good ≡ true → number k ≡ 7 → listOnAd s c rs ok y m d ≡ refused k
+  pub ad_outside : (k : Refusal) → c.good ≡ true → number k ≡ 7 → listOnAd s c rs ok y m d ≡ refused k
       → (ok ≡ true) × (is_date y m d ≡ true) × (from_day c (day_number (date y m d)) ≡ refused k)
   unfolding listOnAd
-  ad-outside k g n e =
+  ad_outside k g n e =
       let p = given_past ok BadRules k _ (λ z. omega arith) (sym (given_on c.good BadTable _ g) ∙ e) in
       let q = given_past (is_date y m d) NoSuchDate k _ (λ z. omega arith) p.1 in
       (p.0, q.0, then_past (from_day c (day_number (date y m d))) _ k q.1)

@@ -54,14 +54,14 @@ unfolding silenced any
 silenced_cons y name r rs = refl
 
 module _ (rules : List Rule) (y : ℕ) (d : List ℕ) (n j : ℕ) (r : Rule) (rs : List Rule) where
-  pub used-not : (r.kind ≡ 3 → ⊥) → used rules y d n j (r ∷ rs) ≡ used rules y d n j rs
+  pub used_not : (r.kind ≡ 3 → ⊥) → used rules y d n j (r ∷ rs) ≡ used rules y d n j rs
   unfolding used
-  used-not e = rw (ne_eqb r.kind 3 e)
+  used_not e = rw (ne_eqb r.kind 3 e)
 
-  pub used-is : r.kind ≡ 3
+  pub used_is : r.kind ≡ 3
       → used rules y d n j (r ∷ rs) ≡ cond (shows rules y r.name (get_or d j 0) n) ((r.name, r.holiday) ∷ used rules y d n (j + 1) rs) (used rules y d n (j + 1) rs)
   unfolding used
-  used-is e = rw (eq-eqb r.kind 3 e)
+  used_is e = rw (eq-eqb r.kind 3 e)
 
 pub none_silenced : (a : Bool) (y name : ℕ) → a ≡ (a || silenced [] y name)
 unfolding silenced any
@@ -84,16 +84,16 @@ module _ (xs : List ℕ) (i n : ℕ) (h : i < n) (r : Rule) (er : r ≡ rule_at 
   abbrev later : List Rule
   later = rest xs i n h r er
 
-  pub turn-picked : (f : Rule → Bool) (σ τ t : State) (b : Bool) → b ≡ f r → τ ≡ store_if b σ r.name r.holiday → store_pairs σ (picked f now) ≡ t → store_pairs τ (picked f later) ≡ t
-  turn-picked f σ τ t b eb et q =
+  pub turn_picked : (f : Rule → Bool) (σ τ t : State) (b : Bool) → b ≡ f r → τ ≡ store_if b σ r.name r.holiday → store_pairs σ (picked f now) ≡ t → store_pairs τ (picked f later) ≡ t
+  turn_picked f σ τ t b eb et q =
       ap (λ (z : State). store_pairs z (picked f later)) et
       ∙ store_cond b σ r.name r.holiday (picked f later)
       ∙ ap (λ (z : Bool). store_pairs σ (cond z ((r.name, r.holiday) ∷ picked f later) (picked f later))) eb
       ∙ ap (store_pairs σ) (sym (ap (picked f) (left xs i n h r er) ∙ picked_cons f r later))
       ∙ q
 
-  pub turn-silenced : (y name : ℕ) (a b t : Bool) → (a || silenced now y name) ≡ t → b ≡ overrides y name r → (a || b || silenced later y name) ≡ t
-  turn-silenced y name a b t q e =
+  pub turn_silenced : (y name : ℕ) (a b t : Bool) → (a || silenced now y name) ≡ t → b ≡ overrides y name r → (a || b || silenced later y name) ≡ t
+  turn_silenced y name a b t q e =
       or_assoc a b (silenced later y name)
       ∙ ap (λ (z : Bool). a || (z || silenced later y name)) e
       ∙ ap (λ (z : Bool). a || z) (sym (ap (λ (l : List Rule). silenced l y name) (left xs i n h r er) ∙ silenced_cons y name r later))
@@ -101,14 +101,14 @@ module _ (xs : List ℕ) (i n : ℕ) (h : i < n) (r : Rule) (er : r ≡ rule_at 
 
   module _ (rules : List Rule) (y : ℕ) (d : List ℕ) (v j : ℕ) (σ t : State) where
     pub skip-used : (r.kind ≡ 3 → ⊥) → store_pairs σ (used rules y d v j now) ≡ t → store_pairs σ (used rules y d v j later) ≡ t
-    skip-used e q = ap (store_pairs σ) (sym (ap (used rules y d v j) (left xs i n h r er) ∙ used-not rules y d v j r later e)) ∙ q
+    skip-used e q = ap (store_pairs σ) (sym (ap (used rules y d v j) (left xs i n h r er) ∙ used_not rules y d v j r later e)) ∙ q
 
     pub turn-used : r.kind ≡ 3 → (τ : State) (b : Bool) → b ≡ shows rules y r.name (get_or d j 0) v → τ ≡ store_if b σ r.name r.holiday → store_pairs σ (used rules y d v j now) ≡ t → store_pairs τ (used rules y d v (j + 1) later) ≡ t
     turn-used e τ b eb et q =
         ap (λ (z : State). store_pairs z (used rules y d v (j + 1) later)) et
         ∙ store_cond b σ r.name r.holiday (used rules y d v (j + 1) later)
         ∙ ap (λ (z : Bool). store_pairs σ (cond z ((r.name, r.holiday) ∷ used rules y d v (j + 1) later) (used rules y d v (j + 1) later))) eb
-        ∙ ap (store_pairs σ) (sym (ap (used rules y d v j) (left xs i n h r er) ∙ used-is rules y d v j r later e))
+        ∙ ap (store_pairs σ) (sym (ap (used rules y d v j) (left xs i n h r er) ∙ used_is rules y d v j r later e))
         ∙ q
 
 -- ---- what the stores come to

@@ -16,10 +16,10 @@ use Rattle.rules.specs.declared.Rule.{Rule}
 use Rattle.rules.specs.Rules.{count_kind}
 use Rattle.rules.specs.Sky.{Sky}
 use Rattle.rules.specs.Days.{holds}
-use Rattle.rules.specs.Festivals.{entry, entryOn, Pair, picked, silenced, isComputed, dayPairs, dayList}
+use Rattle.rules.specs.Festivals.{entry, entry_on, Pair, picked, silenced, is_computed, day_pairs, day_list}
 use Rattle.rules.specs.Resolved.{put_entry, filled, resolved, years_for, day_numbered, used, pairs_by, list_by}
 use Rattle.rules.proofs.Walk.{count_is, count_not}
-use Rattle.rules.proofs.Stores.{picked_cons, used-not, used-is}
+use Rattle.rules.proofs.Stores.{picked_cons, used_not, used_is}
 
 -- ---- filling the places
 
@@ -28,9 +28,9 @@ module _ {I : Type 0} (s : Sky I) (c : Calendar) (y : ℕ) (d : List ℕ) (j : �
   unfolding filled
   fill_none = refl
 
-  pub fill-not : (r : Rule) (rs : List Rule) → (r.kind ≡ 3 → ⊥) → filled s c y d j (r ∷ rs) ≡ filled s c y d j rs
+  pub fill_not : (r : Rule) (rs : List Rule) → (r.kind ≡ 3 → ⊥) → filled s c y d j (r ∷ rs) ≡ filled s c y d j rs
   unfolding filled
-  fill-not r rs e = rw (ne_eqb r.kind 3 e)
+  fill_not r rs e = rw (ne_eqb r.kind 3 e)
 
   pub fill_is : (r : Rule) (rs : List Rule) → r.kind ≡ 3 → filled s c y d j (r ∷ rs) ≡ filled s c y (put_entry d j (entry s c y r)) (j + 1) rs
   unfolding filled
@@ -76,24 +76,24 @@ module _ {I : Type 0} (s : Sky I) (c : Calendar) (rules : List Rule) (y : ℕ) w
   keeps (r ∷ rs) d j k h =
       ⊎_elim
       (λ e. ap (λ (l : List ℕ). get_or l k 0) (fill_is s c y d j r rs e) ∙ keeps rs _ (j + 1) k (omega arith) ∙ put_other d j k (entry s c y r) (λ q. omega arith))
-      (λ e. ap (λ (l : List ℕ). get_or l k 0) (fill-not s c y d j r rs e) ∙ keeps rs d j k h)
+      (λ e. ap (λ (l : List ℕ). get_or l k 0) (fill_not s c y d j r rs e) ∙ keeps rs d j k h)
       (kind_or r)
 
   module _ (t : BsDate) (n : ℕ) (p : 1 ≤ n) where
-    computed-is : (r : Rule) → r.kind ≡ 3 → isComputed s c rules y t n r ≡ (holds (entry s c y r) (λ k. eqb k n) && not (silenced rules t.year r.name))
-    unfolding isComputed entryOn
+    computed-is : (r : Rule) → r.kind ≡ 3 → is_computed s c rules y t n r ≡ (holds (entry s c y r) (λ k. eqb k n) && not (silenced rules t.year r.name))
+    unfolding is_computed entry_on
     computed-is r e = rw (eq-eqb r.kind 3 e)
 
-    computed-not : (r : Rule) → (r.kind ≡ 3 → ⊥) → isComputed s c rules y t n r ≡ false
-    unfolding isComputed
+    computed-not : (r : Rule) → (r.kind ≡ 3 → ⊥) → is_computed s c rules y t n r ≡ false
+    unfolding is_computed
     computed-not r e = rw (ne_eqb r.kind 3 e)
 
-    none_left : (d : List ℕ) (j : ℕ) → used rules t.year d n j [] ≡ picked (isComputed s c rules y t n) []
+    none_left : (d : List ℕ) (j : ℕ) → used rules t.year d n j [] ≡ picked (is_computed s c rules y t n) []
     unfolding used picked
     none_left d j = refl
 
     served : (rs : List Rule) (d : List ℕ) (j : ℕ) → j + count_kind 3 rs ≤ length d → ((k : ℕ) → j ≤ k → get_or d k 0 ≡ 0)
-        → used rules t.year (filled s c y d j rs) n j rs ≡ picked (isComputed s c rules y t n) rs
+        → used rules t.year (filled s c y d j rs) n j rs ≡ picked (is_computed s c rules y t n) rs
     served [] d j h z = none_left (filled s c y d j []) j
     served (r ∷ rs) d j h z =
         ⊎_elim
@@ -101,24 +101,24 @@ module _ {I : Type 0} (s : Sky I) (c : Calendar) (rules : List Rule) (y : ℕ) w
         let o = entry s c y r in
         let d' = put_entry d j o in
         let w = filled s c y d' (j + 1) rs in
-        let ih : used rules t.year w n (j + 1) rs ≡ picked (isComputed s c rules y t n) rs =
+        let ih : used rules t.year w n (j + 1) rs ≡ picked (is_computed s c rules y t n) rs =
         served rs d' (j + 1) (omega (arith, count_is 3 r rs e, put_length d j o)) (λ k l. put_other d j k o (λ q. omega arith) ∙ z k (omega arith)) in
         let q : eqb (get_or w j 0) n ≡ holds o (λ k. eqb k n) =
         ap (λ (k : ℕ). eqb k n) (keeps rs d' (j + 1) j (omega arith)) ∙ put_on d j o n (omega (arith, count_is 3 r rs e)) (z j (omega arith)) p in
         ap (λ (l : List ℕ). used rules t.year l n j (r ∷ rs)) (fill_is s c y d j r rs e)
-        ∙ used-is rules t.year w n j r rs e
+        ∙ used_is rules t.year w n j r rs e
         ∙ both (r.name, r.holiday) _ _ _ _ (ap (λ (b : Bool). b && not (silenced rules t.year r.name)) q ∙ sym (computed-is r e)) ih
-        ∙ sym (picked_cons (isComputed s c rules y t n) r rs))
+        ∙ sym (picked_cons (is_computed s c rules y t n) r rs))
         (λ e.
-        ap (λ (l : List ℕ). used rules t.year l n j (r ∷ rs)) (fill-not s c y d j r rs e)
-        ∙ used-not rules t.year (filled s c y d j rs) n j r rs e
+        ap (λ (l : List ℕ). used rules t.year l n j (r ∷ rs)) (fill_not s c y d j r rs e)
+        ∙ used_not rules t.year (filled s c y d j rs) n j r rs e
         ∙ served rs d j (omega (arith, count_not 3 r rs e)) z
-        ∙ ap (λ (b : Bool). cond b ((r.name, r.holiday) ∷ picked (isComputed s c rules y t n) rs) (picked (isComputed s c rules y t n) rs)) (sym (computed-not r e))
-        ∙ sym (picked_cons (isComputed s c rules y t n) r rs))
+        ∙ ap (λ (b : Bool). cond b ((r.name, r.holiday) ∷ picked (is_computed s c rules y t n) rs) (picked (is_computed s c rules y t n) rs)) (sym (computed-not r e))
+        ∙ sym (picked_cons (is_computed s c rules y t n) r rs))
         (kind_or r)
 
     -- from nothing
-    from_none : (rs : List Rule) → count_kind 3 rs ≤ 64 → used rules t.year (resolved s c y rs) n 0 rs ≡ picked (isComputed s c rules y t n) rs
+    from_none : (rs : List Rule) → count_kind 3 rs ≤ 64 → used rules t.year (resolved s c y rs) n 0 rs ≡ picked (is_computed s c rules y t n) rs
     unfolding resolved
     from_none rs h = served rs (replicate 64 0) 0 (omega (arith, length-replicate {A = ℕ} 64 0)) (λ k l. zeros 64 k)
 
@@ -129,8 +129,8 @@ early_only false f d z v h = refl
 
 -- a day's list from the two years of its month
 pub two_years : {I : Type 0} (s : Sky I) (c : Calendar) (rs : List Rule) (t : BsDate) (n : ℕ) → count_kind 3 rs ≤ 64 → 1 ≤ n
-    → list_by rs (day_numbered t n) (years_for s c rs t.year t.month) ≡ dayList s c rs t n
-unfolding list_by pairs_by years_for dayList dayPairs
+    → list_by rs (day_numbered t n) (years_for s c rs t.year t.month) ≡ day_list s c rs t n
+unfolding list_by pairs_by years_for day_list day_pairs
 two_years s c rs t n h p =
     let b = early_only (leb t.month 2) (λ (d : List ℕ). used rs t.year d n 0 rs) _ (replicate 64 0) _ (from_none s c rs (t.year - 1) t n p rs h) in
     rw (b, from_none s c rs t.year t n p rs h)

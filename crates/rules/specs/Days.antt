@@ -56,6 +56,6 @@ module _ {I : Type 0} (s : Sky I) where
   asked_day (suc r) b e k n = or_else (claimed b e k n) (asked_day r b e udaya n)
 
   -- the day of a festival: the tithi, its kala, and the instant at which it begins
-  unfoldable pub festivalDay : ℕ → ℕ → I → Option ℕ
-  festivalDay t k b =
+  unfoldable pub festival_day : ℕ → ℕ → I → Option ℕ
+  festival_day t k b =
       next (s.day_of b) (λ n. cond (eqb k begins) (some n) (next (s.end_of t b) (λ e. some (asked_day (rank k) b e k n))))

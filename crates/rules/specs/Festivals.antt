@@ -10,7 +10,7 @@ use Rattle.conversion.specs.Calendar.{Calendar, year_ok, day_at, to_day, from_da
 use Rattle.rules.specs.declared.Rule.{Rule}
 use Rattle.rules.specs.Lent.{lent}
 use Rattle.rules.specs.Sky.{Sky}
-use Rattle.rules.specs.Days.{next, holds, festivalDay}
+use Rattle.rules.specs.Days.{next, holds, festival_day}
 
 -- ---- a BS year
 
@@ -48,24 +48,24 @@ module _ {I : Type 0} (s : Sky I) (c : Calendar) where
   moons y = cond (c.good && year_ok c y) (s.new_moons (first_day c y) (last_day c y)) []
 
   -- an instant lies in month m of year y, by its day in Nepal
-  unfoldable pub inMonth : ℕ → ℕ → I → Bool
-  inMonth y m x = holds (s.day_of x) (λ n. dated (from_day c n) (λ t. eqb t.year y && eqb t.month m))
+  unfoldable pub in_month : ℕ → ℕ → I → Bool
+  in_month y m x = holds (s.day_of x) (λ n. dated (from_day c n) (λ t. eqb t.year y && eqb t.month m))
 
   -- the new moon that opens lunar month m of year y: the last in the solar month
   unfoldable pub opening : ℕ → ℕ → Option I
-  opening y m = last_of (inMonth y m) none (moons y)
+  opening y m = last_of (in_month y m) none (moons y)
 
   -- the day of a computed rule in year y, in the table or not
-  unfoldable pub ruleDay : ℕ → Rule → Option ℕ
-  ruleDay y r =
-      next (opening y r.month) (λ x. next (beginning s (tithi r) x) (λ b. festivalDay s (tithi r) r.kala b))
+  unfoldable pub rule_day : ℕ → Rule → Option ℕ
+  rule_day y r =
+      next (opening y r.month) (λ x. next (beginning s (tithi r) x) (λ b. festival_day s (tithi r) r.kala b))
 
   -- the computed entry of a rule in year y
   unfoldable pub entry : ℕ → Rule → Option ℕ
-  entry y r = next (ruleDay y r) (in_table c)
+  entry y r = next (rule_day y r) (in_table c)
 
-  unfoldable pub entryOn : ℕ → Rule → ℕ → Bool
-  entryOn y r n = holds (entry y r) (λ k. eqb k n)
+  unfoldable pub entry_on : ℕ → Rule → ℕ → Bool
+  entry_on y r n = holds (entry y r) (λ k. eqb k n)
 
 -- ---- a day's list
 
@@ -109,32 +109,32 @@ is_override t r = eqb r.kind 4 && eqb r.year t.year && eqb r.month t.month && eq
 
 module _ {I : Type 0} (s : Sky I) (c : Calendar) (rs : List Rule) where
   -- a computed rule, resolved in year y, falls on the day, and the day's own year does not silence it
-  unfoldable pub isComputed : ℕ → BsDate → ℕ → Rule → Bool
-  isComputed y t n r = eqb r.kind 3 && entryOn s c y r n && not (silenced rs t.year r.name)
+  unfoldable pub is_computed : ℕ → BsDate → ℕ → Rule → Bool
+  is_computed y t n r = eqb r.kind 3 && entry_on s c y r n && not (silenced rs t.year r.name)
 
   -- day number n, whose BS date is t: kind 1, kind 2, computed from the year before, computed from this year, kind 4
-  unfoldable pub dayPairs : BsDate → ℕ → List Pair
-  dayPairs t n =
+  unfoldable pub day_pairs : BsDate → ℕ → List Pair
+  day_pairs t n =
       picked (is_fixed t) rs
       ++ picked (is_gregorian (date_of n)) rs
-      ++ cond (leb t.month 2) (picked (isComputed (t.year - 1) t n) rs) []
-      ++ picked (isComputed t.year t n) rs
+      ++ cond (leb t.month 2) (picked (is_computed (t.year - 1) t n) rs) []
+      ++ picked (is_computed t.year t n) rs
       ++ picked (is_override t) rs
 
-  unfoldable pub dayList : BsDate → ℕ → List Pair
-  dayList t n = kept (dayPairs t n)
+  unfoldable pub day_list : BsDate → ℕ → List Pair
+  day_list t n = kept (day_pairs t n)
 
   -- ---- the questions; ok says whether the rules are good
   module _ (ok : Bool) where
     -- asked by BS date: refusals 1, 2, 4, 5, 6
     unfoldable pub listOnBs : ℕ → ℕ → ℕ → Answer (List Pair)
-    listOnBs y m d = lent c ok (then (to_day c y m d) (λ n. answered (dayList (record { year = y; month = m; day = d }) n)))
+    listOnBs y m d = lent c ok (then (to_day c y m d) (λ n. answered (day_list (record { year = y; month = m; day = d }) n)))
 
     -- asked by Gregorian date: refusals 1, 2, 3, 7
     unfoldable pub listOnAd : ℕ → ℕ → ℕ → Answer (List Pair)
     listOnAd y m d =
         let n = day_number (record { year = y; month = m; day = d }) in
-        lent c ok (given (is_date y m d) NoSuchDate (then (from_day c n) (λ t. answered (dayList t n))))
+        lent c ok (given (is_date y m d) NoSuchDate (then (from_day c n) (λ t. answered (day_list t n))))
 
 -- ---- what is answered and written
 

@@ -33,17 +33,17 @@ module _ {I : Type 0} (s : Sky I) (rs : List Rule) (ok : Bool) (out : List ℕ) 
     pub opens : (y m : ℕ) → y < short.first + short.years → opening s short y m ≡ opening s long y m
     pub entries : (y : ℕ) (r : Rule) → y < short.first + short.years → SameEntry short long (entry s short y r) (entry s long y r)
     -- every list that the shorter answers
-    pub on-bs : (y m d : ℕ) (l : List Pair) → listOnBs s short rs ok y m d ≡ answered l
+    pub on_bs_law : (y m d : ℕ) (l : List Pair) → listOnBs s short rs ok y m d ≡ answered l
         → SameList (listOnBs s short rs ok y m d) (listOnBs s long rs ok y m d) out l
-    pub on-ad : (y m d : ℕ) (l : List Pair) → listOnAd s short rs ok y m d ≡ answered l
+    pub on_ad_law : (y m d : ℕ) (l : List Pair) → listOnAd s short rs ok y m d ≡ answered l
         → SameList (listOnAd s short rs ok y m d) (listOnAd s long rs ok y m d) out l
     -- a list that the longer answers is refused by the shorter exactly if its day lies in an added year
-    pub on-bs-added : (y m d : ℕ) (l : List Pair) → listOnBs s long rs ok y m d ≡ answered l → RefusedIf (listOnBs s short rs ok y m d) NoYear (Added short y)
-    pub on-ad-added : (y m d : ℕ) (l : List Pair) → listOnAd s long rs ok y m d ≡ answered l
+    pub on_bs_added : (y m d : ℕ) (l : List Pair) → listOnBs s long rs ok y m d ≡ answered l → RefusedIf (listOnBs s short rs ok y m d) NoYear (Added short y)
+    pub on_ad_added : (y m d : ℕ) (l : List Pair) → listOnAd s long rs ok y m d ≡ answered l
         → RefusedIf (listOnAd s short rs ok y m d) (outside short (day_number (date y m d))) (AddedDay short long (day_number (date y m d)))
     -- of a day outside, the days before the first day stay; those after the last become a list in an added year, or are fewer by the days added
-    pub on-ad-before : (y m d k : ℕ) → listOnAd s short rs ok y m d ≡ refused (Before k) → listOnAd s long rs ok y m d ≡ refused (Before k)
-    pub on-ad-reached : (y m d k : ℕ) → listOnAd s short rs ok y m d ≡ refused (After k) → k ≤ added_days short long
+    pub on_ad_before : (y m d k : ℕ) → listOnAd s short rs ok y m d ≡ refused (Before k) → listOnAd s long rs ok y m d ≡ refused (Before k)
+    pub on_ad_reached : (y m d k : ℕ) → listOnAd s short rs ok y m d ≡ refused (After k) → k ≤ added_days short long
         → (l : List Pair) × ((listOnAd s long rs ok y m d ≡ answered l) × AddedDay short long (day_number (date y m d)))
-    pub on-ad-after : (y m d k : ℕ) → listOnAd s short rs ok y m d ≡ refused (After k) → added_days short long < k
+    pub on_ad_after : (y m d k : ℕ) → listOnAd s short rs ok y m d ≡ refused (After k) → added_days short long < k
         → listOnAd s long rs ok y m d ≡ refused (After (k - added_days short long))

@@ -26,8 +26,8 @@ rules_of xs = rules_from xs 0 (length xs / 8)
 
 module _ (r : Rule) where
   -- a date: month 1 to 12, and a day from 1 to so many
-  abbrev pub hasDate : ℕ → Bool
-  hasDate most = leb 1 r.month && leb r.month 12 && leb 1 r.day && leb r.day most
+  abbrev pub has_date : ℕ → Bool
+  has_date most = leb 1 r.month && leb r.month 12 && leb 1 r.day && leb r.day most
 
   -- half and kala are not used
   abbrev pub plain : Bool
@@ -35,19 +35,19 @@ module _ (r : Rule) where
 
   -- kind 1: a fixed BS date
   abbrev pub fixed : Bool
-  fixed = eqb r.kind 1 && eqb r.year 0 && hasDate 32 && plain
+  fixed = eqb r.kind 1 && eqb r.year 0 && has_date 32 && plain
 
   -- kind 2: a fixed Gregorian date
   abbrev pub gregorian : Bool
-  gregorian = eqb r.kind 2 && eqb r.year 0 && hasDate 31 && plain
+  gregorian = eqb r.kind 2 && eqb r.year 0 && has_date 31 && plain
 
   -- kind 3: a tithi of a lunar month, in a half, at a kala
   abbrev pub computed : Bool
-  computed = eqb r.kind 3 && eqb r.year 0 && hasDate 15 && leb r.half 1 && leb r.kala 5
+  computed = eqb r.kind 3 && eqb r.year 0 && has_date 15 && leb r.half 1 && leb r.kala 5
 
   -- kind 4: an override, of any year
   abbrev pub override : Bool
-  override = eqb r.kind 4 && hasDate 32 && plain
+  override = eqb r.kind 4 && has_date 32 && plain
 
 -- a rule keeps the line of its kind; the holiday is 0 or 1 and the name is free
 unfoldable pub rule_good : Rule → Bool

@@ -7,7 +7,7 @@ ghost use Rattle.std.specs.Prelude.{◌≡◌, ◌+◌, ◌*◌, ◌/◌, ◌≤
 ghost use Rattle.conversion.specs.Flat.{flat};
 ghost use Rattle.conversion.specs.Answers.{valid_says};
 ghost use Rattle.rules.specs.Lent.{accepting};
-ghost use Rattle.rules.specs.Rules.{rule_at, rules_of, hasDate, rule_good, all_good, count_kind, accepted_rules};
+ghost use Rattle.rules.specs.Rules.{rule_at, rules_of, has_date, rule_good, all_good, count_kind, accepted_rules};
 
 use conversion::{Table, Validity};
 use paper::Refusal;
@@ -45,7 +45,7 @@ pub fn rule_at(rules: &[u16], i: usize) -> Rule
 
 // Whether a rule has a month from 1 to 12 and a day from 1 to so many.
 fn has_date(r: Rule, most: u16) -> bool
-    ensures { result ≡ hasDate r most }
+    ensures { result ≡ has_date r most }
 {
     (1 <= r.month) & (r.month <= 12) & (1 <= r.day) & (r.day <= most)
 }

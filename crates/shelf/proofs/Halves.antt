@@ -5,7 +5,7 @@ use mathlib.Core.List.{List, [], ◌∷◌, ◌++◌, append-nil}
 use native.Mathlib.Omega.{arith}
 use lib.ListN.{length, get_or, drop, set, replicate, length-replicate, drop_of_length-le}
 use lib.Seq.{sets, drop-cons, drop-drop, get_or-drop}
-use Rattle.paper.proofs.Stores.{sets-front}
+use Rattle.paper.proofs.Stores.{sets_front}
 use Rattle.shelf.specs.Numbers.{halves}
 use Rattle.shelf.specs.Inner.{wholes}
 
@@ -40,10 +40,10 @@ length_wholes (suc n) l = ap suc (length_wholes n (drop 2 l))
 
 module _ (a : List ℕ) where
   -- a turn of the loop: what is left to read
-  pub wholes-turn : (l : List ℕ) (at i x y z : ℕ) → i < 64 → x ≡ get_or a (at + i * 2) 0 → y ≡ get_or a (at + i * 2 + 1) 0 → z ≡ x + 65536 * y
+  pub wholes_turn : (l : List ℕ) (at i x y z : ℕ) → i < 64 → x ≡ get_or a (at + i * 2) 0 → y ≡ get_or a (at + i * 2 + 1) 0 → z ≡ x + 65536 * y
       → sets (set l i z) (i + 1) (wholes (64 - (i + 1)) (drop (at + (i + 1) * 2) a)) ≡ sets l i (wholes (64 - i) (drop (at + i * 2) a))
   unfolding wholes
-  wholes-turn l at i x y z h u v w =
+  wholes_turn l at i x y z h u v w =
       let e : 64 - i ≡ suc (64 - (i + 1)) = omega arith in
       let f : at + (i + 1) * 2 ≡ at + i * 2 + 2 = omega arith in
       let g : i + 1 ≡ suc i = omega arith in
@@ -54,7 +54,7 @@ module _ (a : List ℕ) where
 wholes_front : (l : List ℕ) → sets (replicate 64 0) 0 (wholes 64 l) ≡ wholes 64 l
 wholes_front l =
     let n : length (replicate {A = ℕ} 64 0) ≤ length (wholes 64 l) = omega (arith, length_wholes 64 l, length-replicate {A = ℕ} 64 0) in
-    sets-front (wholes 64 l) (replicate 64 0) (omega (arith, length_wholes 64 l, length-replicate {A = ℕ} 64 0))
+    sets_front (wholes 64 l) (replicate 64 0) (omega (arith, length_wholes 64 l, length-replicate {A = ℕ} 64 0))
     ∙ ap (λ (z : List ℕ). wholes 64 l ++ z) (drop_of_length-le (replicate 64 0) {i = length (wholes 64 l)} n)
     ∙ append-nil (wholes 64 l)
 

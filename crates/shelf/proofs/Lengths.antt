@@ -33,17 +33,17 @@ length_entry d j (some n) = length-set d j n
 length_entry d j none = refl
 
 module _ {I : Type 0} (s : Sky I) (c : Calendar) (y : ℕ) where
-  length-filled : (d : List ℕ) (j : ℕ) (rs : List Rule) → length (filled s c y d j rs) ≡ length d
+  length_filled : (d : List ℕ) (j : ℕ) (rs : List Rule) → length (filled s c y d j rs) ≡ length d
   unfolding filled
-  length-filled d j [] = refl
-  length-filled d j (r ∷ rs) =
+  length_filled d j [] = refl
+  length_filled d j (r ∷ rs) =
       either (eqb r.kind 3) _ _ (length d)
-      (length-filled (put_entry d j (entry s c y r)) (j + 1) rs ∙ length_entry d j (entry s c y r))
-      (length-filled d j rs)
+      (length_filled (put_entry d j (entry s c y r)) (j + 1) rs ∙ length_entry d j (entry s c y r))
+      (length_filled d j rs)
 
-  length-resolved : (rs : List Rule) → length (resolved s c y rs) ≡ 64
+  length_resolved : (rs : List Rule) → length (resolved s c y rs) ≡ 64
   unfolding resolved
-  length-resolved rs = length-filled (replicate 64 0) 0 rs ∙ length-replicate {A = ℕ} 64 0
+  length_resolved rs = length_filled (replicate 64 0) 0 rs ∙ length-replicate {A = ℕ} 64 0
 
 -- the days of the years that are worked out
 module _ (c : Calendar) (rules : List ℕ) where
@@ -51,13 +51,13 @@ module _ (c : Calendar) (rules : List ℕ) where
   unfolding store_of
   length_before [] = length-replicate {A = ℕ} 64 0
   length_before (y ∷ []) = length-replicate {A = ℕ} 64 0
-  length_before (y ∷ z ∷ ys) = length-resolved kathmandu c y (rules_of rules)
+  length_before (y ∷ z ∷ ys) = length_resolved kathmandu c y (rules_of rules)
 
-  length-this : (ys : List ℕ) → length (store_of (fresh_all c rules ys)).years.this.days ≡ 64
+  length_this : (ys : List ℕ) → length (store_of (fresh_all c rules ys)).years.this.days ≡ 64
   unfolding store_of
-  length-this [] = length-replicate {A = ℕ} 64 0
-  length-this (y ∷ []) = length-resolved kathmandu c y (rules_of rules)
-  length-this (y ∷ z ∷ ys) = length-resolved kathmandu c z (rules_of rules)
+  length_this [] = length-replicate {A = ℕ} 64 0
+  length_this (y ∷ []) = length_resolved kathmandu c y (rules_of rules)
+  length_this (y ∷ z ∷ ys) = length_resolved kathmandu c z (rules_of rules)
 
 -- ---- a good state
 
@@ -65,18 +65,18 @@ length_padded : (n : ℕ) (l : List ℕ) → length l ≤ n → length (padded n
 length_padded n l h = omega (arith, length-append l (replicate (n - length l) 0), length-replicate {A = ℕ} (n - length l) 0)
 
 module _ (σ : State) (g : Good σ) where
-  pub few-rows : length σ.rows ≤ 1664
-  few-rows = ⊎_elim (λ e. omega (arith, ap length e)) (λ e. let f = (facts σ.table σ.rows e).frame in omega arith) g.table
+  pub few_rows : length σ.rows ≤ 1664
+  few_rows = ⊎_elim (λ e. omega (arith, ap length e)) (λ e. let f = (facts σ.table σ.rows e).frame in omega arith) g.table
 
-  pub few-rule-numbers : length σ.rules ≤ 2560
-  few-rule-numbers = few_rules σ.rules g.rules
+  pub few_rule_numbers : length σ.rules ≤ 2560
+  few_rule_numbers = few_rules σ.rules g.rules
 
-  pub good-sizes : Sized (record_of σ)
-  good-sizes =
+  pub good_sizes : Sized (record_of σ)
+  good_sizes =
       let ys = year_numbers σ.stored in
       record {
-        rows = length_padded 1664 σ.rows few-rows;
-        rules = length_padded 2560 σ.rules few-rule-numbers;
+        rows = length_padded 1664 σ.rows few_rows;
+        rules = length_padded 2560 σ.rules few_rule_numbers;
         before = ap (λ ks. length (store_of ks).years.before.days) g.stored ∙ length_before (calendar σ) σ.rules ys;
-        this = ap (λ ks. length (store_of ks).years.this.days) g.stored ∙ length-this (calendar σ) σ.rules ys;
+        this = ap (λ ks. length (store_of ks).years.this.days) g.stored ∙ length_this (calendar σ) σ.rules ys;
       }

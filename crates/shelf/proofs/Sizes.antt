@@ -6,10 +6,10 @@ use native.Mathlib.Omega.{arith}
 use borrow.Author.Tests.{le-leb, lt-leb}
 use lib.ListN.{length, take, drop, replicate, length-map, length-append, length-take}
 use lib.Seq.{sets}
-use Rattle.paper.proofs.Stores.{sets-append, sets-front}
+use Rattle.paper.proofs.Stores.{sets_append, sets_front}
 use Rattle.kept.specs.declared.Kept.{Kept}
 use Rattle.kept.specs.Held.{padded}
-use Rattle.kept.proofs.Records.{zeros-front}
+use Rattle.kept.proofs.Records.{zeros_front}
 use Rattle.shelf.specs.Numbers.{halves, head_of, numbers_of}
 use Rattle.shelf.specs.Inner.{placed}
 use Rattle.shelf.proofs.Halves.{length_halves}
@@ -29,7 +29,7 @@ pub record Sized (k : Kept) : Type 0 where
 
 -- two runs one after the other are one run
 run : (l m vs ws : List ℕ) (i j : ℕ) → m ≡ sets l i vs → i + length vs ≡ j → sets m j ws ≡ sets l i (vs ++ ws)
-run l m vs ws i j p e = ap (λ (z : List ℕ). sets z j ws) p ∙ ap (λ (n : ℕ). sets (sets l i vs) n ws) (sym e) ∙ sym (sets-append vs ws l i)
+run l m vs ws i j p e = ap (λ (z : List ℕ). sets z j ws) p ∙ ap (λ (n : ℕ). sets (sets l i vs) n ws) (sym e) ∙ sym (sets_append vs ws l i)
 
 module _ (k : Kept) (s : Sized k) where
   abbrev before : List ℕ
@@ -64,7 +64,7 @@ module _ (k : Kept) (s : Sized k) where
       ∙ run c d k.rules (before ++ this) 1672 4232 r (omega (arith, s.rules))
       ∙ run b c k.rows (k.rules ++ (before ++ this)) 8 1672 q (omega (arith, s.rows))
       ∙ run a b (head_of k) (k.rows ++ (k.rules ++ (before ++ this))) 0 8 (p ∙ ap (sets a 0) g) (omega arith)
-      ∙ sets-front (numbers_of k) a (omega (arith, length_numbers))
+      ∙ sets_front (numbers_of k) a (omega (arith, length_numbers))
       ∙ ap (λ (n : ℕ). numbers_of k ++ drop n a) length_numbers
 
 -- what a test leaves
@@ -73,13 +73,13 @@ module _ (k : Kept) (a : List ℕ) where
   unfolding placed
   no_room h = rw (lt-leb 4488 (length a) h)
 
-  pub long-rows : 4488 ≤ length a → 65535 < k.row_len → placed k a ≡ a
+  pub long_rows : 4488 ≤ length a → 65535 < k.row_len → placed k a ≡ a
   unfolding placed
-  long-rows h l = rw (le-leb 4488 (length a) h, lt-leb k.row_len 65535 l)
+  long_rows h l = rw (le-leb 4488 (length a) h, lt-leb k.row_len 65535 l)
 
-  pub long-rules : 4488 ≤ length a → k.row_len ≤ 65535 → 65535 < k.rule_len → placed k a ≡ a
+  pub long_rules : 4488 ≤ length a → k.row_len ≤ 65535 → 65535 < k.rule_len → placed k a ≡ a
   unfolding placed
-  long-rules h l m = rw (le-leb 4488 (length a) h, le-leb k.row_len 65535 l, lt-leb k.rule_len 65535 m)
+  long_rules h l m = rw (le-leb 4488 (length a) h, le-leb k.row_len 65535 l, lt-leb k.rule_len 65535 m)
 
   pub fitting : 4488 ≤ length a → k.row_len ≤ 65535 → k.rule_len ≤ 65535 → placed k a ≡ numbers_of k ++ drop 4488 a
   unfolding placed
@@ -88,8 +88,8 @@ module _ (k : Kept) (a : List ℕ) where
 -- ---- read
 
 module _ (n : ℕ) (l m : List ℕ) (e : m ≡ take n l) where
-  pub part-fits : length m ≤ n
-  part-fits = omega (arith, length-take n l, ap length e)
+  pub part_fits : length m ≤ n
+  part_fits = omega (arith, length-take n l, ap length e)
 
-  pub part-read : (r : List ℕ) → r ≡ sets (replicate n 0) 0 m → r ≡ padded n (take n l)
-  part-read r p = p ∙ zeros-front n m part-fits ∙ ap (padded n) e
+  pub part_read : (r : List ℕ) → r ≡ sets (replicate n 0) 0 m → r ≡ padded n (take n l)
+  part_read r p = p ∙ zeros_front n m part_fits ∙ ap (padded n) e

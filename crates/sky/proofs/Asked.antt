@@ -54,18 +54,18 @@ head_instant (y ∷ l) {x} h e = let q : y ≡ x = cc in rw (← q) h.0
 
 -- ---- what a search asks: f agrees with g at every instant, so the two searches are one. And what it finds is an instant
 module _ (f g : Float → Float) (same : (x : Float) → T (instant x) → f x ≡ g x) where
-  pub halved-same : (n : ℕ) (a b : Float) → T (instant a) → T (instant b) → halved f n a b ≡ halved g n a b
+  pub halved_same : (n : ℕ) (a b : Float) → T (instant a) → T (instant b) → halved f n a b ≡ halved g n a b
   unfolding halved
-  halved-same zero a b h k = refl
-  halved-same (suc n) a b h k =
+  halved_same zero a b h k = refl
+  halved_same (suc n) a b h k =
       let mid = (a ⊕ b) ⊘ dec 2 0 in
       let m = middle_instant a b h k in
       let low = le (g mid) (dec 0 0) in
-      rw (same mid m) (halved-same n (cond low mid a) (cond low b mid) (picked low mid a m h) (picked low b mid k m))
+      rw (same mid m) (halved_same n (cond low mid a) (cond low b mid) (picked low mid a m h) (picked low b mid k m))
 
-  here-same : (lo hi : Float) → T (instant lo) → T (instant hi) → here f lo hi ≡ here g lo hi
+  here_same : (lo hi : Float) → T (instant lo) → T (instant hi) → here f lo hi ≡ here g lo hi
   unfolding here
-  here-same lo hi h k = rw (same lo h, same hi k, halved-same 30 lo hi h k)
+  here_same lo hi h k = rw (same lo h, same hi k, halved_same 30 lo hi h k)
 
   walk_same : (n : ℕ) (go : Bool) (to lo : Float) → T (instant to) → T (instant lo) → walk f n go to lo ≡ walk g n go to lo
   unfolding walk
@@ -74,43 +74,43 @@ module _ (f g : Float → Float) (same : (x : Float) → T (instant x) → f x �
   walk_same (suc n) true to lo h k =
       let hi = step_end to lo in
       let i = step_instant to lo h k in
-      rw (here-same lo hi k i, walk_same n (lt hi to) to hi h i)
+      rw (here_same lo hi k i, walk_same n (lt hi to) to hi h i)
 
-  pub searched-same : (a to : Float) → T (instant a) → T (instant to) → searched f a to ≡ searched g a to
+  pub searched_same : (a to : Float) → T (instant a) → T (instant to) → searched f a to ≡ searched g a to
   unfolding searched
-  searched-same a to h k = walk_same 1024 (lt a to) to a k h
+  searched_same a to h k = walk_same 1024 (lt a to) to a k h
 
 module _ (f : Float → Float) where
-  pub halved-instant : (n : ℕ) (a b : Float) → T (instant a) → T (instant b) → T (instant (halved f n a b))
+  pub halved_instant : (n : ℕ) (a b : Float) → T (instant a) → T (instant b) → T (instant (halved f n a b))
   unfolding halved
-  halved-instant zero a b h k = middle_instant a b h k
-  halved-instant (suc n) a b h k =
+  halved_instant zero a b h k = middle_instant a b h k
+  halved_instant (suc n) a b h k =
       let mid = (a ⊕ b) ⊘ dec 2 0 in
       let m = middle_instant a b h k in
       let low = le (f mid) (dec 0 0) in
-      halved-instant n (cond low mid a) (cond low b mid) (picked low mid a m h) (picked low b mid k m)
+      halved_instant n (cond low mid a) (cond low b mid) (picked low mid a m h) (picked low b mid k m)
 
   -- ---- every start is an instant
-  few-instants : (b : Bool) (x : Float) → T (instant x) → Instants (cond b (x ∷ []) [])
-  few-instants true x h = (h, tt)
-  few-instants false x h = tt
+  few_instants : (b : Bool) (x : Float) → T (instant x) → Instants (cond b (x ∷ []) [])
+  few_instants true x h = (h, tt)
+  few_instants false x h = tt
 
-  here-instants : (lo hi : Float) → T (instant lo) → T (instant hi) → Instants (here f lo hi)
+  here_instants : (lo hi : Float) → T (instant lo) → T (instant hi) → Instants (here f lo hi)
   unfolding here
-  here-instants lo hi h k = few-instants (crosses (f lo) (f hi)) (halved f 30 lo hi) (halved-instant 30 lo hi h k)
+  here_instants lo hi h k = few_instants (crosses (f lo) (f hi)) (halved f 30 lo hi) (halved_instant 30 lo hi h k)
 
-  walk-instants : (n : ℕ) (go : Bool) (to lo : Float) → T (instant to) → T (instant lo) → Instants (walk f n go to lo).starts
+  walk_instants : (n : ℕ) (go : Bool) (to lo : Float) → T (instant to) → T (instant lo) → Instants (walk f n go to lo).starts
   unfolding walk
-  walk-instants zero go to lo h k = tt
-  walk-instants (suc n) false to lo h k = tt
-  walk-instants (suc n) true to lo h k =
+  walk_instants zero go to lo h k = tt
+  walk_instants (suc n) false to lo h k = tt
+  walk_instants (suc n) true to lo h k =
       let hi = step_end to lo in
       let i = step_instant to lo h k in
-      joined (here f lo hi) (walk f n (lt hi to) to hi).starts (here-instants lo hi k i) (walk-instants n (lt hi to) to hi h i)
+      joined (here f lo hi) (walk f n (lt hi to) to hi).starts (here_instants lo hi k i) (walk_instants n (lt hi to) to hi h i)
 
-  pub starts-instants : (a to : Float) → T (instant a) → T (instant to) → Instants (searched f a to).starts
+  pub starts_instants : (a to : Float) → T (instant a) → T (instant to) → Instants (searched f a to).starts
   unfolding searched
-  starts-instants a to h k = walk-instants 1024 (lt a to) to a k h
+  starts_instants a to h k = walk_instants 1024 (lt a to) to a k h
 
-  pub first-instant : (a to : Float) {x : Float} → T (instant a) → T (instant to) → first (searched f a to).starts ≡ some x → T (instant x)
-  first-instant a to h k e = head_instant (searched f a to).starts (starts-instants a to h k) e
+  pub first_instant : (a to : Float) {x : Float} → T (instant a) → T (instant to) → first (searched f a to).starts ≡ some x → T (instant x)
+  first_instant a to h k e = head_instant (searched f a to).starts (starts_instants a to h k) e

@@ -18,7 +18,7 @@ use Rattle.sky.specs.Sun.{sun_longitude}
 use Rattle.sky.specs.Moon.{moon_longitude}
 use Rattle.sky.specs.Tithi.{elongation_of}
 use Rattle.sky.proofs.Norms.{Upto}
-use Rattle.sky.proofs.Numbers.{day_between, centuries_number, sun_upto, moon-upto, elongation_number}
+use Rattle.sky.proofs.Numbers.{day_between, centuries_number, sun_upto, moon_upto, elongation_number}
 
 low : (s : Bool) (m : ℕ) (e : ℤ) → (s ≡ false) ⊎ (m * up e ≡ 0) → T (le (dec 0 0) (fin s m e))
 unfolding le near
@@ -51,7 +51,7 @@ pub sun_degrees : (tt : Float) → T (tt_day tt) → Degrees (sun_longitude (jul
 sun_degrees tt h = degrees (sun_upto (centuries_number (day_between tt h)))
 
 pub moon_degrees : (tt : Float) → T (tt_day tt) → Degrees (moon_longitude (julian_centuries tt))
-moon_degrees tt h = degrees (moon-upto (centuries_number (day_between tt h)))
+moon_degrees tt h = degrees (moon_upto (centuries_number (day_between tt h)))
 
 pub elongation_degrees : (ut : Float) → T (instant ut) → Degrees (elongation_of ut)
 elongation_degrees ut h = degrees (elongation_number ut h)

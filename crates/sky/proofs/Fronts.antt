@@ -12,8 +12,8 @@ module _ {A : Type 0} (s d : List A) where
   pub front_length : (i : ℕ) → i ≤ length s → i ≤ length d → length (take i s ++ drop i d) ≡ length d
   front_length i hs hd = simp (length-append, length-drop, length-take-le i s hs) (omega arith)
 
-  pub front-more : (z : A) (i : ℕ) → i < length s → i < length d → set (take i s ++ drop i d) i (get_or s i z) ≡ take (i + 1) s ++ drop (i + 1) d
-  front-more z i hs hd =
+  pub front_more : (z : A) (i : ℕ) → i < length s → i < length d → set (take i s ++ drop i d) i (get_or s i z) ≡ take (i + 1) s ++ drop (i + 1) d
+  front_more z i hs hd =
       ap (λ (r : List A). set (take i s ++ r) i (get_or s i z)) (drop-cons d i z hd)
       ∙ set_at (take i s) (get_or d i z) (drop (suc i) d) (get_or s i z) i (length-take-le i s (le_of_lt hs))
       ∙ sym (append_snoc (take i s) (get_or s i z) (drop (suc i) d))
@@ -21,8 +21,8 @@ module _ {A : Type 0} (s d : List A) where
 
 -- a list whose front was written over keeps its length, and its front is what was written
 module _ {A : Type 0} (p d : List A) {b : List A} {c : ℕ} (e : b ≡ p ++ drop c d) (n : c ≡ length p) where
-  pub over-length : c ≤ length d → length b ≡ length d
-  over-length h = ap length e ∙ simp (length-append, length-drop) (omega arith)
+  pub over_length : c ≤ length d → length b ≡ length d
+  over_length h = ap length e ∙ simp (length-append, length-drop) (omega arith)
 
-  pub over-front : take c b ≡ p
-  over-front = ap (take c) e ∙ take_at p (drop c d) c (sym n)
+  pub over_front : take c b ≡ p
+  over_front = ap (take c) e ∙ take_at p (drop c d) c (sym n)

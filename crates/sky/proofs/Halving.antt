@@ -12,16 +12,16 @@ abbrev pub middle : Float → Float → Float
 middle a b = (a ⊕ b) ⊘ dec 2 0
 
 module _ (f : Float → Float) where
-  pub halved-low : (n : ℕ) (a b : Float) → 0 < n → le (f (middle a b)) (dec 0 0) ≡ true → halved f n a b ≡ halved f (n - 1) (middle a b) b
+  pub halved_low : (n : ℕ) (a b : Float) → 0 < n → le (f (middle a b)) (dec 0 0) ≡ true → halved f n a b ≡ halved f (n - 1) (middle a b) b
   unfolding halved
-  halved-low zero a b h e = absurd (not-suc-le-zero h)
-  halved-low (suc n) a b h e = rw sub-one (simp e)
+  halved_low zero a b h e = absurd (not-suc-le-zero h)
+  halved_low (suc n) a b h e = rw sub-one (simp e)
 
-  pub halved-high : (n : ℕ) (a b : Float) → 0 < n → le (f (middle a b)) (dec 0 0) ≡ false → halved f n a b ≡ halved f (n - 1) a (middle a b)
+  pub halved_high : (n : ℕ) (a b : Float) → 0 < n → le (f (middle a b)) (dec 0 0) ≡ false → halved f n a b ≡ halved f (n - 1) a (middle a b)
   unfolding halved
-  halved-high zero a b h e = absurd (not-suc-le-zero h)
-  halved-high (suc n) a b h e = rw sub-one (simp e)
+  halved_high zero a b h e = absurd (not-suc-le-zero h)
+  halved_high (suc n) a b h e = rw sub-one (simp e)
 
-  pub halved-done : (a b : Float) → halved f 0 a b ≡ middle a b
+  pub halved_done : (a b : Float) → halved f 0 a b ≡ middle a b
   unfolding halved
-  halved-done a b = refl
+  halved_done a b = refl

@@ -165,49 +165,49 @@ abbrev most : ℕ
 most = 7200000 * 2 ^ 20
 
 module _ {t : Float} (p : Within 20 1680000 t) where
-  factor-number : Within 20 1060000 (eccentricity_factor t)
+  factor_number : Within 20 1060000 (eccentricity_factor t)
   unfolding eccentricity_factor near
-  factor-number = let t = got p in within 1060000 (lit _ ⊟ by _ t ⊟ by _ t ⊠ t) tt
+  factor_number = let t = got p in within 1060000 (lit _ ⊟ by _ t ⊟ by _ t ⊠ t) tt
 
-  power-number : (z : ℤ) → Within 20 1072000 (factor_power (eccentricity_factor t) z)
+  power_number : (z : ℤ) → Within 20 1072000 (factor_power (eccentricity_factor t) z)
   unfolding factor_power near
-  power-number (pos zero) = within 1072000 (lit (dec 1 0)) tt
-  power-number (pos (suc zero)) = within 1072000 (got factor-number) tt
-  power-number (pos (suc (suc n))) = within 1072000 (got factor-number ⊠ got factor-number) tt
-  power-number (negsuc zero) = within 1072000 (got factor-number) tt
-  power-number (negsuc (suc n)) = within 1072000 (got factor-number ⊠ got factor-number) tt
+  power_number (pos zero) = within 1072000 (lit (dec 1 0)) tt
+  power_number (pos (suc zero)) = within 1072000 (got factor_number) tt
+  power_number (pos (suc (suc n))) = within 1072000 (got factor_number ⊠ got factor_number) tt
+  power_number (negsuc zero) = within 1072000 (got factor_number) tt
+  power_number (negsuc (suc n)) = within 1072000 (got factor_number ⊠ got factor_number) tt
 
-  series-number : (n : ℕ) → n ≤ 60 → Within 20 (n * most + 1) (series moon_terms (moon_args t) n)
+  series_number : (n : ℕ) → n ≤ 60 → Within 20 (n * most + 1) (series moon_terms (moon_args t) n)
   unfolding series near
-  series-number zero h = within 1 (lit (dec 0 0)) tt
-  series-number (suc n) h =
+  series_number zero h = within 1 (lit (dec 0 0)) tt
+  series_number (suc n) h =
       let x = term_at moon_terms n in
-      let s = series-number n (omega arith) in
+      let s = series_number n (omega arith) in
       let c : Within 20 (7000000 * 2 ^ 20) (whole x.coefficient) =
       (let e = entry_small (5 * n + 4) in integer 20 (7000000 * 2 ^ 20) x.coefficient (omega arith) (lit≤ tt) (lit< tt)) in
-      let k : Within 20 most _ = within most (got c ⊠ got (power-number x.sun) ⊠ got (sine_number _)) tt in
+      let k : Within 20 most _ = within most (got c ⊠ got (power_number x.sun) ⊠ got (sine_number _)) tt in
       zero_or_number x.coefficient (widen (suc n * most + 1) (le→leb (n * most + 1) (suc n * most + 1) (omega arith)) s)
       (plus_up (suc n * most + 1) s k (omega arith) (omega arith))
 
   sum_number : Within 20 (60 * most + 1) (moon_sum (moon_args t))
   unfolding moon_sum
-  sum_number = series-number 60 (lit≤ tt)
+  sum_number = series_number 60 (lit≤ tt)
 
-  pub place-number : Within 20 (772000 * 2 ^ 20) (mean_place t)
+  pub place_number : Within 20 (772000 * 2 ^ 20) (mean_place t)
   unfolding mean_place near
-  place-number = let t = got p in within (772000 * 2 ^ 20) (lit _ ⊞ by _ t ⊟ by _ t ⊠ t ⊞ cubed t ⧄ _ ⊟ fourthed t ⧄ _) tt
+  place_number = let t = got p in within (772000 * 2 ^ 20) (lit _ ⊞ by _ t ⊟ by _ t ⊠ t ⊞ cubed t ⧄ _ ⊟ fourthed t ⧄ _) tt
 
-  additive-number : Within 20 (7000 * 2 ^ 20) (additive t (moon_args t))
+  additive_number : Within 20 (7000 * 2 ^ 20) (additive t (moon_args t))
   unfolding additive near
-  additive-number = within (7000 * 2 ^ 20) (by _ (got (sine_number _)) ⊞ by _ (got (sine_number _)) ⊞ by _ (got (sine_number _))) tt
+  additive_number = within (7000 * 2 ^ 20) (by _ (got (sine_number _)) ⊞ by _ (got (sine_number _)) ⊞ by _ (got (sine_number _))) tt
 
-  pub moon-upto : Upto 360 (moon_longitude t)
+  pub moon_upto : Upto 360 (moon_longitude t)
   unfolding moon_longitude near
-  moon-upto = norm_number (within (773000 * 2 ^ 20) (got place-number ⊞ (got sum_number ⊞ got additive-number) ⧄ _) tt)
+  moon_upto = norm_number (within (773000 * 2 ^ 20) (got place_number ⊞ (got sum_number ⊞ got additive_number) ⧄ _) tt)
 
 -- the elongation is a number from 0 to 360
 pub elongation_number : (ut : Float) → T (instant ut) → Upto 360 (elongation_of ut)
 unfolding elongation_of
 elongation_number ut h =
     let p = centuries_number (tt_between ut h) in
-    norm_number (within 720 (got (upto_within (moon-upto p)) ⊟ got (upto_within (sun_upto p))) tt)
+    norm_number (within 720 (got (upto_within (moon_upto p)) ⊟ got (upto_within (sun_upto p))) tt)

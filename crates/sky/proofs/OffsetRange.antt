@@ -53,21 +53,21 @@ module _ (m : ℕ) (e : ℤ) (n : ℕ) (d : ℤ) (hm : m * up e ≤ 360 * down e
   apos : 0 < down e * down d
   apos = mul-pos (down_pos e) (down_pos d)
 
-  hA : m * up e * down d ≤ 360 * (down e * down d)
-  hA = rw (← (mul_assoc 360 (down e) (down d))) (mul-le-mul_right (down d) hm)
+  h_a : m * up e * down d ≤ 360 * (down e * down d)
+  h_a = rw (← (mul_assoc 360 (down e) (down d))) (mul-le-mul_right (down d) hm)
 
-  hB : n * up d * down e ≤ 348 * (down e * down d)
-  hB = rw (mul_comm (down e) (down d), ← (mul_assoc 348 (down d) (down e))) (mul-le-mul_right (down e) hn)
+  h_b : n * up d * down e ≤ 348 * (down e * down d)
+  h_b = rw (mul_comm (down e) (down d), ← (mul_assoc 348 (down d) (down e))) (mul-le-mul_right (down e) hn)
 
   plus : (b : Bool) → ltb (m * up e * down d) (n * up d * down e) ≡ b → Both (fin false m e ⊖ fin false n d)
   unfolding sub add sum neg
-  plus true h = let p = hB in simp h (both_down (n * up d * down e - m * up e * down d) (down e * down d) apos (omega arith))
-  plus false h = let p = hA in simp h (both_up (m * up e * down d - n * up d * down e) (down e * down d) apos (omega arith))
+  plus true h = let p = h_b in simp h (both_down (n * up d * down e - m * up e * down d) (down e * down d) apos (omega arith))
+  plus false h = let p = h_a in simp h (both_up (m * up e * down d - n * up d * down e) (down e * down d) apos (omega arith))
 
   minus : m * up e ≡ 0 → Both (fin true m e ⊖ fin false n d)
   unfolding sub add sum neg
   minus z =
-      let p = hB in
+      let p = h_b in
       let q : m * up e * down d ≡ 0 = rw (z, zero-mul (down d)) refl in
       both_down (m * up e * down d + n * up d * down e) (down e * down d) apos (omega arith)
 

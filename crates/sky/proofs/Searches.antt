@@ -13,25 +13,25 @@ use Rattle.paper.specs.declared.Refusal.TheVariants.{OutOfRange, NoRoom, NotEnde
 use Rattle.paper.specs.Answers.{Answer, answered, refused, given}
 use Rattle.sky.specs.Search.{halved, step_end, crosses, here, walk, searched, starts_of}
 use Rattle.sky.specs.Answers.{query, starts_answer, held, starts_buffer}
-use Rattle.sky.proofs.Steps.{rest-stop}
+use Rattle.sky.proofs.Steps.{rest_stop}
 
 few : (b : Bool) (x : Float) → length (cond b (x ∷ []) []) ≤ 1
 few true x = omega arith
 few false x = omega arith
 
 module _ (f : Float → Float) where
-  here-few : (lo hi : Float) → length (here f lo hi) ≤ 1
+  here_few : (lo hi : Float) → length (here f lo hi) ≤ 1
   unfolding here
-  here-few lo hi = few (crosses (f lo) (f hi)) (halved f 30 lo hi)
+  here_few lo hi = few (crosses (f lo) (f hi)) (halved f 30 lo hi)
 
-  walk-starts : (n : ℕ) (go : Bool) (to lo : Float) → length (walk f n go to lo).starts ≤ (walk f n go to lo).steps
+  walk_starts : (n : ℕ) (go : Bool) (to lo : Float) → length (walk f n go to lo).starts ≤ (walk f n go to lo).steps
   unfolding walk
-  walk-starts zero go to lo = omega arith
-  walk-starts (suc n) false to lo = omega arith
-  walk-starts (suc n) true to lo =
+  walk_starts zero go to lo = omega arith
+  walk_starts (suc n) false to lo = omega arith
+  walk_starts (suc n) true to lo =
       let hi = step_end to lo in
-      let h = walk-starts n (lt hi to) to hi in
-      let k = here-few lo hi in
+      let h = walk_starts n (lt hi to) to hi in
+      let k = here_few lo hi in
       let a = length-append (here f lo hi) (walk f n (lt hi to) to hi).starts in
       omega arith
 
@@ -42,22 +42,22 @@ module _ (f : Float → Float) where
   walk_steps (suc n) true to lo = let hi = step_end to lo in let h = walk_steps n (lt hi to) to hi in omega arith
 
   -- at most as many starts as steps
-  pub starts-steps : (a to : Float) → length (searched f a to).starts ≤ (searched f a to).steps
+  pub starts_steps : (a to : Float) → length (searched f a to).starts ≤ (searched f a to).steps
   unfolding searched
-  starts-steps a to = walk-starts 1024 (lt a to) to a
+  starts_steps a to = walk_starts 1024 (lt a to) to a
 
   -- at most 1,024 steps
-  pub steps-bounded : (a to : Float) → (searched f a to).steps ≤ 1024
+  pub steps_bounded : (a to : Float) → (searched f a to).steps ≤ 1024
   unfolding searched
-  steps-bounded a to = walk_steps 1024 (lt a to) to a
+  steps_bounded a to = walk_steps 1024 (lt a to) to a
 
-  pub starts-bounded : (a to : Float) → length (searched f a to).starts ≤ 1024
-  starts-bounded a to = omega (arith, starts-steps a to, steps-bounded a to)
+  pub starts_bounded : (a to : Float) → length (searched f a to).starts ≤ 1024
+  starts_bounded a to = omega (arith, starts_steps a to, steps_bounded a to)
 
   -- from not below to: no start, no step, and an end
   pub none_from : (a to : Float) → lt a to ≡ false → searched f a to ≡ record { starts = []; steps = 0; ended = true }
   unfolding searched
-  none_from a to h = rest-stop f to 1024 a h
+  none_from a to h = rest_stop f to 1024 a h
 
 -- ---- what a call gives: the answer, and what the buffer holds
 -- a refusal leaves the buffer as it was
@@ -73,9 +73,9 @@ module _ (n : ℕ) (a b : Float) (out : List Float) where
   abbrev answer : Answer (ℕ × ℕ)
   answer = starts_answer n a b (length out)
 
-  pub refused-buffer : {k : Refusal} → answer ≡ refused k → starts_buffer n a b out ≡ out
+  pub refused_buffer : {k : Refusal} → answer ≡ refused k → starts_buffer n a b out ≡ out
   unfolding starts_buffer
-  refused-buffer e = held_refused answer _ out e
+  refused_buffer e = held_refused answer _ out e
 
   pub out_of_range : query n a b ≡ false → answer ≡ refused OutOfRange
   unfolding starts_answer given

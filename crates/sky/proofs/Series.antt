@@ -41,8 +41,8 @@ back z = to_z w32 (of_z w32 z)
 
 -- the angle of a term, from the parts that the code works out
 module _ (a : MoonArgs) (x : Term) {w0 w1 w2 w3 : Float} where
-  pub angle-is : SFits w32 x.elongation → SFits w32 x.sun → SFits w32 x.moon → SFits w32 x.node → w0 ≡ whole (back x.elongation) → w1 ≡ whole (back x.sun) → w2 ≡ whole (back x.moon) → w3 ≡ whole (back x.node) → (w0 ⊗ a.elongation ⊕ w1 ⊗ a.sun ⊕ w2 ⊗ a.moon ⊕ w3 ⊗ a.node) ⊗ deg ≡ angle a x
-  angle-is f0 f1 f2 f3 h0 h1 h2 h3 =
+  pub angle_is : SFits w32 x.elongation → SFits w32 x.sun → SFits w32 x.moon → SFits w32 x.node → w0 ≡ whole (back x.elongation) → w1 ≡ whole (back x.sun) → w2 ≡ whole (back x.moon) → w3 ≡ whole (back x.node) → (w0 ⊗ a.elongation ⊕ w1 ⊗ a.sun ⊕ w2 ⊗ a.moon ⊕ w3 ⊗ a.node) ⊗ deg ≡ angle a x
+  angle_is f0 f1 f2 f3 h0 h1 h2 h3 =
       simp (h0, h1, h2, h3, to_z-of_z w32 x.elongation f0, to_z-of_z w32 x.sun f1, to_z-of_z w32 x.moon f2, to_z-of_z w32 x.node f3)
 
 module _ (e : Float) (x : Term) (v s : Float) where
@@ -51,9 +51,9 @@ module _ (e : Float) (x : Term) (v s : Float) where
   unfolding add_term
   term_is f g h hw hp = simp (hw, hp, to_z-of_z w32 x.sun f, to_z-of_z w32 x.coefficient g) (zero_not x.coefficient s _ h)
 
-  pub term-none : x.coefficient ≡ pos 0 → s ≡ add_term e x v s
+  pub term_none : x.coefficient ≡ pos 0 → s ≡ add_term e x v s
   unfolding add_term zero_or
-  term-none h = rw h
+  term_none h = rw h
 
 -- one row more
 pub row_more : (rows : List ℤ) (e : Float) (f : ℕ → Float) (i : ℕ) {x : Term} {v s r : Float} → s ≡ added rows e f i → x ≡ term_at rows i → v ≡ f i → r ≡ add_term e x v s → r ≡ added rows e f (i + 1)

@@ -19,7 +19,7 @@ use Rattle.sky.specs.Sun.{anomaly}
 use Rattle.sky.specs.MoonTable.{moon_terms}
 use Rattle.sky.specs.Moon.{mean_place, mean_elongation, sun_anomaly, moon_anomaly, argument_of_latitude, venus, jupiter, moon_args, angle, term_at}
 use Rattle.sky.specs.Claims.{Served}
-use Rattle.sky.proofs.Numbers.{cubed, fourthed, entry_small, place-number, tt_served, day_between, centuries_number}
+use Rattle.sky.proofs.Numbers.{cubed, fourthed, entry_small, place_number, tt_served, day_between, centuries_number}
 
 abbrev far : ℕ
 far = 100000 * 2 ^ 20
@@ -29,21 +29,21 @@ unfolding of_bits
 served p = inside limit p tt
 
 module _ {t : Float} (p : Within 20 1680000 t) where
-  elongation-arg : Within 20 (714000 * 2 ^ 20) (mean_elongation t)
+  elongation_arg : Within 20 (714000 * 2 ^ 20) (mean_elongation t)
   unfolding mean_elongation near
-  elongation-arg = let t = got p in within (714000 * 2 ^ 20) (lit _ ⊞ by _ t ⊟ by _ t ⊠ t ⊞ cubed t ⧄ _ ⊟ fourthed t ⧄ _) tt
+  elongation_arg = let t = got p in within (714000 * 2 ^ 20) (lit _ ⊞ by _ t ⊟ by _ t ⊠ t ⊞ cubed t ⧄ _ ⊟ fourthed t ⧄ _) tt
 
-  sun-arg : Within 20 (58100 * 2 ^ 20) (sun_anomaly t)
+  sun_arg : Within 20 (58100 * 2 ^ 20) (sun_anomaly t)
   unfolding sun_anomaly near
-  sun-arg = let t = got p in within (58100 * 2 ^ 20) (lit _ ⊞ by _ t ⊟ by _ t ⊠ t ⊞ cubed t ⧄ _) tt
+  sun_arg = let t = got p in within (58100 * 2 ^ 20) (lit _ ⊞ by _ t ⊟ by _ t ⊠ t ⊞ cubed t ⧄ _) tt
 
-  moon-arg : Within 20 (765000 * 2 ^ 20) (moon_anomaly t)
+  moon_arg : Within 20 (765000 * 2 ^ 20) (moon_anomaly t)
   unfolding moon_anomaly near
-  moon-arg = let t = got p in within (765000 * 2 ^ 20) (lit _ ⊞ by _ t ⊞ by _ t ⊠ t ⊞ cubed t ⧄ _ ⊟ fourthed t ⧄ _) tt
+  moon_arg = let t = got p in within (765000 * 2 ^ 20) (lit _ ⊞ by _ t ⊞ by _ t ⊠ t ⊞ cubed t ⧄ _ ⊟ fourthed t ⧄ _) tt
 
-  node-arg : Within 20 (775000 * 2 ^ 20) (argument_of_latitude t)
+  node_arg : Within 20 (775000 * 2 ^ 20) (argument_of_latitude t)
   unfolding argument_of_latitude near
-  node-arg = let t = got p in within (775000 * 2 ^ 20) (lit _ ⊞ by _ t ⊟ by _ t ⊠ t ⊟ cubed t ⧄ _ ⊞ fourthed t ⧄ _) tt
+  node_arg = let t = got p in within (775000 * 2 ^ 20) (lit _ ⊞ by _ t ⊟ by _ t ⊠ t ⊟ cubed t ⧄ _ ⊞ fourthed t ⧄ _) tt
 
   -- ---- the sixty rows, one by one
   multiple : (i : ℕ) → Within 20 (nat_abs (get_or moon_terms i (pos 0)) * 2 ^ 20) (whole (get_or moon_terms i (pos 0)))
@@ -53,59 +53,59 @@ module _ {t : Float} (p : Within 20 1680000 t) where
 
   abbrev row : ℕ → Formula 20
   row n =
-      (got (multiple (5 * n)) ⊠ got elongation-arg ⊞ got (multiple (5 * n + 1)) ⊠ got sun-arg ⊞ got (multiple (5 * n + 2)) ⊠ got moon-arg ⊞ got (multiple (5 * n + 3)) ⊠ got node-arg) ⊠ lit deg
+      (got (multiple (5 * n)) ⊠ got elongation_arg ⊞ got (multiple (5 * n + 1)) ⊠ got sun_arg ⊞ got (multiple (5 * n + 2)) ⊠ got moon_arg ⊞ got (multiple (5 * n + 3)) ⊠ got node_arg) ⊠ lit deg
 
   abbrev fine : ℕ → Bool
   fine n = good (row n) && leb (bound (row n)) far
 
-  all-fine : T (below fine 60)
+  all_fine : T (below fine 60)
   unfolding deg near div
-  all-fine = tt
+  all_fine = tt
 
-  row-served : (n : ℕ) → n < 60 → T (in_range (angle (moon_args t) (term_at moon_terms n)))
-  row-served n h = served (within far (row n) (at fine 60 all-fine n h))
+  row_served : (n : ℕ) → n < 60 → T (in_range (angle (moon_args t) (term_at moon_terms n)))
+  row_served n h = served (within far (row n) (at fine 60 all_fine n h))
 
   -- ---- the additive terms, and the sun
-  venus-served : T (in_range (venus t ⊗ deg))
+  venus_served : T (in_range (venus t ⊗ deg))
   unfolding venus deg near div
-  venus-served = served (within far ((lit _ ⊞ by _ (got p)) ⊠ lit _) tt)
+  venus_served = served (within far ((lit _ ⊞ by _ (got p)) ⊠ lit _) tt)
 
-  flattening-served : T (in_range ((mean_place t ⊖ argument_of_latitude t) ⊗ deg))
+  flattening_served : T (in_range ((mean_place t ⊖ argument_of_latitude t) ⊗ deg))
   unfolding deg near div
-  flattening-served = served (within far ((got (place-number p) ⊟ got node-arg) ⊠ lit _) tt)
+  flattening_served = served (within far ((got (place_number p) ⊟ got node_arg) ⊠ lit _) tt)
 
-  jupiter-served : T (in_range (jupiter t ⊗ deg))
+  jupiter_served : T (in_range (jupiter t ⊗ deg))
   unfolding jupiter deg near div
-  jupiter-served = served (within far ((lit _ ⊞ by _ (got p)) ⊠ lit _) tt)
+  jupiter_served = served (within far ((lit _ ⊞ by _ (got p)) ⊠ lit _) tt)
 
-  anomaly-number : Within 20 (58100 * 2 ^ 20) (anomaly t)
+  anomaly_number : Within 20 (58100 * 2 ^ 20) (anomaly t)
   unfolding anomaly near
-  anomaly-number = let t = got p in within (58100 * 2 ^ 20) (lit _ ⊞ by _ t ⊟ by _ t ⊠ t) tt
+  anomaly_number = let t = got p in within (58100 * 2 ^ 20) (lit _ ⊞ by _ t ⊟ by _ t ⊠ t) tt
 
-  sun-once : T (in_range (anomaly t ⊗ deg))
+  sun_once : T (in_range (anomaly t ⊗ deg))
   unfolding deg near div
-  sun-once = served (within far (got anomaly-number ⊠ lit _) tt)
+  sun_once = served (within far (got anomaly_number ⊠ lit _) tt)
 
-  sun-twice : T (in_range (dec 2 0 ⊗ anomaly t ⊗ deg))
+  sun_twice : T (in_range (dec 2 0 ⊗ anomaly t ⊗ deg))
   unfolding deg near div
-  sun-twice = served (within far (by _ (got anomaly-number) ⊠ lit _) tt)
+  sun_twice = served (within far (by _ (got anomaly_number) ⊠ lit _) tt)
 
-  sun-thrice : T (in_range (dec 3 0 ⊗ anomaly t ⊗ deg))
+  sun_thrice : T (in_range (dec 3 0 ⊗ anomaly t ⊗ deg))
   unfolding deg near div
-  sun-thrice = served (within far (by _ (got anomaly-number) ⊠ lit _) tt)
+  sun_thrice = served (within far (by _ (got anomaly_number) ⊠ lit _) tt)
 
 -- all of them
 pub day_angles : (tt : Float) → T (tt_day tt) → Served (julian_centuries tt)
 day_angles tt h =
     let p = centuries_number (day_between tt h) in
     record {
-      rows = row-served p;
-      venus = venus-served p;
-      flattening = flattening-served p;
-      jupiter = jupiter-served p;
-      sun1 = sun-once p;
-      sun2 = sun-twice p;
-      sun3 = sun-thrice p;
+      rows = row_served p;
+      venus = venus_served p;
+      flattening = flattening_served p;
+      jupiter = jupiter_served p;
+      sun1 = sun_once p;
+      sun2 = sun_twice p;
+      sun3 = sun_thrice p;
     }
 
 pub instant_angles : (ut : Float) → T (instant ut) → Served (julian_centuries (tt_of ut))

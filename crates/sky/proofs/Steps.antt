@@ -21,19 +21,19 @@ pub came_one : (r : Next) → r.found ≡ true → came r ≡ r.at ∷ []
 came_one r h = rw h
 
 module _ (f : Float → Float) (to : Float) where
-  walk-on : (n : ℕ) (lo : Float) → 0 < n → walk f n true to lo ≡ onward (here f lo (step_end to lo)) (rest f to (n - 1) (step_end to lo))
+  walk_on : (n : ℕ) (lo : Float) → 0 < n → walk f n true to lo ≡ onward (here f lo (step_end to lo)) (rest f to (n - 1) (step_end to lo))
   unfolding walk
-  walk-on zero lo h = absurd (not-suc-le-zero h)
-  walk-on (suc n) lo h = rw sub-one refl
+  walk_on zero lo h = absurd (not-suc-le-zero h)
+  walk_on (suc n) lo h = rw sub-one refl
 
-  walk-stop : (n : ℕ) (lo : Float) → walk f n false to lo ≡ stopped true
+  walk_stop : (n : ℕ) (lo : Float) → walk f n false to lo ≡ stopped true
   unfolding walk
-  walk-stop zero lo = refl
-  walk-stop (suc n) lo = refl
+  walk_stop zero lo = refl
+  walk_stop (suc n) lo = refl
 
   -- lo is not below to
-  pub rest-stop : (n : ℕ) (lo : Float) → lt lo to ≡ false → rest f to n lo ≡ stopped true
-  rest-stop n lo h = rw h (walk-stop n lo)
+  pub rest_stop : (n : ℕ) (lo : Float) → lt lo to ≡ false → rest f to n lo ≡ stopped true
+  rest_stop n lo h = rw h (walk_stop n lo)
 
   -- no step is left
   pub rest_end : (n : ℕ) (lo : Float) → n ≡ 0 → rest f to n lo ≡ stopped (not (lt lo to))
@@ -51,7 +51,7 @@ module _ (f : Float → Float) (to : Float) where
   module _ {lo flo hi fhi : Float} {left : ℕ} (t : Turn lo flo hi fhi left) where
     step : (l : List Float) → here f lo hi ≡ l → Goes f to left lo l (left - 1) hi
     step l e =
-        let q : rest f to left lo ≡ onward l (rest f to (left - 1) hi) = rw (t.go, ← e, t.end_is) (walk-on left lo t.more) in
+        let q : rest f to left lo ≡ onward l (rest f to (left - 1) hi) = rw (t.go, ← e, t.end_is) (walk_on left lo t.more) in
         let s = ap (λ (w : Walk). w.steps) q in
         let m = t.more in
         record { starts = ap (λ (w : Walk). w.starts) q; steps = omega arith; ended = ap (λ (w : Walk). w.ended) q }
@@ -65,8 +65,8 @@ module _ (f : Float → Float) (to : Float) where
     step-one {v} h e = step (v ∷ []) (simp (sym t.from_is, sym t.to_is, h, e))
 
   -- ---- one way after the other
-  pub goes-begin : (left : ℕ) (lo : Float) → Goes f to left lo [] left lo
-  goes-begin left lo = record { starts = refl; steps = omega arith; ended = refl }
+  pub goes_begin : (left : ℕ) (lo : Float) → Goes f to left lo [] left lo
+  goes_begin left lo = record { starts = refl; steps = omega arith; ended = refl }
 
   goes_then : {n m k : ℕ} {lo at end : Float} (l : List Float) {r : List Float} → Goes f to n lo l m at → Goes f to m at r k end → Goes f to n lo (l ++ r) k end
   goes_then {n} {m} {k} {lo} {at} {end} l {r} p q =
@@ -86,7 +86,7 @@ module _ (f : Float → Float) (to : Float) where
       pub from_is : flo ≡ f lo
 
     pub sought-begin : {flo : Float} → flo ≡ f a → Sought a flo steps
-    sought-begin e = record { goes = goes-begin steps a; fewer = omega arith; from_is = e }
+    sought-begin e = record { goes = goes_begin steps a; fewer = omega arith; from_is = e }
 
     module _ {lo flo : Float} {left : ℕ} (i : Sought lo flo left) where
       module _ {hi fhi : Float} (t : Turn lo flo hi fhi left) where

@@ -22,13 +22,13 @@ module _ (m : ℕ) (e : ℤ) (low : 180 * down e ≤ m * up e) (high : m * up e 
   unfolding near add sum
   more = let d = down_pos e in simp (lt-ltb (m * up e * 1) (360 * down e) (omega arith))
 
-  more-low : T (le (dec 0 0) (fin true m e ⊕ dec 360 0))
+  more_low : T (le (dec 0 0) (fin true m e ⊕ dec 360 0))
   unfolding near
-  more-low = let d = down_pos e in rw more (round_mono binary64 0 1 (360 * down e - m * up e * 1) (down e * 1) (lit< tt) (omega arith) (omega arith))
+  more_low = let d = down_pos e in rw more (round_mono binary64 0 1 (360 * down e - m * up e * 1) (down e * 1) (lit< tt) (omega arith) (omega arith))
 
-  more-high : T (le (fin true m e ⊕ dec 360 0) (dec 180 0))
+  more_high : T (le (fin true m e ⊕ dec 360 0) (dec 180 0))
   unfolding near
-  more-high = let d = down_pos e in rw more (round_mono binary64 (360 * down e - m * up e * 1) (down e * 1) 180 1 (omega arith) (lit< tt) (omega arith))
+  more_high = let d = down_pos e in rw more (round_mono binary64 (360 * down e - m * up e * 1) (down e * 1) 180 1 (omega arith) (lit< tt) (omega arith))
 
 -- ---- a turn less
 
@@ -108,20 +108,20 @@ module _ (m : ℕ) (e : ℤ) (low : 180 * down e * 2 ^ 45 + down e ≤ m * up e 
   unfolding round
   part_high = let d = down_pos e in round_mono binary64 (360 * down e - m * up e * 1) (down e * 1) most (2 ^ 45) (omega arith) (lit< tt) (omega arith)
 
-  none-low : T (le (dec 0 0) none)
+  none_low : T (le (dec 0 0) none)
   unfolding near
-  none-low = let d = down_pos e in round_mono binary64 0 1 (m * up e * 1 - 360 * down e) (down e * 1) (lit< tt) (omega arith) (omega arith)
+  none_low = let d = down_pos e in round_mono binary64 0 1 (m * up e * 1 - 360 * down e) (down e * 1) (lit< tt) (omega arith) (omega arith)
 
-  none-high : T (le none (dec 180 0))
+  none_high : T (le none (dec 180 0))
   unfolding near
-  none-high = let d = down_pos e in round_mono binary64 (m * up e * 1 - 360 * down e) (down e * 1) 180 1 (omega arith) (lit< tt) (omega arith)
+  none_high = let d = down_pos e in round_mono binary64 (m * up e * 1 - 360 * down e) (down e * 1) 180 1 (omega arith) (lit< tt) (omega arith)
 
-  less-range : (lt (neg (dec 180 0)) (fin false m e ⊖ dec 360 0) ≡ true) × T (le (fin false m e ⊖ dec 360 0) (dec 180 0))
-  less-range = by (ltb (m * up e * 1) (360 * down e)) refl
+  less_range : (lt (neg (dec 180 0)) (fin false m e ⊖ dec 360 0) ≡ true) × T (le (fin false m e ⊖ dec 360 0) (dec 180 0))
+  less_range = by (ltb (m * up e * 1) (360 * down e)) refl
     where
       by : (b : Bool) → ltb (m * up e * 1) (360 * down e) ≡ b → (lt (neg (dec 180 0)) (fin false m e ⊖ dec 360 0) ≡ true) × T (le (fin false m e ⊖ dec 360 0) (dec 180 0))
       by true h = rw (less true h) (under part part_high, neg_low part part_low)
-      by false h = rw (less false h) (above_low none none-low, none-high)
+      by false h = rw (less false h) (above_low none none_low, none_high)
 
 -- ---- both
 mantissa : (m : ℕ) (e : ℤ) → T (fits binary64 (fin false m e)) → m < 2 ^ 53
@@ -223,14 +223,14 @@ turn_neg m e true h l =
     let q' = high_is m e l in
     let p : 180 * down e ≤ m * up e = omega arith in
     let q : m * up e ≤ 348 * down e = omega arith in
-    rw (turned_more (fin true m e) h (le_not_above (fin true m e ⊕ dec 360 0) (dec 180 0) (more-high m e p q)))
-    (above_low (fin true m e ⊕ dec 360 0) (more-low m e p q), more-high m e p q)
+    rw (turned_more (fin true m e) h (le_not_above (fin true m e ⊕ dec 360 0) (dec 180 0) (more_high m e p q)))
+    (above_low (fin true m e ⊕ dec 360 0) (more_low m e p q), more_high m e p q)
 turn_neg m e false h l = rw (turned_same (fin true m e) h (neg_not_high m e)) (neg_above m e h, neg_below m e)
 
 turn_pos : (m : ℕ) (e : ℤ) (b : Bool) → lt (dec 180 0) (fin false m e) ≡ b → T (fits binary64 (fin false m e)) → T (le (fin false m e) (dec 360 0)) → Range (turned (fin false m e))
 turn_pos m e true h f l =
     let p = pos_high m e l in
-    rw (turned_less (fin false m e) (pos_not_low m e) h) (less-range m e (gap m e (mantissa m e f) (pos_low m e h)) (omega arith))
+    rw (turned_less (fin false m e) (pos_not_low m e) h) (less_range m e (gap m e (mantissa m e f) (pos_low m e h)) (omega arith))
 turn_pos m e false h f l = rw (turned_same (fin false m e) (pos_not_low m e) h) (pos_above m e, pos_below m e h)
 
 -- one turn is enough

@@ -62,7 +62,7 @@ module _ (t : Table) (rows more : List ℕ) (good : accepted t rows ≡ true) (l
 
   pub bs_month_len : (y m : ℕ) → AnswerCarries BsMonthLen.Learnt (λ k x. days_says x)
       (λ k. (t, (ref p rows, (y, (m, tt))))) (λ k. (t, (ref q (rows ++ more), (y, (m, tt)))))
-  bs_month_len y m k l x z s u v c d h = told (plain.month-len y m) v c d h
+  bs_month_len y m k l x z s u v c d h = told (plain.month_len_law y m) v c d h
 
   pub validate_bs_date : (x : BsDate) → AnswerCarries ValidateBsDate.Learnt (λ k x. valid_says x)
       (λ k. (t, (ref p rows, (x, tt)))) (λ k. (t, (ref q (rows ++ more), (x, tt))))

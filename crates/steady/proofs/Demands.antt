@@ -62,12 +62,12 @@ pub use Rattle.steady.proofs.Steady.{steady}
 -- and so of two results that meet a call's contract, under the table and under the longer one
 pub use Rattle.steady.proofs.Composed as Composed
 -- nor an answer of a kept state to which a row is appended
-pub use Rattle.steady.proofs.Kept.{kept-steady}
+pub use Rattle.steady.proofs.Kept.{kept_steady}
 -- what is kept, after any sequence of operations
 pub use Rattle.kept.specs.Claims.{Keeps}
 pub use Rattle.kept.proofs.Theorems.{always}
 -- what is answered of a date is the holiday number of its cell, and each date that is answered has one
-pub use Rattle.holiday.proofs.Theorems.{in_cells, has-cell}
+pub use Rattle.holiday.proofs.Theorems.{in_cells, has_cell}
 -- the checked examples
 pub use Rattle.steady.proofs.Examples.{checked}
 -- the festival rules over a sky of a few numbers

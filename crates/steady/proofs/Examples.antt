@@ -14,16 +14,16 @@ use Rattle.gregorian.proofs.Laws.{of_number, real_of}
 use Rattle.conversion.specs.declared.BsDate.{BsDate}
 use Rattle.conversion.specs.Calendar.{day_at, to_day, to_ad, outside, from_day, from_ad}
 use Rattle.conversion.specs.Flat.{row_ok, accepted}
-use Rattle.conversion.proofs.Ad.{number-ad, served, ad-to-from}
+use Rattle.conversion.proofs.Ad.{number_ad, served, ad_to_from}
 use Rattle.rules.specs.declared.lists.Day.{Day}
 use Rattle.rules.specs.Festivals.{Pair}
 use Rattle.panchanga.specs.declared.lunar.Reading.{Reading}
 use Rattle.grid.specs.Cells.{blank}
-use Rattle.grid.specs.Month.{Grid, gridOf}
+use Rattle.grid.specs.Month.{Grid, grid_of}
 use Rattle.grid.specs.Kathmandu.{month_under}
 use Rattle.grid.specs.Step.{absolute, whole_years, months_left, month_at, step_month}
 use Rattle.grid.specs.Claims.{InWeeks}
-use Rattle.grid.proofs.Theorems.{laid_out, month-weeks}
+use Rattle.grid.proofs.Theorems.{laid_out, month_weeks}
 use Rattle.conversion.specs.Own.{own_table, first_row, second_row, own_rows, own}
 use Rattle.steady.specs.Examples.{Says, AllSay, is, examples}
 use Rattle.steady.specs.Steady.{Steady}
@@ -37,8 +37,8 @@ good = refl
 by_number : (t : BsDate) (x : Date) → to_day own t.year t.month t.day ≡ answered (day_number x) → T (real x) → Says (is t x)
 unfolding Says
 by_number t x e r =
-    let a : to_ad own t.year t.month t.day ≡ answered x = number-ad own (served own_table own_rows good) _ _ _ _ e ∙ ap answered (of_number x (real_of x r)) in
-    (a, ad-to-from own (served own_table own_rows good) _ _ _ x a)
+    let a : to_ad own t.year t.month t.day ≡ answered x = number_ad own (served own_table own_rows good) _ _ _ _ e ∙ ap answered (of_number x (real_of x r)) in
+    (a, ad_to_from own (served own_table own_rows good) _ _ _ x a)
 
 -- THE EXAMPLES
 pub checked : AllSay examples
@@ -91,9 +91,9 @@ In35 cells = (length cells ≡ 35) × (take 3 cells ≡ replicate 3 blank) × (d
 in_35 : (day : ℕ → List ℕ) (cells : List (List ℕ)) → InWeeks (weekday_of first_number) days day cells → In35 cells
 in_35 day cells w = (rw wednesday at w.count, rw wednesday at w.before, rw wednesday at w.after)
 
-pub month_100_2 : (list : Day → List Pair) (reading : Day → Reading) (today : Date) → In35 (gridOf list reading today 100 2 first_number days).cells
+pub month_100_2 : (list : Day → List Pair) (reading : Day → Reading) (today : Date) → In35 (grid_of list reading today 100 2 first_number days).cells
 month_100_2 list reading today = in_35 _ _ (laid_out list reading today 100 2 first_number days)
 
 -- and so wherever `month_grid` answers it
 pub month_100_2_asked : (rules : List ℕ) (today : Date) (a b : ℕ) (g : Grid) → month_under own rules today 100 2 a b ≡ answered g → In35 g.cells
-month_100_2_asked rules today a b g h = in_35 _ _ (month-weeks own _ _ _ today 100 2 a b g h)
+month_100_2_asked rules today a b g h = in_35 _ _ (month_weeks own _ _ _ today 100 2 a b g h)

@@ -14,7 +14,7 @@ use Rattle.paper.proofs.Tests.{and_right}
 use Rattle.conversion.specs.Flat.{accepted}
 use Rattle.kept.specs.State.{State, Good}
 use Rattle.kept.specs.Operations.{outcome, with_row, append_row}
-use Rattle.kept.proofs.Goods.{good-row}
+use Rattle.kept.proofs.Goods.{good_row}
 use Rattle.kept.proofs.Theorems.{no_length, keeps}
 use Rattle.steady.specs.Kept.{KeptSteady}
 use Rattle.steady.proofs.Steady.{steady}
@@ -25,10 +25,10 @@ module _ (σ : State) (g : Good σ) (h : σ.rows ≡ [] → ⊥) (row : List ℕ
   held : accepted σ.table σ.rows ≡ true
   held = ⊎_elim (λ e. absurd (h e)) (λ e. e) g.table
 
-  with-row : accepted σ.table (σ.rows ++ row) ≡ true → KeptSteady σ (with_row σ row)
-  with-row e =
+  with_row_law : accepted σ.table (σ.rows ++ row) ≡ true → KeptSteady σ (with_row σ row)
+  with_row_law e =
       let u = keeps σ g in
-      let v = keeps (with_row σ row) (good-row σ g row e) in
+      let v = keeps (with_row σ row) (good_row σ g row e) in
       let some : σ.rows ++ row ≡ [] → ⊥ = λ z. h (no_length σ.rows (omega (arith, length-append σ.rows row, ap length z))) in
       let s = steady σ.table σ.rows row σ.rules any held e in
       record {
@@ -41,13 +41,13 @@ module _ (σ : State) (g : Good σ) (h : σ.rows ≡ [] → ⊥) (row : List ℕ
         bs_outside = λ y m d. rw (u.to_bs h y m d, v.to_bs some y m d) (s.bs_outside y m d);
       }
 
-  by-test : (b : Bool) → (b ≡ true → accepted σ.table (σ.rows ++ row) ≡ true) → (outcome σ (given b BadTable (answered (with_row σ row)))).answer ≡ answered tt
+  by_test : (b : Bool) → (b ≡ true → accepted σ.table (σ.rows ++ row) ≡ true) → (outcome σ (given b BadTable (answered (with_row σ row)))).answer ≡ answered tt
       → KeptSteady σ (outcome σ (given b BadTable (answered (with_row σ row)))).state
   unfolding given
-  by-test true t e = with-row (t refl)
-  by-test false t e = absurd (refused_answered refl e)
+  by_test true t e = with_row_law (t refl)
+  by_test false t e = absurd (refused_answered refl e)
 
   -- an appended row changes no answer
-  pub kept-steady : (append_row σ row).answer ≡ answered tt → KeptSteady σ (append_row σ row).state
+  pub kept_steady : (append_row σ row).answer ≡ answered tt → KeptSteady σ (append_row σ row).state
   unfolding append_row
-  kept-steady e = by-test _ (λ t. and_right (eqb (length row) 13) _ t) e
+  kept_steady e = by_test _ (λ t. and_right (eqb (length row) 13) _ t) e

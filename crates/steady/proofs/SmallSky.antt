@@ -3,14 +3,14 @@ use mathlib.Core.Path.{refl}
 use Rattle.paper.specs.Answers.{given, then}
 use Rattle.paper.specs.Sums.{sum}
 use Rattle.conversion.specs.Calendar.{last, to_day, from_day}
-use Rattle.rules.specs.Days.{next, holds, or_else, first_from, rank, claims, claimed, asked_day, festivalDay}
-use Rattle.rules.specs.Festivals.{dated, last_of, in_table, beginning, moons, inMonth, opening, ruleDay, entry, entryOn, picked, any, kept_after, kept, silenced, isComputed, dayPairs, dayList}
+use Rattle.rules.specs.Days.{next, holds, or_else, first_from, rank, claims, claimed, asked_day, festival_day}
+use Rattle.rules.specs.Festivals.{dated, last_of, in_table, beginning, moons, in_month, opening, rule_day, entry, entry_on, picked, any, kept_after, kept, silenced, is_computed, day_pairs, day_list}
 use Rattle.grid.specs.Cells.{any_holiday}
 use Rattle.holiday.specs.Holiday.{holiday_by}
 use Rattle.steady.specs.SmallSky.{SmallSky}
 
 pub small_sky : SmallSky
-unfolding given then sum last to_day from_day next holds or_else first_from rank claims claimed asked_day festivalDay dated last_of in_table beginning moons inMonth opening ruleDay entry entryOn picked any kept_after kept silenced isComputed dayPairs dayList any_holiday holiday_by
+unfolding given then sum last to_day from_day next holds or_else first_from rank claims claimed asked_day festival_day dated last_of in_table beginning moons in_month opening rule_day entry entry_on picked any kept_after kept silenced is_computed day_pairs day_list any_holiday holiday_by
 small_sky =
     record {
       first_inside = refl;

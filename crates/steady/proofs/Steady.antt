@@ -24,9 +24,9 @@ use Rattle.rules.proofs.Theorems as Lists
 use Rattle.festivals.specs.Kathmandu.{kathmandu}
 use Rattle.grid.specs.Month.{Grid, shown}
 use Rattle.grid.proofs.Longer as Grids
-use Rattle.holiday.proofs.Longer.{holiday-longer, holiday-added}
+use Rattle.holiday.proofs.Longer.{holiday_longer, holiday_added}
 use Rattle.steady.specs.Steady.{Stays, AnswerStays, Steady}
-use Rattle.steady.proofs.Stepping.{step-longer, step_added}
+use Rattle.steady.proofs.Stepping.{step_longer, step_added}
 
 -- an answer alone
 stays : {A : Type 0} {a b : Answer A} {k : Refusal} {P : A → Type 0} → ((x : A) → a ≡ answered x → b ≡ answered x) → ((x : A) → b ≡ answered x → RefusedIf a k (P x)) → AnswerStays a b k P
@@ -38,8 +38,8 @@ module _ {X W A : Type 0} (w : Answer X → W) (answer : W → Answer A) (refuse
   tells (answered x) v h = (x, refl)
   tells (refused j) v h = absurd (refused_answered (refuses j) h)
 
-  told-stays : {a b : Answer X} {k : Refusal} {P : Type 0} → ((x : X) → a ≡ answered x → b ≡ answered x) → ((x : X) → b ≡ answered x → RefusedIf a k P) → Stays answer (w a) (w b) k (λ v. P)
-  told-stays {a} {b} {k} {P} longer added =
+  told_stays : {a b : Answer X} {k : Refusal} {P : Type 0} → ((x : X) → a ≡ answered x → b ≡ answered x) → ((x : X) → b ≡ answered x → RefusedIf a k P) → Stays answer (w a) (w b) k (λ v. P)
+  told_stays {a} {b} {k} {P} longer added =
       record {
         same = λ v h. let x = tells a v h in ap w (longer x.0 x.1 ∙ sym x.1);
         added = λ v h.
@@ -78,21 +78,21 @@ steady t rows more rules today a b =
     let g = Grids.steady rules today t rows more a b in
     let x = extends t rows more a b in
     record {
-      month-len = λ y m. stays (c.len y m) (c.len_added y m);
+      month_len_law = λ y m. stays (c.len y m) (c.len_added y m);
       valid = λ y m d. stays (λ u. c.valid y m d) (λ u. c.valid_added y m d);
       to_ad_law = λ y m d. stays (c.to y m d) (c.to_added y m d);
       to_bs = λ y m d. stays (c.from y m d) (c.from_added y m d);
-      step = λ y m s. stays (step-longer _ _ x y m s) (step_added _ _ x y m s);
-      list = λ y m d out. let s = l out t rows more a b in told-stays (λ (z : Answer (List Pair)). listed z out) (λ w. w.answer) (listed_refused out) (λ v h. (s.on-bs y m d v h).answer) (s.on-bs-added y m d);
-      list_ad = λ y m d out. let s = l out t rows more a b in told-stays (λ (z : Answer (List Pair)). listed z out) (λ w. w.answer) (listed_refused out) (λ v h. (s.on-ad y m d v h).answer) (s.on-ad-added y m d);
-      holiday = λ y m d. stays (holiday-longer t rows more rules a b y m d) (holiday-added t rows more rules a b y m d);
+      step = λ y m s. stays (step_longer _ _ x y m s) (step_added _ _ x y m s);
+      list = λ y m d out. let s = l out t rows more a b in told_stays (λ (z : Answer (List Pair)). listed z out) (λ w. w.answer) (listed_refused out) (λ v h. (s.on_bs_law y m d v h).answer) (s.on_bs_added y m d);
+      list_ad = λ y m d out. let s = l out t rows more a b in told_stays (λ (z : Answer (List Pair)). listed z out) (λ w. w.answer) (listed_refused out) (λ v h. (s.on_ad_law y m d v h).answer) (s.on_ad_added y m d);
+      holiday = λ y m d. stays (holiday_longer t rows more rules a b y m d) (holiday_added t rows more rules a b y m d);
       bs_outside = λ y m d. record { before = c.from_before y m d; after = c.from_after y m d; reached = c.from_reached y m d };
       list_outside = λ y m d out.
           let s = l out t rows more a b in
           record {
-            before = λ k h. ap (λ (z : Answer (List Pair)). (listed z out).answer) (s.on-ad-before y m d k (listed_outside _ out (Before k) refl h)) ∙ listed_refused out (Before k);
-            after = λ k h r. ap (λ (z : Answer (List Pair)). (listed z out).answer) (s.on-ad-after y m d k (listed_outside _ out (After k) refl h) r) ∙ listed_refused out _;
-            reached = λ k h r. (s.on-ad-reached y m d k (listed_outside _ out (After k) refl h) r).1.1;
+            before = λ k h. ap (λ (z : Answer (List Pair)). (listed z out).answer) (s.on_ad_before y m d k (listed_outside _ out (Before k) refl h)) ∙ listed_refused out (Before k);
+            after = λ k h r. ap (λ (z : Answer (List Pair)). (listed z out).answer) (s.on_ad_after y m d k (listed_outside _ out (After k) refl h) r) ∙ listed_refused out _;
+            reached = λ k h r. (s.on_ad_reached y m d k (listed_outside _ out (After k) refl h) r).1.1;
           };
-      month = λ y m cells festivals. told-stays (λ (z : Answer Grid). shown z cells festivals) (λ w. w.answer) (shown_refused cells festivals) (g.month y m _ _) (g.month_added y m _ _);
+      month = λ y m cells festivals. told_stays (λ (z : Answer Grid). shown z cells festivals) (λ w. w.answer) (shown_refused cells festivals) (g.month y m _ _) (g.month_added y m _ _);
     }

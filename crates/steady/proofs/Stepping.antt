@@ -59,8 +59,8 @@ year_of_law a = refl
 
 module _ (c e : Calendar) (w : Extends c e) (y m : ℕ) (s : ℤ) (x : BsMonth) where
   -- what the shorter answers, the longer answers
-  pub step-longer : step_month c y m s ≡ answered x → step_month e y m s ≡ answered x
-  step-longer h =
+  pub step_longer : step_month c y m s ≡ answered x → step_month e y m s ≡ answered x
+  step_longer h =
       let t = told c y m s x h in
       let z = whole_years (absolute y m s) in
       let i = in_years_law c.first c.years z t.1 in

@@ -7,8 +7,8 @@ use Rattle.paper.specs.Answers.{answered}
 use Rattle.conversion.specs.Calendar.{Calendar, bs}
 use Rattle.rules.specs.declared.Rule.{Rule}
 use Rattle.rules.specs.Sky.{Sky}
-use Rattle.rules.specs.Days.{udaya, nishita, begins, claims, claimed, festivalDay}
-use Rattle.rules.specs.Festivals.{inMonth, opening, entry, dayPairs, dayList}
+use Rattle.rules.specs.Days.{udaya, nishita, begins, claims, claimed, festival_day}
+use Rattle.rules.specs.Festivals.{in_month, opening, entry, day_pairs, day_list}
 use Rattle.holiday.specs.Holiday.{holiday_by}
 
 -- ---- the calendar and the sky
@@ -58,8 +58,8 @@ fixed_on name holiday = record { kind = 1; year = 0; month = 1; day = 2; half = 
 
 pub record SmallSky : Type 0 where
   -- month 3 of year 1 holds two new moons, and the second opens it; month 5 holds none, and nothing opens it
-  pub first_inside : inMonth sky calendar 1 3 205 ≡ true
-  pub second_inside : inMonth sky calendar 1 3 290 ≡ true
+  pub first_inside : in_month sky calendar 1 3 205 ≡ true
+  pub second_inside : in_month sky calendar 1 3 290 ≡ true
   pub second_opens : opening sky calendar 1 3 ≡ some 290
   pub none_opens : opening sky calendar 1 5 ≡ none
   -- nishita of day 30 is 309 to 311: a tithi that ends with it claims the day, one that ends before its end does not
@@ -72,27 +72,27 @@ pub record SmallSky : Type 0 where
   pub kala_before_end : claims sky 295 305 1 30 ≡ true
   pub kala_at_start : claims sky 304 305 1 30 ≡ true
   -- tithi 4, from 305 to 315, claims day 31 at kala 1
-  pub by_kala : festivalDay sky 4 1 305 ≡ some 31
+  pub by_kala : festival_day sky 4 1 305 ≡ some 31
   -- tithi 2, from 295 to 303, claims no day at kala 1; it claims day 30 at udaya, though it begins on day 29
   pub no_kala : claimed sky 295 303 1 29 ≡ none
-  pub by_udaya : festivalDay sky 2 1 295 ≡ some 30
+  pub by_udaya : festival_day sky 2 1 295 ≡ some 30
   -- tithi 3, from 303 to 305, claims no day at kala 2 and none at udaya: it is kept on day 30, on which it begins
   pub no_udaya : claimed sky 303 305 udaya 30 ≡ none
-  pub by_beginning : festivalDay sky 3 2 303 ≡ some 30
+  pub by_beginning : festival_day sky 3 2 303 ≡ some 30
   -- kala 5 is the day of beginning, at once
-  pub at_once : festivalDay sky 2 begins 295 ≡ some 29
+  pub at_once : festival_day sky 2 begins 295 ≡ some 29
   -- the rule of tithi 2 in year 1, from the second new moon; there is no such day in year 2, whose month 3 has no new moon
   pub resolved : entry sky calendar 1 second ≡ some 30
   pub unresolved : entry sky calendar 2 second ≡ none
   -- the late rule of year 1 falls on day 121, in month 1 of year 2, and stands in that day's list
-  pub year_before : dayList sky calendar (late ∷ []) (bs 2 1 2) 121 ≡ (7, 1) ∷ []
+  pub year_before : day_list sky calendar (late ∷ []) (bs 2 1 2) 121 ≡ (7, 1) ∷ []
   -- an override of year 2, the day's own, silences it; an override of year 1, in which it was resolved, does not
-  pub silenced_by_own : dayList sky calendar (late ∷ instead 2 ∷ []) (bs 2 1 2) 121 ≡ []
-  pub not_by_before : dayList sky calendar (late ∷ instead 1 ∷ []) (bs 2 1 2) 121 ≡ (7, 1) ∷ []
+  pub silenced_by_own : day_list sky calendar (late ∷ instead 2 ∷ []) (bs 2 1 2) 121 ≡ []
+  pub not_by_before : day_list sky calendar (late ∷ instead 1 ∷ []) (bs 2 1 2) 121 ≡ (7, 1) ∷ []
   -- of neighbours with one name the first is kept, and the holiday mark goes with the one removed; one with another name between them keeps both
-  pub before_removal : dayPairs sky calendar (late ∷ fixed_on 7 0 ∷ []) (bs 2 1 2) 121 ≡ (7, 0) ∷ (7, 1) ∷ []
-  pub removed : dayList sky calendar (late ∷ fixed_on 7 0 ∷ []) (bs 2 1 2) 121 ≡ (7, 0) ∷ []
-  pub apart : dayList sky calendar (late ∷ fixed_on 7 0 ∷ fixed_on 8 0 ∷ []) (bs 2 1 2) 121 ≡ (7, 0) ∷ (8, 0) ∷ (7, 1) ∷ []
+  pub before_removal : day_pairs sky calendar (late ∷ fixed_on 7 0 ∷ []) (bs 2 1 2) 121 ≡ (7, 0) ∷ (7, 1) ∷ []
+  pub removed : day_list sky calendar (late ∷ fixed_on 7 0 ∷ []) (bs 2 1 2) 121 ≡ (7, 0) ∷ []
+  pub apart : day_list sky calendar (late ∷ fixed_on 7 0 ∷ fixed_on 8 0 ∷ []) (bs 2 1 2) 121 ≡ (7, 0) ∷ (8, 0) ∷ (7, 1) ∷ []
   -- day 121 is a Wednesday, and a holiday by the late rule; with the removed mark it is none, with the mark apart it is one again
   pub holiday_marked : holiday_by sky calendar (late ∷ []) true 2 1 2 ≡ answered true
   pub holiday_removed : holiday_by sky calendar (late ∷ fixed_on 7 0 ∷ []) true 2 1 2 ≡ answered false

@@ -44,7 +44,7 @@ module _ (t : Table) (rows more rules : List ℕ) (today : Date) where
   -- the same table with more rows, the same rules, the same today and the same buffers: every question that asks a year table
   pub record Steady : Type 0 where
     -- `bs_month_len`, `validate_bs_date`, `bs_to_ad`, `ad_to_bs`, `step_month`
-    pub month-len : (y m : ℕ) → AnswerStays (month_len short y m) (month_len long y m) NoYear (λ n. Added short y)
+    pub month_len_law : (y m : ℕ) → AnswerStays (month_len short y m) (month_len long y m) NoYear (λ n. Added short y)
     pub valid : (y m d : ℕ) → AnswerStays (valid_bs short y m d) (valid_bs long y m d) NoYear (λ u. Added short y)
     pub to_ad_law : (y m d : ℕ) → AnswerStays (to_ad short y m d) (to_ad long y m d) NoYear (λ x. Added short y)
     pub to_bs : (y m d : ℕ) → AnswerStays (from_ad short y m d) (from_ad long y m d) (outside short (day_number (date y m d)))

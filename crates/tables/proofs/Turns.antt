@@ -13,37 +13,37 @@ use Rattle.tables.specs.Shared.{shared}
 -- ---- the columns of a row
 
 module _ (rows : List ℕ) (i m : ℕ) (h : m < 12) {n : ℕ} (e : n ≡ lens rows i m) where
-  pub column-short : n < 29 → m ≡ column_from rows i (12 - m) m
+  pub column_short : n < 29 → m ≡ column_from rows i (12 - m) m
   unfolding column_from
-  column-short l =
+  column_short l =
       let q : 12 - m ≡ suc (11 - m) = omega arith in
       rw (q, ← e, lt-leb 29 n l)
 
-  pub column-long : 29 ≤ n → 32 < n → m ≡ column_from rows i (12 - m) m
+  pub column_long : 29 ≤ n → 32 < n → m ≡ column_from rows i (12 - m) m
   unfolding column_from
-  column-long k l =
+  column_long k l =
       let q : 12 - m ≡ suc (11 - m) = omega arith in
       rw (q, ← e, le-leb 29 n k, lt-leb n 32 l)
 
-  pub column-turn : 29 ≤ n → n ≤ 32 → column_from rows i (12 - (m + 1)) (m + 1) ≡ column_from rows i (12 - m) m
+  pub column_turn : 29 ≤ n → n ≤ 32 → column_from rows i (12 - (m + 1)) (m + 1) ≡ column_from rows i (12 - m) m
   unfolding column_from
-  column-turn k l =
+  column_turn k l =
       let q : 12 - m ≡ suc (11 - m) = omega arith in
       let r : 12 - (m + 1) ≡ 11 - m = omega arith in
       rw (q, r, ← e, le-leb 29 n k, le-leb n 32 l)
 
 module _ (rows : List ℕ) (i m days : ℕ) (h : 12 ≤ m) (l : m ≤ 12) (s : days ≡ sum (lens rows i) m) {n : ℕ} (e : n ≡ lens rows i 12) where
-  pub column-good : n ≡ days → 13 ≡ column_from rows i (12 - m) m
+  pub column_good : n ≡ days → 13 ≡ column_from rows i (12 - m) m
   unfolding column_from
-  column-good k =
+  column_good k =
       let z : m ≡ 12 = omega arith in
       let q : 12 - m ≡ 0 = omega arith in
       let f : lens rows i 12 ≡ sum (lens rows i) 12 = sym e ∙ k ∙ s ∙ ap (sum (lens rows i)) z in
       rw (q, eq-eqb (lens rows i 12) (sum (lens rows i) 12) f)
 
-  pub column-sum : (n ≡ days → ⊥) → 12 ≡ column_from rows i (12 - m) m
+  pub column_sum : (n ≡ days → ⊥) → 12 ≡ column_from rows i (12 - m) m
   unfolding column_from
-  column-sum k =
+  column_sum k =
       let z : m ≡ 12 = omega arith in
       let q : 12 - m ≡ 0 = omega arith in
       let f : lens rows i 12 ≡ sum (lens rows i) 12 → ⊥ = λ g. k (e ∙ g ∙ sym (s ∙ ap (sum (lens rows i)) z)) in
@@ -52,9 +52,9 @@ module _ (rows : List ℕ) (i m days : ℕ) (h : 12 ≤ m) (l : m ≤ 12) (s : d
 -- ---- the rows of a table
 
 module _ (rows : List ℕ) (n i : ℕ) where
-  pub row-over : n ≤ i → B.LastDay ≡ row_from rows (n - i) i
+  pub row_over : n ≤ i → B.LastDay ≡ row_from rows (n - i) i
   unfolding row_from
-  row-over h =
+  row_over h =
       let q : n - i ≡ 0 = omega arith in
       rw q
 
@@ -74,8 +74,8 @@ module _ (rows : List ℕ) (n i : ℕ) where
 -- ---- two tables
 
 module _ (xs ys : List ℕ) (i : ℕ) where
-  pub shared-over : length xs ≤ i → i ≡ i + shared (drop i xs) (drop i ys)
-  shared-over h =
+  pub shared_over : length xs ≤ i → i ≡ i + shared (drop i xs) (drop i ys)
+  shared_over h =
       let e : i ≡ i + 0 = omega arith in
       e ∙ ap (λ (t : List ℕ). i + shared t (drop i ys)) (sym (over xs i h))
 
@@ -124,8 +124,8 @@ module _ (t : Table) (rows : List ℕ) where
           unfolding place
           in_bounds = rw (le-ltb t.first_year 1 a, le-ltb 3000 t.first_year b, ← e, le-ltb n 1 c, le-ltb 128 n d, ← f)
 
-          pub day-none : k ≡ 0 → B.NoDate ≡ place t rows
-          day-none h = rw (eq-eqb k 0 h) at in_bounds
+          pub day_none : k ≡ 0 → B.NoDate ≡ place t rows
+          day_none h = rw (eq-eqb k 0 h) at in_bounds
 
           module _ (g : k ≡ 0 → ⊥) where
             pub day-early : k < 2415386 → B.FirstDay ≡ place t rows

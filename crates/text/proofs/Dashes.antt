@@ -12,7 +12,7 @@ use Rattle.text.specs.Dashed.{number, numbers, dash, ended}
 use Rattle.text.specs.declared.triples.Numbers.TheVariants.{Are, Not}
 use Rattle.text.proofs.Decimals.{digits_decimal}
 use Rattle.text.proofs.Runs.{never}
-use Rattle.text.proofs.Ways.{wide-only}
+use Rattle.text.proofs.Ways.{wide_only}
 
 -- ---- a number
 
@@ -20,8 +20,8 @@ pub number_decimal : (w : ℕ) (s : List ℕ) → w ≡ 0 → number w s ≡ dec
 number_decimal w s e = rw e
 
 module _ (w : ℕ) (s : List ℕ) (n : w ≡ 0 → ⊥) where
-  pub number-wide : w ≤ 4 → number w s ≡ wide w s
-  number-wide h = let z = ne_eqb w 0 n in let l = le-leb w 4 h in rw (z, l)
+  pub number_wide : w ≤ 4 → number w s ≡ wide w s
+  number_wide h = let z = ne_eqb w 0 n in let l = le-leb w 4 h in rw (z, l)
 
   pub number_none : 4 < w → no ≡ number w s
   number_none h = let z = ne_eqb w 0 n in let l = lt-leb w 4 h in rw (z, l)
@@ -36,7 +36,7 @@ number_small w s n t e = go (eqb w 0) (leb w 4) refl e
         let z : 0 < 10 = omega arith in
         let h : w ≤ 4 = leb-true w 4 p in
         let m : 10 ^ w ≤ 10 ^ 4 = pow-le-pow_right z h in
-        omega (arith, (wide-only w (omega arith) s n t q).0)
+        omega (arith, (wide_only w (omega arith) s n t q).0)
     go false false p q = absurd (never q)
 
 -- ---- behind a dash
@@ -57,8 +57,8 @@ next_none w s e = rw e
 -- ---- three
 
 module _ (f o : ℕ) (s : List ℕ) where
-  pub no-first : number f s ≡ no → Not ≡ ended (numbers f o s)
-  no-first e = rw e
+  pub no_first : number f s ≡ no → Not ≡ ended (numbers f o s)
+  no_first e = rw e
 
   module _ {y : ℕ} {t : List ℕ} (e : number f s ≡ got y t) where
     pub no_second : behind dash (number o) t ≡ no → Not ≡ ended (numbers f o s)

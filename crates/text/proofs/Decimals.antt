@@ -154,21 +154,21 @@ scanned limit v (b ∷ s) w t h e = go (digit 10 b) refl (leb (v * 10 + worth b)
 -- ---- the cases of a decimal number
 
 module _ (limit : ℕ) (s : List ℕ) where
-  pub decimal-led : starts 48 s ≡ true → starts_digit (drop 1 s) ≡ true → decimal limit s ≡ no
+  pub decimal_led : starts 48 s ≡ true → starts_digit (drop 1 s) ≡ true → decimal limit s ≡ no
   unfolding decimal
-  decimal-led z f = rw (z, f)
+  decimal_led z f = rw (z, f)
 
-  pub decimal-nought : starts 48 s ≡ true → starts_digit (drop 1 s) ≡ false → decimal limit s ≡ got 0 (drop 1 s)
+  pub decimal_nought : starts 48 s ≡ true → starts_digit (drop 1 s) ≡ false → decimal limit s ≡ got 0 (drop 1 s)
   unfolding decimal
-  decimal-nought z f = rw (z, f)
+  decimal_nought z f = rw (z, f)
 
-  pub decimal-scan : starts 48 s ≡ false → starts_digit s ≡ true → decimal limit s ≡ scan limit 0 s
+  pub decimal_scan : starts 48 s ≡ false → starts_digit s ≡ true → decimal limit s ≡ scan limit 0 s
   unfolding decimal
-  decimal-scan z d = rw (z, d)
+  decimal_scan z d = rw (z, d)
 
-  pub decimal-other : starts 48 s ≡ false → starts_digit s ≡ false → decimal limit s ≡ no
+  pub decimal_other : starts 48 s ≡ false → starts_digit s ≡ false → decimal limit s ≡ no
   unfolding decimal
-  decimal-other z d = rw (z, d)
+  decimal_other z d = rw (z, d)
 
 -- ---- the two laws
 
@@ -181,9 +181,9 @@ unfolding run mark
 run_zero = refl
 
 module _ (limit n : ℕ) (s : List ℕ) (h : n ≤ limit) (f : starts_digit s ≡ false) where
-  decimal-fewest : (k : ℕ) → Fewest n k → decimal limit (run 10 (suc k) n ++ s) ≡ got n s
-  decimal-fewest k (nought e) = rw (e, run_zero, decimal-nought limit (48 ∷ s) refl f)
-  decimal-fewest k (some a b) =
+  decimal_fewest : (k : ℕ) → Fewest n k → decimal limit (run 10 (suc k) n ++ s) ≡ got n s
+  decimal_fewest k (nought e) = rw (e, run_zero, decimal_nought limit (48 ∷ s) refl f)
+  decimal_fewest k (some a b) =
       let z : 0 < 10 = omega arith in
       let d = n / 10 ^ k % 10 in
       let l : n / 10 ^ k < 10 = (div-lt_iff_lt-mul (power_pos 10 k z)).1 (omega (arith, pow-suc 10 k)) in
@@ -196,15 +196,15 @@ module _ (limit n : ℕ) (s : List ℕ) (h : n ≤ limit) (f : starts_digit s �
       let u : 0 * 10 ^ suc k + n % 10 ^ suc k ≤ limit = omega arith in
       let v : 0 * 10 ^ suc k + n % 10 ^ suc k ≡ n = omega arith in
       ap (λ (x : List ℕ). decimal limit (x ++ s)) (run_suc 10 k n)
-      ∙ decimal-scan limit (mark d ∷ (run 10 k n ++ s)) q (digit_mark 10 d t (omega arith))
+      ∙ decimal_scan limit (mark d ∷ (run 10 k n ++ s)) q (digit_mark 10 d t (omega arith))
       ∙ ap (λ (x : List ℕ). scan limit 0 (x ++ s)) (sym (run_suc 10 k n))
       ∙ scan_run limit (suc k) 0 n s u f ∙ ap (λ (x : ℕ). got x s) v
 
   -- reading what was written gives the number, and stops right after it
-  pub decimal-digits : decimal limit (digits n ++ s) ≡ got n s
-  decimal-digits =
+  pub decimal_digits : decimal limit (digits n ++ s) ≡ got n s
+  decimal_digits =
       let w = has_fewest n in
-      ap (λ (x : List ℕ). decimal limit (x ++ s)) (digits_fewest n w.k w.fewest) ∙ decimal-fewest w.k w.fewest
+      ap (λ (x : List ℕ). decimal limit (x ++ s)) (digits_fewest n w.k w.fewest) ∙ decimal_fewest w.k w.fewest
 
 -- what is read is the writing of the number, with no digit after it
 pub record Decimal (limit : ℕ) (s : List ℕ) (n : ℕ) (t : List ℕ) : Type 0 where
@@ -213,15 +213,15 @@ pub record Decimal (limit : ℕ) (s : List ℕ) (n : ℕ) (t : List ℕ) : Type 
   pub ends : starts_digit t ≡ false
 
 module _ (limit b : ℕ) (s : List ℕ) (n : ℕ) (t : List ℕ) where
-  as-nought : b ≡ 48 → starts_digit s ≡ false → got 0 s ≡ got n t → Decimal limit (b ∷ s) n t
-  as-nought e f q =
+  as_nought : b ≡ 48 → starts_digit s ≡ false → got 0 s ≡ got n t → Decimal limit (b ∷ s) n t
+  as_nought e f q =
       let a : 0 ≡ n = cc in
       let r : s ≡ t = cc in
       let w : digits 0 ≡ 48 ∷ [] = digits_fewest 0 0 (nought refl) ∙ run_zero in
       record { most = omega arith; text = rw (e, ← a, w, r); ends = rw r at f }
 
-  as-scanned : (b ≡ 48 → ⊥) → digit 10 b ≡ true → (u : Scanned limit (0 * 10 + worth b) s n t) → Decimal limit (b ∷ s) n t
-  as-scanned ne f u =
+  as_scanned : (b ≡ 48 → ⊥) → digit 10 b ≡ true → (u : Scanned limit (0 * 10 + worth b) s n t) → Decimal limit (b ∷ s) n t
+  as_scanned ne f u =
       let d = worth b in
       let k = u.k in
       let l : d < 10 = ltb-true d 10 f in
@@ -247,24 +247,24 @@ module _ (limit b : ℕ) (s : List ℕ) (n : ℕ) (t : List ℕ) where
   as_read : (z : Bool) → eqb b 48 ≡ z → (f : Bool) → digit 10 b ≡ f → (m : Bool) → starts_digit s ≡ m → decimal limit (b ∷ s) ≡ got n t → Decimal limit (b ∷ s) n t
   as_read true z f d true m e =
       let x = eqb-true b 48 z in
-      absurd (never (sym (decimal-led limit (48 ∷ s) refl m) ∙ ap (λ (y : ℕ). decimal limit (y ∷ s)) (sym x) ∙ e))
+      absurd (never (sym (decimal_led limit (48 ∷ s) refl m) ∙ ap (λ (y : ℕ). decimal limit (y ∷ s)) (sym x) ∙ e))
   as_read true z f d false m e =
       let x = eqb-true b 48 z in
-      as-nought x m (sym (decimal-nought limit (48 ∷ s) refl m) ∙ ap (λ (y : ℕ). decimal limit (y ∷ s)) (sym x) ∙ e)
-  as_read false z false d m _ e = absurd (never (sym (decimal-other limit (b ∷ s) z d) ∙ e))
+      as_nought x m (sym (decimal_nought limit (48 ∷ s) refl m) ∙ ap (λ (y : ℕ). decimal limit (y ∷ s)) (sym x) ∙ e)
+  as_read false z false d m _ e = absurd (never (sym (decimal_other limit (b ∷ s) z d) ∙ e))
   as_read false z true d m _ e = go (leb (0 * 10 + worth b) limit) refl
     where
       at_first : scan limit 0 (b ∷ s) ≡ cond (leb (0 * 10 + worth b) limit) (scan limit (0 * 10 + worth b) s) no
       at_first = rw d
 
       go : (g : Bool) → leb (0 * 10 + worth b) limit ≡ g → Decimal limit (b ∷ s) n t
-      go false g = absurd (never (sym (at_first ∙ rw g) ∙ sym (decimal-scan limit (b ∷ s) z d) ∙ e))
+      go false g = absurd (never (sym (at_first ∙ rw g) ∙ sym (decimal_scan limit (b ∷ s) z d) ∙ e))
       go true g =
-          as-scanned (eqb-false b 48 z) d
-          (scanned limit (0 * 10 + worth b) s n t (leb-true (0 * 10 + worth b) limit g) (sym (at_first ∙ rw g) ∙ sym (decimal-scan limit (b ∷ s) z d) ∙ e))
+          as_scanned (eqb-false b 48 z) d
+          (scanned limit (0 * 10 + worth b) s n t (leb-true (0 * 10 + worth b) limit g) (sym (at_first ∙ rw g) ∙ sym (decimal_scan limit (b ∷ s) z d) ∙ e))
 
 pub digits_decimal : (limit : ℕ) (s : List ℕ) (n : ℕ) (t : List ℕ) → decimal limit s ≡ got n t → Decimal limit s n t
-digits_decimal limit [] n t e = absurd (never (sym (decimal-other limit [] refl refl) ∙ e))
+digits_decimal limit [] n t e = absurd (never (sym (decimal_other limit [] refl refl) ∙ e))
 digits_decimal limit (b ∷ s) n t e = as_read limit b s n t (eqb b 48) refl (digit 10 b) refl (starts_digit s) refl e
 
 -- two texts that read to the same number, with the same rest, are the same text
@@ -273,4 +273,4 @@ decimal_one limit s s' n t e e' = (digits_decimal limit s n t e).text ∙ sym (d
 
 -- a text that is refused is the writing of no number within the limit, with no digit after it
 pub decimal_none : (limit : ℕ) (s : List ℕ) → decimal limit s ≡ no → (n : ℕ) (t : List ℕ) → n ≤ limit → starts_digit t ≡ false → s ≡ digits n ++ t → ⊥
-decimal_none limit s e n t h f q = never (sym e ∙ ap (decimal limit) q ∙ decimal-digits limit n t h f)
+decimal_none limit s e n t h f q = never (sym e ∙ ap (decimal limit) q ∙ decimal_digits limit n t h f)

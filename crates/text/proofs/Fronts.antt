@@ -11,15 +11,15 @@ use Rattle.text.specs.Fronts.{up_to}
 use Rattle.text.proofs.Texts.{cut, over}
 
 module _ (stop : ℕ) (s : List ℕ) (i left : ℕ) where
-  pub up-over : length s ≤ i → up_to stop left (drop i s) ≡ []
-  up-over h = rw (over s i h) (nothing left)
+  pub up_over : length s ≤ i → up_to stop left (drop i s) ≡ []
+  up_over h = rw (over s i h) (nothing left)
     where
       nothing : (n : ℕ) → up_to stop n [] ≡ []
       nothing zero = refl
       nothing (suc n) = refl
 
-  pub up-stopped : i < length s → get_or s i 0 ≡ stop → up_to stop left (drop i s) ≡ []
-  up-stopped h e = rw (cut s i h) (go left)
+  pub up_stopped : i < length s → get_or s i 0 ≡ stop → up_to stop left (drop i s) ≡ []
+  up_stopped h e = rw (cut s i h) (go left)
     where
       go : (n : ℕ) → up_to stop n (get_or s i 0 ∷ drop (i + 1) s) ≡ []
       go zero = refl

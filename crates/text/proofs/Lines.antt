@@ -28,11 +28,11 @@ push_full buffer kept b h = rw (take_all kept buffer h, le-ltb (length buffer) (
 -- ---- the loop over a piece
 
 module _ (room : ℕ) (c : Current) (s : List ℕ) (i : ℕ) where
-  pub line-over : length s ≤ i → going c ≡ line room c (drop i s)
-  line-over h = rw (over s i h)
+  pub line_over : length s ≤ i → going c ≡ line room c (drop i s)
+  line_over h = rw (over s i h)
 
-  pub line-feed : i < length s → get_or s i 0 ≡ 10 → whole c (drop (i + 1) s) ≡ line room c (drop i s)
-  line-feed h e = rw (cut s i h, eq-eqb (get_or s i 0) 10 e)
+  pub line_feed : i < length s → get_or s i 0 ≡ 10 → whole c (drop (i + 1) s) ≡ line room c (drop i s)
+  line_feed h e = rw (cut s i h, eq-eqb (get_or s i 0) 10 e)
 
   pub line_turn : i < length s → (get_or s i 0 ≡ 10 → ⊥) → line room (more room c (get_or s i 0)) (drop (i + 1) s) ≡ line room c (drop i s)
   line_turn h n = rw (cut s i h, ne_eqb (get_or s i 0) 10 n)

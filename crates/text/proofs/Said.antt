@@ -17,24 +17,24 @@ use Rattle.text.proofs.Runs.{never}
 use Rattle.text.proofs.Texts.{same_place}
 
 module _ {s : List ℕ} {g : Got ℕ} (r : Read) (p : Says s (read_says s r) (read_end r) g) where
-  pub number-said : {n : ℕ} {next : Cursor} → r ≡ Number n next → g ≡ got n (drop next.at s)
-  number-said q = sym p.same ∙ ap (read_says s) q
+  pub number_said : {n : ℕ} {next : Cursor} → r ≡ Number n next → g ≡ got n (drop next.at s)
+  number_said q = sym p.same ∙ ap (read_says s) q
 
-  pub number-inside : {n : ℕ} {next : Cursor} → r ≡ Number n next → next.at ≤ length s
-  number-inside q = subst (λ (x : Read). read_end x ≤ length s) q p.inside
+  pub number_inside : {n : ℕ} {next : Cursor} → r ≡ Number n next → next.at ≤ length s
+  number_inside q = subst (λ (x : Read). read_end x ≤ length s) q p.inside
 
-  pub number-unsaid : r ≡ NotOne → g ≡ no
-  number-unsaid q = sym p.same ∙ ap (read_says s) q
+  pub number_unsaid : r ≡ NotOne → g ≡ no
+  number_unsaid q = sym p.same ∙ ap (read_says s) q
 
 module _ {s : List ℕ} {g : Got (Unit {0})} (r : Passed) (p : Says s (passed_says s r) (passed_end r) g) where
-  pub passed-said : {next : Cursor} → r ≡ To next → g ≡ got tt (drop next.at s)
-  passed-said q = sym p.same ∙ ap (passed_says s) q
+  pub passed_said : {next : Cursor} → r ≡ To next → g ≡ got tt (drop next.at s)
+  passed_said q = sym p.same ∙ ap (passed_says s) q
 
-  pub passed-inside : {next : Cursor} → r ≡ To next → next.at ≤ length s
-  passed-inside q = subst (λ (x : Passed). passed_end x ≤ length s) q p.inside
+  pub passed_inside : {next : Cursor} → r ≡ To next → next.at ≤ length s
+  passed_inside q = subst (λ (x : Passed). passed_end x ≤ length s) q p.inside
 
-  pub passed-unsaid : r ≡ Not → g ≡ no
-  passed-unsaid q = sym p.same ∙ ap (passed_says s) q
+  pub passed_unsaid : r ≡ Not → g ≡ no
+  passed_unsaid q = sym p.same ∙ ap (passed_says s) q
 
 -- ---- one answer alone
 

@@ -15,7 +15,7 @@ use mir.ValLaws.{to_z_pos}
 use Rattle.text.specs.Digits.{mark, worth, digits, signed_digits, starts_digit, starts, Got, got, no, decimal, above, below, signed}
 use Rattle.text.proofs.Marks.{worth_mark}
 use Rattle.text.proofs.Runs.{never, run_suc}
-use Rattle.text.proofs.Decimals.{has_fewest, digits_fewest, decimal-digits, digits_decimal}
+use Rattle.text.proofs.Decimals.{has_fewest, digits_fewest, decimal_digits, digits_decimal}
 
 -- a number of an i32
 abbrev pub Word : ℤ → Type 0
@@ -45,8 +45,8 @@ signed_minus s e = rw e
 
 -- reading what was written gives the number, and stops right after it
 pub signed_digits_law : (z : ℤ) (s : List ℕ) → Word z → starts_digit s ≡ false → signed (signed_digits z ++ s) ≡ got z s
-signed_digits_law (pos n) s h f = signed_plain (digits n ++ s) (digits_plain n s) ∙ ap above (decimal-digits 2147483647 n s h f)
-signed_digits_law (negsuc n) s h f = signed_minus (45 ∷ (digits (suc n) ++ s)) refl ∙ ap below (decimal-digits 2147483648 (suc n) s (omega arith) f)
+signed_digits_law (pos n) s h f = signed_plain (digits n ++ s) (digits_plain n s) ∙ ap above (decimal_digits 2147483647 n s h f)
+signed_digits_law (negsuc n) s h f = signed_minus (45 ∷ (digits (suc n) ++ s)) refl ∙ ap below (decimal_digits 2147483648 (suc n) s (omega arith) f)
 
 -- what is read is the writing of the number, with no digit after it
 pub record SignedDigits (s : List ℕ) (z : ℤ) (t : List ℕ) : Type 0 where
@@ -86,14 +86,14 @@ digits_signed (b ∷ s) z t e = go (eqb b 45) refl
 -- ---- the cases of the code
 
 module _ {g : Got ℕ} {n : ℕ} {t : List ℕ} (e : g ≡ got n t) where
-  pub above-said : got (pos n) t ≡ above g
-  above-said = rw e
+  pub above_said : got (pos n) t ≡ above g
+  above_said = rw e
 
   pub below_nought : n ≡ 0 → no ≡ below g
   below_nought z = rw (e, z)
 
-  pub below-said : (n ≡ 0 → ⊥) → got (negsuc (n - 1)) t ≡ below g
-  below-said z = rw e (go n z)
+  pub below_said : (n ≡ 0 → ⊥) → got (negsuc (n - 1)) t ≡ below g
+  below_said z = rw e (go n z)
     where
       go : (n : ℕ) → (n ≡ 0 → ⊥) → got (negsuc (n - 1)) t ≡ below (got n t)
       go zero z = absurd (z refl)

@@ -51,11 +51,11 @@ digit_inside s i e = ⊎_elim (λ h. absurd (true≢false (sym e ∙ ap starts_d
 
 -- the turns of the loop that compares a text with what stands at a place
 module _ (w s : List ℕ) (k i : ℕ) (h : k < length w) where
-  pub past-over : length s ≤ i → no ≡ past (drop k w) (drop i s)
-  past-over l = rw (cut w k h, over s i l)
+  pub past_over : length s ≤ i → no ≡ past (drop k w) (drop i s)
+  past_over l = rw (cut w k h, over s i l)
 
-  pub past-differs : i < length s → (get_or w k 0 ≡ get_or s i 0 → ⊥) → no ≡ past (drop k w) (drop i s)
-  past-differs l n = rw (cut w k h, cut s i l, ne_eqb (get_or w k 0) (get_or s i 0) n)
+  pub past_differs : i < length s → (get_or w k 0 ≡ get_or s i 0 → ⊥) → no ≡ past (drop k w) (drop i s)
+  past_differs l n = rw (cut w k h, cut s i l, ne_eqb (get_or w k 0) (get_or s i 0) n)
 
-  pub past-turn : i < length s → get_or w k 0 ≡ get_or s i 0 → past (drop (k + 1) w) (drop (i + 1) s) ≡ past (drop k w) (drop i s)
-  past-turn l e = rw (cut w k h, cut s i l, eq-eqb (get_or w k 0) (get_or s i 0) e)
+  pub past_turn : i < length s → get_or w k 0 ≡ get_or s i 0 → past (drop (k + 1) w) (drop (i + 1) s) ≡ past (drop k w) (drop i s)
+  past_turn l e = rw (cut w k h, cut s i l, eq-eqb (get_or w k 0) (get_or s i 0) e)

@@ -7,7 +7,7 @@ use native.Mathlib.Omega.{arith}
 use borrow.Author.Tests.{lt-ltb, le-ltb, le-leb, lt-leb}
 use lib.ListN.{length, get_or, drop, set}
 use lib.Seq.{sets}
-use Rattle.paper.proofs.Stores.{sets-append, sets_behind}
+use Rattle.paper.proofs.Stores.{sets_append, sets_behind}
 use Rattle.text.specs.Digits.{mark, run, worth, got, no, fixed, wide, scan}
 use Rattle.text.proofs.Runs.{power_pos, run_last, length_run}
 use Rattle.text.proofs.Texts.{cut, over}
@@ -15,24 +15,24 @@ use Rattle.text.proofs.Texts.{cut, over}
 -- ---- exactly k digits
 
 module _ (s : List ℕ) (base i v : ℕ) where
-  pub fixed-over : (left : ℕ) → length s ≤ i → 0 < left → no ≡ fixed base left v (drop i s)
-  fixed-over zero h l = absurd (let bad : ⊥ = omega arith in bad)
-  fixed-over (suc left) h l = rw (over s i h)
+  pub fixed_over : (left : ℕ) → length s ≤ i → 0 < left → no ≡ fixed base left v (drop i s)
+  fixed_over zero h l = absurd (let bad : ⊥ = omega arith in bad)
+  fixed_over (suc left) h l = rw (over s i h)
 
-  pub fixed-stop : (left : ℕ) → i < length s → base ≤ worth (get_or s i 0) → 0 < left → no ≡ fixed base left v (drop i s)
-  fixed-stop zero h d l = absurd (let bad : ⊥ = omega arith in bad)
-  fixed-stop (suc left) h d l = rw (cut s i h, le-ltb (worth (get_or s i 0)) base d)
+  pub fixed_stop : (left : ℕ) → i < length s → base ≤ worth (get_or s i 0) → 0 < left → no ≡ fixed base left v (drop i s)
+  fixed_stop zero h d l = absurd (let bad : ⊥ = omega arith in bad)
+  fixed_stop (suc left) h d l = rw (cut s i h, le-ltb (worth (get_or s i 0)) base d)
 
-  pub fixed-turn : (left : ℕ) → i < length s → worth (get_or s i 0) < base → 0 < left
+  pub fixed_turn : (left : ℕ) → i < length s → worth (get_or s i 0) < base → 0 < left
       → fixed base (left - 1) (v * base + worth (get_or s i 0)) (drop (i + 1) s) ≡ fixed base left v (drop i s)
-  fixed-turn zero h d l = absurd (let bad : ⊥ = omega arith in bad)
-  fixed-turn (suc left) h d l =
+  fixed_turn zero h d l = absurd (let bad : ⊥ = omega arith in bad)
+  fixed_turn (suc left) h d l =
       let e : suc left - 1 ≡ left = omega arith in
       rw (e, cut s i h, lt-ltb (worth (get_or s i 0)) base d)
 
-  pub fixed-done : (left : ℕ) → left ≤ 0 → got v (drop i s) ≡ fixed base left v (drop i s)
-  fixed-done zero h = refl
-  fixed-done (suc left) h = absurd (let bad : ⊥ = omega arith in bad)
+  pub fixed_done : (left : ℕ) → left ≤ 0 → got v (drop i s) ≡ fixed base left v (drop i s)
+  fixed_done zero h = refl
+  fixed_done (suc left) h = absurd (let bad : ⊥ = omega arith in bad)
 
 -- the number so far leaves room for the digits that are left
 pub room_turn : (v d base left most : ℕ) → d < base → 0 < left → suc v * base ^ left ≤ most → suc (v * base + d) * base ^ (left - 1) ≤ most
@@ -67,18 +67,18 @@ wide_fits k h =
 -- ---- all decimal digits that follow
 
 module _ (limit : ℕ) (s : List ℕ) (i v : ℕ) where
-  pub scan-over : length s ≤ i → got v (drop i s) ≡ scan limit v (drop i s)
-  scan-over h = rw (over s i h)
+  pub scan_over : length s ≤ i → got v (drop i s) ≡ scan limit v (drop i s)
+  scan_over h = rw (over s i h)
 
-  pub scan-stop : i < length s → 10 ≤ worth (get_or s i 0) → got v (drop i s) ≡ scan limit v (drop i s)
-  scan-stop h d = rw (cut s i h, le-ltb (worth (get_or s i 0)) 10 d)
+  pub scan_stop : i < length s → 10 ≤ worth (get_or s i 0) → got v (drop i s) ≡ scan limit v (drop i s)
+  scan_stop h d = rw (cut s i h, le-ltb (worth (get_or s i 0)) 10 d)
 
-  pub scan-large : i < length s → worth (get_or s i 0) < 10 → limit < v * 10 + worth (get_or s i 0) → no ≡ scan limit v (drop i s)
-  scan-large h d l = rw (cut s i h, lt-ltb (worth (get_or s i 0)) 10 d, lt-leb (v * 10 + worth (get_or s i 0)) limit l)
+  pub scan_large : i < length s → worth (get_or s i 0) < 10 → limit < v * 10 + worth (get_or s i 0) → no ≡ scan limit v (drop i s)
+  scan_large h d l = rw (cut s i h, lt-ltb (worth (get_or s i 0)) 10 d, lt-leb (v * 10 + worth (get_or s i 0)) limit l)
 
-  pub scan-turn : i < length s → worth (get_or s i 0) < 10 → v * 10 + worth (get_or s i 0) ≤ limit
+  pub scan_turn : i < length s → worth (get_or s i 0) < 10 → v * 10 + worth (get_or s i 0) ≤ limit
       → scan limit (v * 10 + worth (get_or s i 0)) (drop (i + 1) s) ≡ scan limit v (drop i s)
-  scan-turn h d l = rw (cut s i h, lt-ltb (worth (get_or s i 0)) 10 d, le-leb (v * 10 + worth (get_or s i 0)) limit l)
+  scan_turn h d l = rw (cut s i h, lt-ltb (worth (get_or s i 0)) 10 d, le-leb (v * 10 + worth (get_or s i 0)) limit l)
 
 -- ---- writing
 
@@ -101,7 +101,7 @@ run_turn l at base (suc left) n h =
     rw e
     (sets_behind vs l at (at + left) (mark (n % base)) m
     ∙ ap (λ (x : ℕ). set (sets l at vs) (at + x) (mark (n % base))) (sym k)
-    ∙ sym (sets-append vs (mark (n % base) ∷ []) l at)
+    ∙ sym (sets_append vs (mark (n % base) ∷ []) l at)
     ∙ ap (sets l at) (sym (run_last base left n)))
 
 pub run_done : (l : List ℕ) (at base left n : ℕ) → left ≤ 0 → l ≡ sets l at (run base left n)

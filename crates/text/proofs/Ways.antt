@@ -9,7 +9,7 @@ use native.Mathlib.Omega.{arith}
 use Rattle.text.specs.Digits.{run, digits, starts_digit, Got, got, no, found, both, past, behind, wide, decimal}
 use Rattle.text.proofs.Runs.{never, fixed_run, run_fixed}
 use Rattle.text.proofs.Turns.{wide_is}
-use Rattle.text.proofs.Decimals.{decimal-digits, digits_decimal}
+use Rattle.text.proofs.Decimals.{decimal_digits, digits_decimal}
 use Rattle.text.proofs.Texts.{past_append, append_past}
 
 -- the values that are written, how, and the reading; no digit is to follow what is written
@@ -27,7 +27,7 @@ decimals limit = record {
   ok = λ n. n ≤ limit;
   write = digits;
   reads = decimal limit;
-  back = decimal-digits limit;
+  back = decimal_digits limit;
   only = λ s n t e. ((digits_decimal limit s n t e).most, (digits_decimal limit s n t e).text);
 }
 
@@ -38,24 +38,24 @@ module _ (k : ℕ) (h : k ≤ 19) where
       let e : 0 * 10 ^ k + n % 10 ^ k ≡ n = omega arith in
       wide_is k (run 10 k n ++ t) h ∙ fixed_run 10 k 0 n t (omega arith) (omega arith) ∙ ap (λ (x : ℕ). got x t) e
 
-  pub wide-only : (s : List ℕ) (n : ℕ) (t : List ℕ) → wide k s ≡ got n t → (n < 10 ^ k) × (s ≡ run 10 k n ++ t)
-  wide-only s n t e =
+  pub wide_only : (s : List ℕ) (n : ℕ) (t : List ℕ) → wide k s ≡ got n t → (n < 10 ^ k) × (s ≡ run 10 k n ++ t)
+  wide_only s n t e =
       let r = run_fixed 10 k 0 s n t (omega arith) (sym (wide_is k s h) ∙ e) in
       let v = r.value in
       let q : r.n ≡ n = omega arith in
       (omega (arith, r.small), r.text ∙ ap (λ (x : ℕ). run 10 k x ++ t) q)
 
   abbrev pub wides : Way ℕ
-  wides = record { ok = λ n. n < 10 ^ k; write = run 10 k; reads = wide k; back = λ n t l f. wide_back n t l; only = wide-only }
+  wides = record { ok = λ n. n < 10 ^ k; write = run 10 k; reads = wide k; back = λ n t l f. wide_back n t l; only = wide_only }
 
 -- ---- one after the other
 
 module _ {A : Type 0} (w : List ℕ) (a : Way A) where
-  pub behind-back : (x : A) (t : List ℕ) → a.ok x → starts_digit t ≡ false → behind w a.reads ((w ++ a.write x) ++ t) ≡ got x t
-  behind-back x t h f = rw (append_assoc w (a.write x) t, past_append w (a.write x ++ t)) (a.back x t h f)
+  pub behind_back : (x : A) (t : List ℕ) → a.ok x → starts_digit t ≡ false → behind w a.reads ((w ++ a.write x) ++ t) ≡ got x t
+  behind_back x t h f = rw (append_assoc w (a.write x) t, past_append w (a.write x ++ t)) (a.back x t h f)
 
-  pub behind-only : (s : List ℕ) (x : A) (t : List ℕ) → behind w a.reads s ≡ got x t → a.ok x × (s ≡ (w ++ a.write x) ++ t)
-  behind-only s x t e = go (past w s) refl e
+  pub behind_only : (s : List ℕ) (x : A) (t : List ℕ) → behind w a.reads s ≡ got x t → a.ok x × (s ≡ (w ++ a.write x) ++ t)
+  behind_only s x t e = go (past w s) refl e
     where
       go : (g : Got (Unit {0})) → past w s ≡ g → found g (λ u r. a.reads r) no ≡ got x t → a.ok x × (s ≡ (w ++ a.write x) ++ t)
       go (got u r) p q =
@@ -64,17 +64,17 @@ module _ {A : Type 0} (w : List ℕ) (a : Way A) where
       go no p q = absurd (never q)
 
   abbrev pub behinds : Way A
-  behinds = record { ok = a.ok; write = λ x. w ++ a.write x; reads = behind w a.reads; back = behind-back; only = behind-only }
+  behinds = record { ok = a.ok; write = λ x. w ++ a.write x; reads = behind w a.reads; back = behind_back; only = behind_only }
 
 module _ {A B : Type 0} (a : Way A) (b : Way B) (calm : (y : B) (t : List ℕ) → starts_digit (b.write y ++ t) ≡ false) where
-  pub both-back : (x : A × B) (t : List ℕ) → a.ok x.0 × b.ok x.1 → starts_digit t ≡ false
+  pub both_back : (x : A × B) (t : List ℕ) → a.ok x.0 × b.ok x.1 → starts_digit t ≡ false
       → both a.reads b.reads ((a.write x.0 ++ b.write x.1) ++ t) ≡ got x t
-  both-back x t h f =
+  both_back x t h f =
       rw (append_assoc (a.write x.0) (b.write x.1) t, a.back x.0 (b.write x.1 ++ t) h.0 (calm x.1 t), b.back x.1 t h.1 f)
 
-  pub both-only : (s : List ℕ) (x : A × B) (t : List ℕ) → both a.reads b.reads s ≡ got x t
+  pub both_only : (s : List ℕ) (x : A × B) (t : List ℕ) → both a.reads b.reads s ≡ got x t
       → (a.ok x.0 × b.ok x.1) × (s ≡ (a.write x.0 ++ b.write x.1) ++ t)
-  both-only s x t e = go (a.reads s) refl e
+  both_only s x t e = go (a.reads s) refl e
     where
       second : (y : A) (r : List ℕ) → a.reads s ≡ got y r → (g : Got B) → b.reads r ≡ g → found g (λ z u. got (y, z) u) no ≡ got x t
           → (a.ok x.0 × b.ok x.1) × (s ≡ (a.write x.0 ++ b.write x.1) ++ t)
@@ -98,6 +98,6 @@ module _ {A B : Type 0} (a : Way A) (b : Way B) (calm : (y : B) (t : List ℕ) �
     ok = λ x. a.ok x.0 × b.ok x.1;
     write = λ x. a.write x.0 ++ b.write x.1;
     reads = both a.reads b.reads;
-    back = both-back;
-    only = both-only;
+    back = both_back;
+    only = both_only;
   }

@@ -11,9 +11,9 @@ use Rattle.text.specs.declared.reading.Whole.{Whole}
 use Rattle.text.specs.declared.reading.Whole.TheVariants.{Is, Not}
 
 module _ (limit : ℕ) (s : List ℕ) (at : ℕ) (z : at ≡ 0) where
-  pub whole-none : decimal limit (drop at s) ≡ no → none ≡ whole_number limit s
+  pub whole_none : decimal limit (drop at s) ≡ no → none ≡ whole_number limit s
   unfolding whole_number
-  whole-none e = let f : decimal limit s ≡ no = rw z at e in rw f
+  whole_none e = let f : decimal limit s ≡ no = rw z at e in rw f
 
   module _ {n : ℕ} {t : List ℕ} (e : decimal limit (drop at s) ≡ got n t) where
     pub whole-more : is_end t ≡ false → none ≡ whole_number limit s

@@ -7,7 +7,7 @@ use native.Mathlib.Omega.{arith}
 use lib.ListN.{length, take, length-append}
 use lib.Seq.{sets, length-sets}
 use Rattle.paper.proofs.Tests.{split}
-use Rattle.paper.proofs.Stores.{sets-append, sets-past, front_of}
+use Rattle.paper.proofs.Stores.{sets_append, sets_past, front_of}
 use Rattle.text.specs.Written.{Wrote}
 
 -- nothing is written
@@ -24,9 +24,9 @@ then {l} {i} {vs} {m} {j} {ws} {n} {k} a b =
     record {
       stored = b.stored ∙ ap (λ (x : List ℕ). sets x j ws) a.stored
           ∙ ⊎_elim (λ h. let g : j ≡ i + length vs = omega arith in ap (λ (x : ℕ). sets (sets l i vs) x ws) g)
-          (λ h. sets-past ws (sets l i vs) j (omega arith) ∙ sym (sets-past ws (sets l i vs) (i + length vs) (omega arith)))
+          (λ h. sets_past ws (sets l i vs) j (omega arith) ∙ sym (sets_past ws (sets l i vs) (i + length vs) (omega arith)))
           (split (length vs) (length l - i))
-          ∙ sym (sets-append vs ws l i);
+          ∙ sym (sets_append vs ws l i);
       end = omega (arith, length-append vs ws);
     }
 

@@ -19,8 +19,8 @@ use Rattle.utf8.proofs.Bytes.{follow_tail, low_tail, high_tail, passed}
 -- ---- the loop
 
 module _ (most : ℕ) (s : List ℕ) (i : ℕ) where
-  pub front-over : length s ≤ i → length (front most (drop i s)) ≡ 0
-  front-over h = rw (over s i h)
+  pub front_over : length s ≤ i → length (front most (drop i s)) ≡ 0
+  front_over h = rw (over s i h)
 
   module _ (h : i < length s) where
     pub front-on : goes_on (get_or s i 0) ≡ true → length (front most (drop i s)) ≡ suc (length (front most (drop (i + 1) s)))

@@ -17,22 +17,22 @@ use Rattle.utf8.proofs.Bytes.{follow_ascii, low_tail, high_tail, comes_free, pas
 -- ---- the first byte and the second
 
 module _ (a : ℕ) where
-  follow-two : 193 < a → a ≤ 223 → follow a ≡ 1
+  follow_two : 193 < a → a ≤ 223 → follow a ≡ 1
   unfolding follow
-  follow-two l h = let t = lt-leb a 127 (omega arith) in let u = lt-leb a 193 l in let v = le-leb a 223 h in rw (t, u, v)
+  follow_two l h = let t = lt-leb a 127 (omega arith) in let u = lt-leb a 193 l in let v = le-leb a 223 h in rw (t, u, v)
 
-  follow-three : 223 < a → a ≤ 239 → follow a ≡ 2
+  follow_three : 223 < a → a ≤ 239 → follow a ≡ 2
   unfolding follow
-  follow-three l h =
+  follow_three l h =
       let t = lt-leb a 127 (omega arith) in
       let u = lt-leb a 193 (omega arith) in
       let v = lt-leb a 223 l in
       let w = le-leb a 239 h in
       rw (t, u, v, w)
 
-  follow-four : 239 < a → a ≤ 244 → follow a ≡ 3
+  follow_four : 239 < a → a ≤ 244 → follow a ≡ 3
   unfolding follow
-  follow-four l h =
+  follow_four l h =
       let t = lt-leb a 127 (omega arith) in
       let u = lt-leb a 193 (omega arith) in
       let v = lt-leb a 223 (omega arith) in
@@ -97,13 +97,13 @@ module _ (c : ℕ) (s : List ℕ) (g : scalar c ≡ true) where
   m : c ≤ 1114111
   m = (scalar_facts c g).0
 
-  one-utf8 : c ≤ 127 → utf8 (encode c ++ s) ≡ utf8 s
+  one_utf8 : c ≤ 127 → utf8 (encode c ++ s) ≡ utf8 s
   unfolding encode
-  one-utf8 h = let t = le-leb c 127 h in rw t (first_comes c 0 s (follow_ascii c h) (omega arith) ∙ comes_free (low c) (high c) s)
+  one_utf8 h = let t = le-leb c 127 h in rw t (first_comes c 0 s (follow_ascii c h) (omega arith) ∙ comes_free (low c) (high c) s)
 
-  two-utf8 : 127 < c → c ≤ 2047 → utf8 (encode c ++ s) ≡ utf8 s
+  two_utf8 : 127 < c → c ≤ 2047 → utf8 (encode c ++ s) ≡ utf8 s
   unfolding encode
-  two-utf8 l h =
+  two_utf8 l h =
       let t = lt-leb c 127 l in
       let u = le-leb c 2047 h in
       let a = 192 + c / 64 in
@@ -117,12 +117,12 @@ module _ (c : ℕ) (s : List ℕ) (g : scalar c ≡ true) where
         large = λ e. omega arith;
       } in
       rw (t, u)
-      (first_comes a 1 (b ∷ s) (follow-two a (omega arith) (omega arith)) (omega arith)
+      (first_comes a 1 (b ∷ s) (follow_two a (omega arith) (omega arith)) (omega arith)
       ∙ tail_comes 0 (low a) (high a) b s (second_low a b r) (second_high a b r))
 
-  three-utf8 : 2047 < c → c ≤ 65535 → utf8 (encode c ++ s) ≡ utf8 s
+  three_utf8 : 2047 < c → c ≤ 65535 → utf8 (encode c ++ s) ≡ utf8 s
   unfolding encode
-  three-utf8 l h =
+  three_utf8 l h =
       let t = lt-leb c 127 (omega arith) in
       let u = lt-leb c 2047 l in
       let v = le-leb c 65535 h in
@@ -139,13 +139,13 @@ module _ (c : ℕ) (s : List ℕ) (g : scalar c ≡ true) where
         large = λ e. omega arith;
       } in
       rw (t, u, v)
-      (first_comes a 2 (b ∷ d ∷ s) (follow-three a (omega arith) (omega arith)) (omega arith)
+      (first_comes a 2 (b ∷ d ∷ s) (follow_three a (omega arith) (omega arith)) (omega arith)
       ∙ tail_comes 1 (low a) (high a) b (d ∷ s) (second_low a b r) (second_high a b r)
       ∙ tail_comes 0 128 191 d s (omega arith) (omega arith))
 
-  four-utf8 : 65535 < c → utf8 (encode c ++ s) ≡ utf8 s
+  four_utf8 : 65535 < c → utf8 (encode c ++ s) ≡ utf8 s
   unfolding encode
-  four-utf8 l =
+  four_utf8 l =
       let t = lt-leb c 127 (omega arith) in
       let u = lt-leb c 2047 (omega arith) in
       let v = lt-leb c 65535 l in
@@ -163,15 +163,15 @@ module _ (c : ℕ) (s : List ℕ) (g : scalar c ≡ true) where
         large = λ e. omega arith;
       } in
       rw (t, u, v)
-      (first_comes a 3 (b ∷ d ∷ f ∷ s) (follow-four a (omega arith) (omega arith)) (omega arith)
+      (first_comes a 3 (b ∷ d ∷ f ∷ s) (follow_four a (omega arith) (omega arith)) (omega arith)
       ∙ tail_comes 2 (low a) (high a) b (d ∷ f ∷ s) (second_low a b r) (second_high a b r)
       ∙ tail_comes 1 128 191 d (f ∷ s) (omega arith) (omega arith)
       ∙ tail_comes 0 128 191 f s (omega arith) (omega arith))
 
   pub encode_utf8 : utf8 (encode c ++ s) ≡ utf8 s
   encode_utf8 =
-      ⊎_elim (λ h. one-utf8 h)
-      (λ l. ⊎_elim (λ h. two-utf8 l h) (λ k. ⊎_elim (λ h. three-utf8 k h) (λ h. four-utf8 h) (split c 65535)) (split c 2047))
+      ⊎_elim (λ h. one_utf8 h)
+      (λ l. ⊎_elim (λ h. two_utf8 l h) (λ k. ⊎_elim (λ h. three_utf8 k h) (λ h. four_utf8 h) (split c 65535)) (split c 2047))
       (split c 127)
 
 -- characters, written, are UTF-8
@@ -228,61 +228,61 @@ encode_two a b l h p q =
     rw (t, u, x, y)
 
 module _ (a b d : ℕ) (l : 223 < a) (h : a ≤ 239) (s : Second a b) (p : 128 ≤ d) (q : d ≤ 191) where
-  abbrev three-of : ℕ
-  three-of = (a - 224) * 4096 + (b - 128) * 64 + (d - 128)
+  abbrev three_of : ℕ
+  three_of = (a - 224) * 4096 + (b - 128) * 64 + (d - 128)
 
-  three-least : 2047 < three-of
-  three-least = let x = s.least in ⊎_elim (λ y. let z = s.overlong (omega arith) in omega arith) (λ y. omega arith) (split a 224)
+  three_least : 2047 < three_of
+  three_least = let x = s.least in ⊎_elim (λ y. let z = s.overlong (omega arith) in omega arith) (λ y. omega arith) (split a 224)
 
-  three-most : three-of ≤ 65535
-  three-most = let x = s.most in omega arith
+  three_most : three_of ≤ 65535
+  three_most = let x = s.most in omega arith
 
-  three-scalar : scalar three-of ≡ true
-  three-scalar =
+  three_scalar : scalar three_of ≡ true
+  three_scalar =
       let x = s.least in
       let y = s.most in
-      scalar_is three-of (omega (arith, three-most)) (λ u v. let w : a ≡ 237 = omega arith in let z = s.surrogate w in omega arith)
+      scalar_is three_of (omega (arith, three_most)) (λ u v. let w : a ≡ 237 = omega arith in let z = s.surrogate w in omega arith)
 
-  encode-three : encode three-of ≡ a ∷ b ∷ d ∷ []
+  encode_three : encode three_of ≡ a ∷ b ∷ d ∷ []
   unfolding encode
-  encode-three =
-      let t = lt-leb three-of 127 (omega (arith, three-least)) in
-      let u = lt-leb three-of 2047 three-least in
-      let v = le-leb three-of 65535 three-most in
+  encode_three =
+      let t = lt-leb three_of 127 (omega (arith, three_least)) in
+      let u = lt-leb three_of 2047 three_least in
+      let v = le-leb three_of 65535 three_most in
       let i = s.least in
       let j = s.most in
-      let x : 224 + three-of / 4096 ≡ a = omega arith in
-      let k : three-of / 64 ≡ (a - 224) * 64 + (b - 128) = omega arith in
-      let y : tail (three-of / 64) ≡ b = rw k (omega arith) in
-      let z : tail three-of ≡ d = omega arith in
+      let x : 224 + three_of / 4096 ≡ a = omega arith in
+      let k : three_of / 64 ≡ (a - 224) * 64 + (b - 128) = omega arith in
+      let y : tail (three_of / 64) ≡ b = rw k (omega arith) in
+      let z : tail three_of ≡ d = omega arith in
       rw (t, u, v, x, y, z)
 
 module _ (a b d f : ℕ) (l : 239 < a) (h : a ≤ 244) (s : Second a b) (p : 128 ≤ d) (q : d ≤ 191) (m : 128 ≤ f) (n : f ≤ 191) where
-  abbrev four-of : ℕ
-  four-of = (a - 240) * 262144 + (b - 128) * 4096 + (d - 128) * 64 + (f - 128)
+  abbrev four_of : ℕ
+  four_of = (a - 240) * 262144 + (b - 128) * 4096 + (d - 128) * 64 + (f - 128)
 
-  four-least : 65535 < four-of
-  four-least = let x = s.least in ⊎_elim (λ y. let z = s.overlong_four (omega arith) in omega arith) (λ y. omega arith) (split a 240)
+  four_least : 65535 < four_of
+  four_least = let x = s.least in ⊎_elim (λ y. let z = s.overlong_four (omega arith) in omega arith) (λ y. omega arith) (split a 240)
 
-  four-most : four-of ≤ 1114111
-  four-most = let x = s.most in ⊎_elim (λ y. omega arith) (λ y. let z = s.large (omega arith) in omega arith) (split a 243)
+  four_most : four_of ≤ 1114111
+  four_most = let x = s.most in ⊎_elim (λ y. omega arith) (λ y. let z = s.large (omega arith) in omega arith) (split a 243)
 
-  four-scalar : scalar four-of ≡ true
-  four-scalar = scalar_is four-of four-most (λ u v. omega (arith, four-least))
+  four_scalar : scalar four_of ≡ true
+  four_scalar = scalar_is four_of four_most (λ u v. omega (arith, four_least))
 
-  encode-four : encode four-of ≡ a ∷ b ∷ d ∷ f ∷ []
+  encode_four : encode four_of ≡ a ∷ b ∷ d ∷ f ∷ []
   unfolding encode
-  encode-four =
-      let g = four-least in
-      let t = lt-leb four-of 127 (omega arith) in
-      let u = lt-leb four-of 2047 (omega arith) in
-      let v = lt-leb four-of 65535 g in
+  encode_four =
+      let g = four_least in
+      let t = lt-leb four_of 127 (omega arith) in
+      let u = lt-leb four_of 2047 (omega arith) in
+      let v = lt-leb four_of 65535 g in
       let i = s.least in
       let j = s.most in
-      let w : 240 + four-of / 262144 ≡ a = omega arith in
-      let x : tail (four-of / 4096) ≡ b = omega arith in
-      let y : tail (four-of / 64) ≡ d = omega arith in
-      let z : tail four-of ≡ f = omega arith in
+      let w : 240 + four_of / 262144 ≡ a = omega arith in
+      let x : tail (four_of / 4096) ≡ b = omega arith in
+      let y : tail (four_of / 64) ≡ d = omega arith in
+      let z : tail four_of ≡ f = omega arith in
       rw (t, u, v, w, x, y, z)
 
 encode_one : (a : ℕ) → a ≤ 127 → encode a ≡ a ∷ []
@@ -306,51 +306,51 @@ follow_large a l =
 -- the cases of a first byte
 module _ (a : ℕ) (s : List ℕ) (p : leb (follow a) 3 ≡ true) (c : comes (follow a) (low a) (high a) s ≡ true)
     (more : (t : List ℕ) → length t ≤ length s → utf8 t ≡ true → Decoded t) where
-  decoded-one : a ≤ 127 → Decoded (a ∷ s)
-  decoded-one h =
+  decoded_one : a ≤ 127 → Decoded (a ∷ s)
+  decoded_one h =
       let e = rw (follow_ascii a h) at c in
       decoded_more a (a ∷ s) s (scalar_is a (omega arith) (λ x y. omega arith)) (rw (encode_one a h))
       (more s (omega arith) (sym (comes_free (low a) (high a) s) ∙ e))
 
-  decoded-two : 193 < a → a ≤ 223 → Decoded (a ∷ s)
-  decoded-two l h =
-      let x = came 0 (low a) (high a) s (rw (follow-two a l h) at c) in
+  decoded_two : 193 < a → a ≤ 223 → Decoded (a ∷ s)
+  decoded_two l h =
+      let x = came 0 (low a) (high a) s (rw (follow_two a l h) at c) in
       let y = second_of a x.b (low_tail a) (high_tail a) x.least x.most in
       let i = y.least in
       let j = y.most in
       decoded_more ((a - 192) * 64 + (x.b - 128)) (a ∷ s) x.t (scalar_is ((a - 192) * 64 + (x.b - 128)) (omega arith) (λ u v. omega arith))
       (ap (λ (y : List ℕ). a ∷ y) x.same ∙ sym (ap (λ (y : List ℕ). y ++ x.t) (encode_two a x.b l h i j))) (more x.t (omega (arith, ap length x.same)) x.then)
 
-  decoded-three : 223 < a → a ≤ 239 → Decoded (a ∷ s)
-  decoded-three l h =
-      let x = came 1 (low a) (high a) s (rw (follow-three a l h) at c) in
+  decoded_three : 223 < a → a ≤ 239 → Decoded (a ∷ s)
+  decoded_three l h =
+      let x = came 1 (low a) (high a) s (rw (follow_three a l h) at c) in
       let y = second_of a x.b (low_tail a) (high_tail a) x.least x.most in
       let z = came 0 128 191 x.t x.then in
-      decoded_more (three-of a x.b z.b l h y z.least z.most) (a ∷ s) z.t (three-scalar a x.b z.b l h y z.least z.most)
+      decoded_more (three_of a x.b z.b l h y z.least z.most) (a ∷ s) z.t (three_scalar a x.b z.b l h y z.least z.most)
       (ap (λ (y : List ℕ). a ∷ y) (x.same ∙ ap (λ (y : List ℕ). x.b ∷ y) z.same)
-      ∙ sym (ap (λ (y : List ℕ). y ++ z.t) (encode-three a x.b z.b l h y z.least z.most)))
+      ∙ sym (ap (λ (y : List ℕ). y ++ z.t) (encode_three a x.b z.b l h y z.least z.most)))
       (more z.t (omega (arith, ap length x.same, ap length z.same)) z.then)
 
-  decoded-four : 239 < a → a ≤ 244 → Decoded (a ∷ s)
-  decoded-four l h =
-      let x = came 2 (low a) (high a) s (rw (follow-four a l h) at c) in
+  decoded_four : 239 < a → a ≤ 244 → Decoded (a ∷ s)
+  decoded_four l h =
+      let x = came 2 (low a) (high a) s (rw (follow_four a l h) at c) in
       let y = second_of a x.b (low_tail a) (high_tail a) x.least x.most in
       let z = came 1 128 191 x.t x.then in
       let w = came 0 128 191 z.t z.then in
-      decoded_more (four-of a x.b z.b w.b l h y z.least z.most w.least w.most) (a ∷ s) w.t
-      (four-scalar a x.b z.b w.b l h y z.least z.most w.least w.most)
+      decoded_more (four_of a x.b z.b w.b l h y z.least z.most w.least w.most) (a ∷ s) w.t
+      (four_scalar a x.b z.b w.b l h y z.least z.most w.least w.most)
       (ap (λ (y : List ℕ). a ∷ y) (x.same ∙ ap (λ (y : List ℕ). x.b ∷ y) (z.same ∙ ap (λ (y : List ℕ). z.b ∷ y) w.same))
-      ∙ sym (ap (λ (y : List ℕ). y ++ w.t) (encode-four a x.b z.b w.b l h y z.least z.most w.least w.most)))
+      ∙ sym (ap (λ (y : List ℕ). y ++ w.t) (encode_four a x.b z.b w.b l h y z.least z.most w.least w.most)))
       (more w.t (omega (arith, ap length x.same, ap length z.same, ap length w.same)) w.then)
 
-  decoded-first : Decoded (a ∷ s)
-  decoded-first =
+  decoded_first : Decoded (a ∷ s)
+  decoded_first =
       let f = leb-true (follow a) 3 p in
-      ⊎_elim decoded-one (λ k.
+      ⊎_elim decoded_one (λ k.
       ⊎_elim (λ h. absurd (let e = follow_none a k h in let bad : ⊥ = omega arith in bad)) (λ l.
-      ⊎_elim (decoded-two l) (λ m.
-      ⊎_elim (decoded-three m) (λ n.
-      ⊎_elim (decoded-four n) (λ o. absurd (let e = follow_large a o in let bad : ⊥ = omega arith in bad)) (split a 244)) (split a 239)) (split a 223)) (split a 193)) (split a 127)
+      ⊎_elim (decoded_two l) (λ m.
+      ⊎_elim (decoded_three m) (λ n.
+      ⊎_elim (decoded_four n) (λ o. absurd (let e = follow_large a o in let bad : ⊥ = omega arith in bad)) (split a 244)) (split a 239)) (split a 223)) (split a 193)) (split a 127)
 
 -- no characters
 decoded_none : Decoded []
@@ -360,7 +360,7 @@ decoded_step : (n : ℕ) (s : List ℕ) → length s ≤ suc n → utf8 s ≡ tr
 decoded_step n [] l h more = decoded_none
 decoded_step n (a ∷ s) l h more =
     let p = passed (leb (follow a) 3) h in
-    decoded-first a s p.0 p.1 (λ t k. more t (omega arith))
+    decoded_first a s p.0 p.1 (λ t k. more t (omega arith))
 
 decoded_in : (n : ℕ) (s : List ℕ) → length s ≤ n → utf8 s ≡ true → Decoded s
 decoded_in zero s l h = go s l

@@ -24,35 +24,35 @@ module _ (w t : List ℕ) (left least most b : ℕ) (e : w ≡ b ∷ t) where
   pub first_turn : left ≡ 0 → follow b ≤ 3 → comes (follow b) (low b) (high b) t ≡ comes left least most w
   first_turn z l = let u = le-leb (follow b) 3 l in rw (z, e, u)
 
-  pub first-not : left ≡ 0 → 3 < follow b → false ≡ comes left least most w
-  first-not z l = let u = lt-leb (follow b) 3 l in rw (z, e, u)
+  pub first_not : left ≡ 0 → 3 < follow b → false ≡ comes left least most w
+  first_not z l = let u = lt-leb (follow b) 3 l in rw (z, e, u)
 
 module _ (w t : List ℕ) (least most b : ℕ) (e : w ≡ b ∷ t) where
   -- one of the others
-  pub tail-turn : (left : ℕ) → (left ≡ 0 → ⊥) → least ≤ b → b ≤ most → comes (left - 1) 128 191 t ≡ comes left least most w
-  tail-turn zero n l m = absurd (n refl)
-  tail-turn (suc left) n l m =
+  pub tail_turn : (left : ℕ) → (left ≡ 0 → ⊥) → least ≤ b → b ≤ most → comes (left - 1) 128 191 t ≡ comes left least most w
+  tail_turn zero n l m = absurd (n refl)
+  tail_turn (suc left) n l m =
       let u = le-leb least b l in
       let v = le-leb b most m in
       let f : suc left - 1 ≡ left = omega arith in
       rw (f, e, u, v)
 
-  pub tail-low : (left : ℕ) → (left ≡ 0 → ⊥) → b < least → false ≡ comes left least most w
-  tail-low zero n l = absurd (n refl)
-  tail-low (suc left) n l = let u = lt-leb least b l in rw (e, u)
+  pub tail_low : (left : ℕ) → (left ≡ 0 → ⊥) → b < least → false ≡ comes left least most w
+  tail_low zero n l = absurd (n refl)
+  tail_low (suc left) n l = let u = lt-leb least b l in rw (e, u)
 
-  pub tail-high : (left : ℕ) → (left ≡ 0 → ⊥) → least ≤ b → most < b → false ≡ comes left least most w
-  tail-high zero n l m = absurd (n refl)
-  tail-high (suc left) n l m = let u = le-leb least b l in let v = lt-leb b most m in rw (e, u, v)
+  pub tail_high : (left : ℕ) → (left ≡ 0 → ⊥) → least ≤ b → most < b → false ≡ comes left least most w
+  tail_high zero n l m = absurd (n refl)
+  tail_high (suc left) n l m = let u = le-leb least b l in let v = lt-leb b most m in rw (e, u, v)
 
 -- ---- control characters
 
 module _ (feed : Bool) (s : List ℕ) (i : ℕ) where
-  pub control-none : length s ≤ i → none ≡ first_control feed (drop i s)
-  control-none h = rw (over s i h)
+  pub control_none : length s ≤ i → none ≡ first_control feed (drop i s)
+  control_none h = rw (over s i h)
 
-  pub control-here : i < length s → control feed (get_or s i 0) ≡ true → some (get_or s i 0) ≡ first_control feed (drop i s)
-  control-here h e = rw (cut s i h, e)
+  pub control_here : i < length s → control feed (get_or s i 0) ≡ true → some (get_or s i 0) ≡ first_control feed (drop i s)
+  control_here h e = rw (cut s i h, e)
 
-  pub control-turn : i < length s → control feed (get_or s i 0) ≡ false → first_control feed (drop (i + 1) s) ≡ first_control feed (drop i s)
-  control-turn h e = rw (cut s i h, e)
+  pub control_turn : i < length s → control feed (get_or s i 0) ≡ false → first_control feed (drop (i + 1) s) ≡ first_control feed (drop i s)
+  control_turn h e = rw (cut s i h, e)

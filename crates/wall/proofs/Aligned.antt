@@ -56,32 +56,32 @@ abbrev pub Filled : List ℕ → ℕ → Type 0
 Filled cells i = (num cells i 0 ≡ 0) ⊎ ((0 < num cells i 2) × (num cells i 2 ≤ 12))
 
 module _ (cells : List ℕ) (i : ℕ) where
-  tithi-length : length (tithi_line cells i) ≡ 10
+  tithi_length : length (tithi_line cells i) ≡ 10
   unfolding tithi_line
-  tithi-length = simp (length-append, two_length, marked_length (num cells i 5) 2 (bytes "<<") (bytes "  ") refl refl)
+  tithi_length = simp (length-append, two_length, marked_length (num cells i 5) 2 (bytes "<<") (bytes "  ") refl refl)
 
-  sun-length : (label : List ℕ) (m : ℕ) → length label ≡ 5 → length (sun_line label m) ≡ 10
+  sun_length : (label : List ℕ) (m : ℕ) → length label ≡ 5 → length (sun_line label m) ≡ 10
   unfolding sun_line
-  sun-length label m e = simp (length-append, clock_length, e)
+  sun_length label m e = simp (length-append, clock_length, e)
 
-  day-length : 0 < num cells i 2 → num cells i 2 ≤ 12 → length (day_line cells i) ≡ 10
+  day_length : 0 < num cells i 2 → num cells i 2 ≤ 12 → length (day_line cells i) ≡ 10
   unfolding day_line short_date
-  day-length h l =
+  day_length h l =
       simp (length-append, two_length, marked_length (num cells i 6) 2 (bytes "* ") (bytes "  ") refl refl, month_length_law (num cells i 2) h l)
 
   -- each line of a cell has ten columns
-  pub piece-length : (k : ℕ) → Filled cells i → length (piece k cells i) ≡ 10
+  pub piece_length : (k : ℕ) → Filled cells i → length (piece k cells i) ≡ 10
   unfolding piece
-  piece-length k (inl e) = rw (eq-eqb (num cells i 0) 0 e)
-  piece-length k (inr h) = go (eqb (num cells i 0) 0) (eqb k 0) (eqb k 1) (eqb k 2)
+  piece_length k (inl e) = rw (eq-eqb (num cells i 0) 0 e)
+  piece_length k (inr h) = go (eqb (num cells i 0) 0) (eqb k 0) (eqb k 1) (eqb k 2)
     where
       go : (a b c d : Bool) → length (cond a (bytes "          ") (cond b (day_line cells i) (cond c (tithi_line cells i)
           (cond d (sun_line (bytes "rise ") (num cells i 9)) (sun_line (bytes "set  ") (num cells i 10)))))) ≡ 10
       go true b c d = refl
-      go false true c d = day-length h.0 h.1
-      go false false true d = tithi-length
-      go false false false true = sun-length (bytes "rise ") (num cells i 9) refl
-      go false false false false = sun-length (bytes "set  ") (num cells i 10) refl
+      go false true c d = day_length h.0 h.1
+      go false false true d = tithi_length
+      go false false false true = sun_length (bytes "rise ") (num cells i 9) refl
+      go false false false false = sun_length (bytes "set  ") (num cells i 10) refl
 
 -- n cells with a bar before each
 cells_length : (k : ℕ) (cells : List ℕ) (i n : ℕ) → ((j : ℕ) → Filled cells j) → length (repeated (barred k cells) 1 i n) ≡ 11 * n
@@ -89,7 +89,7 @@ unfolding repeated
 cells_length k cells i zero h = refl
 cells_length k cells i (suc n) h =
     let r = cells_length k cells (i + 1) n h in
-    let p = piece-length cells i k (h i) in
+    let p = piece_length cells i k (h i) in
     omega (arith, length-append (barred k cells i) (repeated (barred k cells) 1 (i + 1) n), length-append (bytes "|") (piece k cells i))
 
 -- a line of a week: 78 columns and the line feed

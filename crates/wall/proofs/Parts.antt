@@ -9,14 +9,14 @@ use Rattle.text.proofs.Texts.{cut, over}
 use Rattle.wall.specs.Words.{next_line, line_from}
 
 module _ (s : List ℕ) (i : ℕ) where
-  pub next-over : length s ≤ i → drop i s ≡ next_line (drop i s)
-  next-over h = rw (over s i h)
+  pub next_over : length s ≤ i → drop i s ≡ next_line (drop i s)
+  next_over h = rw (over s i h)
 
-  pub next-found : i < length s → get_or s i 0 ≡ 10 → drop (i + 1) s ≡ next_line (drop i s)
-  next-found h e = rw (cut s i h, eq-eqb (get_or s i 0) 10 e)
+  pub next_found : i < length s → get_or s i 0 ≡ 10 → drop (i + 1) s ≡ next_line (drop i s)
+  next_found h e = rw (cut s i h, eq-eqb (get_or s i 0) 10 e)
 
-  pub next-turn : i < length s → (get_or s i 0 ≡ 10 → ⊥) → next_line (drop (i + 1) s) ≡ next_line (drop i s)
-  next-turn h n = rw (cut s i h, ne_eqb (get_or s i 0) 10 n)
+  pub next_turn : i < length s → (get_or s i 0 ≡ 10 → ⊥) → next_line (drop (i + 1) s) ≡ next_line (drop i s)
+  next_turn h n = rw (cut s i h, ne_eqb (get_or s i 0) 10 n)
 
 pub line_turn : (left : ℕ) (s : List ℕ) → 0 < left → line_from (left - 1) (next_line s) ≡ line_from left s
 line_turn zero s l = absurd (let bad : ⊥ = omega arith in bad)

@@ -29,9 +29,9 @@ module _ (names cells festivals : List ℕ) where
   line_of i f = day_of cells i ++ festival_text names festivals f
 
   -- the festivals of cell i
-  unfoldable pub festivalsOn : ℕ → List ℕ
-  festivalsOn i = repeated (line_of i) 1 (before cells i) (num cells i 11)
+  unfoldable pub festivals_on : ℕ → List ℕ
+  festivals_on i = repeated (line_of i) 1 (before cells i) (num cells i 11)
 
   -- of the first n cells
-  abbrev pub festivalsOf : ℕ → List ℕ
-  festivalsOf n = repeated festivalsOn 1 0 n
+  abbrev pub festivals_of : ℕ → List ℕ
+  festivals_of n = repeated festivals_on 1 0 n

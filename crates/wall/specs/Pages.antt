@@ -7,7 +7,7 @@ use Rattle.wall.specs.declared.Page.{Page}
 use Rattle.wall.specs.Words.{word, weekdays, bs_months}
 use Rattle.wall.specs.Columns.{space, repeated, clock, full_date}
 use Rattle.wall.specs.Cells.{num, marked, border, weeks_of}
-use Rattle.wall.specs.Lists.{festivalsOn, festivalsOf}
+use Rattle.wall.specs.Lists.{festivals_on, festivals_of}
 
 abbrev pub feed : List ℕ
 feed = bytes "\n"
@@ -40,7 +40,7 @@ legend = bytes "* holiday, << today; tithi 1 to 15 waxing, 16 to 30 waning half;
 
 unfoldable pub month_page : Page → List ℕ → List ℕ → List ℕ → List ℕ
 month_page p names cells festivals =
-    title p ++ (heads ++ (weeks_of cells p.weeks ++ (legend ++ festivalsOf names cells festivals (p.weeks * 7))))
+    title p ++ (heads ++ (weeks_of cells p.weeks ++ (legend ++ festivals_of names cells festivals (p.weeks * 7))))
 
 -- ---- a day
 
@@ -85,4 +85,4 @@ holiday_text cells i =
 -- the day of cell i in a month
 unfoldable pub day_page : ℕ → ℕ → ℕ → List ℕ → List ℕ → List ℕ → List ℕ
 day_page year month i names cells festivals =
-    day_title year month cells i ++ (date_line cells i ++ (reading_text cells i ++ (holiday_text cells i ++ festivalsOn names cells festivals i)))
+    day_title year month cells i ++ (date_line cells i ++ (reading_text cells i ++ (holiday_text cells i ++ festivals_on names cells festivals i)))

@@ -3,7 +3,7 @@ ghost use Rattle.std.specs.Prelude.{◌≡◌, ◌*◌, ◌≤◌};
 ghost use Rattle.text.specs.Written.{Wrote};
 ghost use Rattle.wall.specs.Columns.{repeated};
 ghost use Rattle.wall.specs.Lists as Lists;
-ghost use Rattle.wall.specs.Lists.{day_of, festival_text, line_of, festivalsOn, festivalsOf};
+ghost use Rattle.wall.specs.Lists.{day_of, festival_text, line_of, festivals_on, festivals_of};
 
 use crate::cells::put_mark;
 use crate::columns::{get, number, put_short_date, put_two};
@@ -84,7 +84,7 @@ pub fn put_festivals_on(
 ) -> usize
     requires { i ≤ 4096 }
     ensures { Wrote out.old at
-        (festivalsOn names.now cells.now festivals.now i) out.new result }
+        (festivals_on names.now cells.now festivals.now i) out.new result }
 {
     let f = before(cells, i);
     put_festival_lines(out, at, names, cells, festivals, i, f, number(cells, i, 11))
@@ -101,7 +101,7 @@ pub fn put_festivals(
 ) -> usize
     requires { n ≤ 4096 }
     ensures { Wrote out.old at
-        (festivalsOf names.now cells.now festivals.now n) out.new result }
+        (festivals_of names.now cells.now festivals.now n) out.new result }
 {
     let mut next = at;
     let mut i = 0;

@@ -17,27 +17,27 @@ use Rattle.warnings.specs.declared.finding.Warning.TheVariants as warning
 use Rattle.warnings.specs.Warnings.{festival, first_like, shared_as, shared, no_text_as, no_text, no_day, beside_as, beside}
 
 module _ (before : List Rule) (r : Rule) {b : Bool} (e : b ≡ festival r) where
-  pub shared-none : b ≡ false → warning.Nothing ≡ shared before r
+  pub shared_none : b ≡ false → warning.Nothing ≡ shared before r
   unfolding shared
-  shared-none h = rw (← e, h)
+  shared_none h = rw (← e, h)
 
-  pub shared-found : b ≡ true → {f : Found} → f ≡ first_like like.Other r before 0 → shared_as r.name f ≡ shared before r
+  pub shared_found : b ≡ true → {f : Found} → f ≡ first_like like.Other r before 0 → shared_as r.name f ≡ shared before r
   unfolding shared
-  shared-found h g = rw (← e, h, g)
+  shared_found h g = rw (← e, h, g)
 
 module _ (named : Bool) (names : List ℕ) (before : List Rule) (r : Rule) {b : Bool} (e : b ≡ has_name r.name names) where
-  pub text-there : (named && not b) ≡ false → warning.Nothing ≡ no_text named names before r
+  pub text_there : (named && not b) ≡ false → warning.Nothing ≡ no_text named names before r
   unfolding no_text
-  text-there h = rw (← e, h)
+  text_there h = rw (← e, h)
 
-  pub text-lacks : (named && not b) ≡ true → {f : Found} → f ≡ first_like like.Named r before 0 → no_text_as r.name f ≡ no_text named names before r
+  pub text_lacks : (named && not b) ≡ true → {f : Found} → f ≡ first_like like.Named r before 0 → no_text_as r.name f ≡ no_text named names before r
   unfolding no_text
-  text-lacks h g = rw (← e, h, g)
+  text_lacks h g = rw (← e, h, g)
 
 module _ (c : Calendar) (r : Rule) where
-  pub day-none : (r.kind ≡ 4 → ⊥) → warning.Nothing ≡ no_day c r
+  pub day_none : (r.kind ≡ 4 → ⊥) → warning.Nothing ≡ no_day c r
   unfolding no_day
-  day-none h = rw (ne_eqb r.kind 4 h)
+  day_none h = rw (ne_eqb r.kind 4 h)
 
   module _ (k : r.kind ≡ 4) {a : MonthDays} (e : days_says a ≡ month_len c r.year r.month) where
     pub day_refused : {why : Refusal} → a ≡ month.Refused why → warning.Nothing ≡ no_day c r
@@ -45,9 +45,9 @@ module _ (c : Calendar) (r : Rule) where
     day_refused f = rw (eq-eqb r.kind 4 k, ← e, f)
 
     module _ {n : ℕ} (f : a ≡ month.Days n) where
-      pub day-past : n < r.day → warning.NoDay r n ≡ no_day c r
+      pub day_past : n < r.day → warning.NoDay r n ≡ no_day c r
       unfolding no_day
-      day-past h = rw (eq-eqb r.kind 4 k, ← e, f, lt-ltb n r.day h)
+      day_past h = rw (eq-eqb r.kind 4 k, ← e, f, lt-ltb n r.day h)
 
       pub day-there : r.day ≤ n → warning.Nothing ≡ no_day c r
       unfolding no_day
@@ -58,6 +58,6 @@ module _ (rules : List Rule) (r : Rule) where
   unfolding beside
   beside_none h = rw (ne_eqb r.kind 4 h)
 
-  pub beside-found : r.kind ≡ 4 → {f : Found} → f ≡ first_like like.Yearly r rules 0 → beside_as r.name f ≡ beside rules r
+  pub beside_found : r.kind ≡ 4 → {f : Found} → f ≡ first_like like.Yearly r rules 0 → beside_as r.name f ≡ beside rules r
   unfolding beside
-  beside-found h g = rw (eq-eqb r.kind 4 h, g)
+  beside_found h g = rw (eq-eqb r.kind 4 h, g)

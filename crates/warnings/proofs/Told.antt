@@ -18,8 +18,8 @@ module _ (path xs : List ℕ) (j : ℕ) (named : Bool) (names : List ℕ) (c : C
   unfolding warnings_text
   told_none h = rw (le-leb (length xs / 8) j h)
 
-  pub told-five : j < length xs / 8 → {r : Rule} → r ≡ rule_at xs j → {a b d e f : Warning} → a ≡ twice (rules_from xs 0 j) r → b ≡ shared (rules_from xs 0 j) r
+  pub told_five : j < length xs / 8 → {r : Rule} → r ≡ rule_at xs j → {a b d e f : Warning} → a ≡ twice (rules_from xs 0 j) r → b ≡ shared (rules_from xs 0 j) r
       → d ≡ no_text named names (rules_from xs 0 j) r → e ≡ no_day c r → f ≡ beside (rules_of xs) r
       → warnings_text path xs j named names c ≡ told_text path j a ++ (told_text path j b ++ (told_text path j d ++ (told_text path j e ++ told_text path j f)))
   unfolding warnings_text rule_text
-  told-five h er ea eb ed ee ef = rw (ea, eb, ed, ee, ef, er, lt-leb (length xs / 8) j h)
+  told_five h er ea eb ed ee ef = rw (ea, eb, ed, ee, ef, er, lt-leb (length xs / 8) j h)

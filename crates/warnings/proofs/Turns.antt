@@ -11,9 +11,9 @@ use Rattle.warnings.specs.declared.search.Found.TheVariants as found
 use Rattle.warnings.specs.Warnings.{stands, first_like}
 
 module _ (xs : List ℕ) (n : ℕ) (how : Like) (r : Rule) where
-  pub like-over : (i : ℕ) → n ≤ i → found.Nothing ≡ first_like how r (rules_from xs i (n - i)) i
+  pub like_over : (i : ℕ) → n ≤ i → found.Nothing ≡ first_like how r (rules_from xs i (n - i)) i
   unfolding first_like
-  like-over i h = rw (left_none xs i n h)
+  like_over i h = rw (left_none xs i n h)
 
   module _ (i : ℕ) (h : i < n) {s : Rule} (es : s ≡ rule_at xs i) {b : Bool} (eb : b ≡ stands how r s) where
     pub like-here : b ≡ true → found.At i ≡ first_like how r (rules_from xs i (n - i)) i

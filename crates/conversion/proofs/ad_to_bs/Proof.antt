@@ -9,8 +9,8 @@ use Rattle.paper.proofs.Answers.{given_on, given_off}
 use Rattle.conversion.specs.Calendar.{from_day, from_ad}
 use Rattle.conversion.specs.Flat.{flat, lens, row_count, accepted}
 use Rattle.conversion.specs.Inner.{FoundAt}
-use Rattle.conversion.proofs.Accepted.{facts, number-real, number-no, day_reached, placed_by}
-use Rattle.conversion.proofs.Ad.{from-ad}
+use Rattle.conversion.proofs.Accepted.{facts, number_real, number_no, day_reached, placed_by}
+use Rattle.conversion.proofs.Ad.{from_ad_law}
 use Rattle.conversion.proofs.ad_to_bs.Statement.{statement}
 use Rattle.conversion.proofs.ad_to_bs.Tie as tie
 
@@ -29,7 +29,7 @@ returns-2 : tie.Need-returns-2
 unfolding from_ad
 returns-2 c =
     let a = c.before.before.before.before.before.before.before.before.args in
-    let e = number-no a.year a.month a.day (sym c.before.before.before.before.before.number-or-zero.ensures ∙ c.if2.true) in
+    let e = number_no a.year a.month a.day (sym c.before.before.before.before.before.number-or-zero.ensures ∙ c.if2.true) in
     sym (given_on _ BadTable _ (good c.before) ∙ given_off _ NoSuchDate _ e)
 
 sub-date-at : tie.Need-overflow-sub-date-at
@@ -46,8 +46,8 @@ returns-3 c =
     let a = c.before.before.before.before.before.before.before.before.before.before.args in
     let g = good c.before.before.before in
     let n = c.before.before.before.before.before.before.before.number-or-zero in
-    let r = number-real a.year a.month a.day n.result n.ensures (omega (arith, c.before.before.if2.false)) in
-    c.date-at.ensures g ∙ ap (from_day (flat a.table a.rows.now)) r.1 ∙ sym (from-ad _ a.year a.month a.day g r.0)
+    let r = number_real a.year a.month a.day n.result n.ensures (omega (arith, c.before.before.if2.false)) in
+    c.date-at.ensures g ∙ ap (from_day (flat a.table a.rows.now)) r.1 ∙ sym (from_ad_law _ a.year a.month a.day g r.0)
 
 pub ad-to-bs-spec : {M : Type 1} → statement M
 ad-to-bs-spec =

@@ -10,7 +10,7 @@ use Rattle.conversion.specs.Flat.{flat, row_days, first_day}
 use Rattle.conversion.specs.Answers.{valid_says}
 use Rattle.conversion.proofs.Accepted.{Facts, facts, rows_before, row_reached, valid_is}
 use Rattle.conversion.proofs.Ad.{served, on_numbered}
-use Rattle.conversion.proofs.Days.{Valid, no_table, valid_told, valid-refused, valid_on, of-date}
+use Rattle.conversion.proofs.Days.{Valid, no_table, valid_told, valid_refused, valid_on, of_date_law}
 use Rattle.conversion.proofs.bs_to_ad.Statement.{statement}
 use Rattle.conversion.proofs.bs_to_ad.Tie as tie
 
@@ -77,11 +77,11 @@ date-of-requires c κs =
 
 returns-2 : tie.Need-returns-2
 unfolding to_ad
-returns-2 c = valid-refused _ _ _ _ _ _ (said valid_says c.before.check.given.1 (checked c.before.before.before))
+returns-2 c = valid_refused _ _ _ _ _ _ (said valid_says c.before.check.given.1 (checked c.before.before.before))
 
 returns-3 : tie.Need-returns-3
 unfolding to_ad
-returns-3 c = ap answered (c.date-of.ensures ∙ ap date_of (number_is c.before)) ∙ sym (of-date _ _ _ _ _ (known c.before.before.before))
+returns-3 c = ap answered (c.date-of.ensures ∙ ap date_of (number_is c.before)) ∙ sym (of_date_law _ _ _ _ _ (known c.before.before.before))
 
 pub bs-to-ad-spec : {M : Type 1} → statement M
 bs-to-ad-spec =

@@ -6,7 +6,7 @@ use Rattle.paper.proofs.Answers.{said}
 use Rattle.conversion.specs.Calendar.{Calendar, valid_bs}
 use Rattle.conversion.specs.Inner.{untested}
 use Rattle.conversion.specs.Answers.{days_says}
-use Rattle.conversion.proofs.Days.{InTable, len_told, no-day, of-date, len-refused}
+use Rattle.conversion.proofs.Days.{InTable, len_told, no_day_law, of_date_law, len_refused}
 use Rattle.conversion.proofs.date_check.Statement.{statement}
 use Rattle.conversion.proofs.date_check.Tie as tie
 
@@ -22,7 +22,7 @@ unfolding valid_bs
 returns c =
     let s = c.before.before.before.before.before.before.before in
     let d = s.args.date in
-    sym (no-day (cal s) d.year d.month d.day tt (known c.before.before).0 (λ p q. omega arith))
+    sym (no_day_law (cal s) d.year d.month d.day tt (known c.before.before).0 (λ p q. omega arith))
 
 returns-2 : tie.Need-returns-2
 unfolding valid_bs
@@ -30,11 +30,11 @@ returns-2 c =
     let s = c.before.before.before.before.before.before.before.before.before in
     let d = s.args.date in
     let k = known c.before.before.before.before in
-    sym (no-day (cal s) d.year d.month d.day tt k.0 (λ p q. omega (arith, k.1)))
+    sym (no_day_law (cal s) d.year d.month d.day tt k.0 (λ p q. omega (arith, k.1)))
 
 returns-3 : tie.Need-returns-3
 unfolding valid_bs
-returns-3 c = len-refused _ _ _ c.before.before.before.before.before.args.date.day tt _ (said days_says c.before.days.given.1 c.before.before.before.month-at.ensures)
+returns-3 c = len_refused _ _ _ c.before.before.before.before.before.args.date.day tt _ (said days_says c.before.days.given.1 c.before.before.before.month-at.ensures)
 
 returns-4 : tie.Need-returns-4
 unfolding valid_bs
@@ -42,7 +42,7 @@ returns-4 c =
     let s = c.before.before.before.before.before.before.before.before.before in
     let d = s.args.date in
     let k = known c.before.before.before.before in
-    sym (of-date (cal s) d.year d.month d.day tt (record { month = k.0; day_from = omega arith; day_to = omega (arith, k.1) }))
+    sym (of_date_law (cal s) d.year d.month d.day tt (record { month = k.0; day_from = omega arith; day_to = omega (arith, k.1) }))
 
 pub date-check-spec : {M : Type 1} → statement M
 date-check-spec = tie.close (tie.spec (λ c κs. search rules) (λ c. search rules) (λ c. search rules) returns returns-2 returns-3 returns-4)

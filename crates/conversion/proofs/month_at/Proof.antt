@@ -6,7 +6,7 @@ use borrow.Author.Tests.{not-true, not-false}
 use Rattle.paper.proofs.Answers.{given_on, given_off}
 use Rattle.conversion.specs.Calendar.{Calendar, year_ok, month_len}
 use Rattle.conversion.specs.Inner.{untested}
-use Rattle.conversion.proofs.Days.{year_told, no_month, of-month}
+use Rattle.conversion.proofs.Days.{year_told, no_month, of_month_law}
 use Rattle.conversion.proofs.month_at.Statement.{statement}
 use Rattle.conversion.proofs.month_at.Tie as tie
 
@@ -41,7 +41,7 @@ unfolding month_len
 returns-4 c =
     let s = c.before.before.before.before.before.before.before in
     let y = year_told (cal s) s.args.year (known c.before.before.before.before) in
-    rw (c.number_at.ensures, c.before.row_of.ensures) (sym (of-month (cal s) s.args.year s.args.month _ (record {
+    rw (c.number_at.ensures, c.before.row_of.ensures) (sym (of_month_law (cal s) s.args.year s.args.month _ (record {
       good = refl;
       year_from = y.0;
       year_to = y.1;

@@ -6,8 +6,8 @@ use Rattle.paper.proofs.Answers.{said}
 use Rattle.conversion.specs.Calendar.{to_day}
 use Rattle.conversion.specs.Inner.{untested}
 use Rattle.conversion.specs.Answers.{valid_says}
-use Rattle.conversion.proofs.Accepted.{facts, first_small, years_in_law, years-sum, untested_is, valid_is}
-use Rattle.conversion.proofs.Days.{Valid, valid_told, valid-refused, converts}
+use Rattle.conversion.proofs.Accepted.{facts, first_small, years_in_law, years_sum, untested_is, valid_is}
+use Rattle.conversion.proofs.Days.{Valid, valid_told, valid_refused, converts}
 use Rattle.conversion.proofs.number_of.Statement.{statement}
 use Rattle.conversion.proofs.number_of.Tie as tie
 
@@ -49,7 +49,7 @@ returns : tie.Need-returns
 unfolding to_day
 returns c g =
     let d = c.before.before.before.before.before.args.date in
-    valid-refused _ _ _ _ _ _ (said valid_says c.before.check.given.1 c.before.before.before.date-check.ensures
+    valid_refused _ _ _ _ _ _ (said valid_says c.before.check.given.1 c.before.before.before.date-check.ensures
     ∙ valid_is _ _ d.year d.month d.day g)
 
 returns-2 : tie.Need-returns-2
@@ -57,7 +57,7 @@ returns-2 c g =
     let s = c.before.before.before.before.before.before.before.before in
     let d = s.args.date in
     let k = known c.before.before.before.before in
-    let years = c.before.span.ensures.whole ∙ years-sum _ _ (facts _ _ g) (d.year - s.args.table.first_year) (omega (arith, k.month)) in
+    let years = c.before.span.ensures.whole ∙ years_sum _ _ (facts _ _ g) (d.year - s.args.table.first_year) (omega (arith, k.month)) in
     sym (rw (← untested_is s.args.table s.args.rows.now g) (rw (converts _ _ _ _ k, c.day-in-row.ensures, years, s.requires.first)))
 
 pub number-of-spec : {M : Type 1} → statement M

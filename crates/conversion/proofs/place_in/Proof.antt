@@ -5,7 +5,7 @@ use borrow.Author.Rules.{rules}
 use Rattle.conversion.specs.declared.Placed.TheVariants as P
 use Rattle.conversion.specs.Flat.{flat, row_count, row_days}
 use Rattle.conversion.proofs.Accepted.{past}
-use Rattle.conversion.proofs.Days.{placed-in, placed_before, placed_after}
+use Rattle.conversion.proofs.Days.{placed_in, placed_before, placed_after}
 use Rattle.conversion.proofs.place_in.Statement.{statement}
 use Rattle.conversion.proofs.place_in.Tie as tie
 
@@ -39,7 +39,7 @@ returns-3 c g =
     let k = s.requires.found g in
     let l = k.within c.before.if2.false in
     ap P.Inside (c.date-in-row.ensures l)
-    ∙ sym (placed-in (flat a.table a.rows.now) a.i a.rest a.n c.before.if2.false l (omega (arith, s.requires.begins.first, k.whole)))
+    ∙ sym (placed_in (flat a.table a.rows.now) a.i a.rest a.n c.before.if2.false l (omega (arith, s.requires.begins.first, k.whole)))
 
 pub place-in-spec : {M : Type 1} → statement M
 place-in-spec = tie.close (tie.spec (λ c. search rules) returns add-t11 returns-2 date-in-row-requires returns-3)

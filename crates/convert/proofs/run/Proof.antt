@@ -3,7 +3,7 @@ use mathlib.Core.Path.{◌≡◌, sym}
 use Prim.Native.Nat.{◌≤◌}
 use native.Mathlib.Omega.{arith}
 use lib.ListN.{length}
-use Rattle.asked.proofs.Runs.{Runs, runs_first, runs-turn, runs-all}
+use Rattle.asked.proofs.Runs.{Runs, runs_first, runs_turn, runs_all}
 use Rattle.convert.specs.Replies.{converting}
 use borrow.Author.Rules.{rules}
 use Rattle.convert.proofs.run.Statement.{statement}
@@ -29,10 +29,10 @@ loop-again : tie.Need-loop-preserved invariant-loop decreases-loop
 loop-again c =
     let l = c.before.before.before.before.before.before.before.before.before.before.before.before.loop in
     let t = c.before.before.before.before.before.before.turn in
-    (search rules, search rules, search rules, omega (arith, t.ensures.turn.inside), runs-turn l.invariant.4 c.before.before.before.before.before.before.before.before.before.before.if1.true l.invariant.1 t.ensures)
+    (search rules, search rules, search rules, omega (arith, t.ensures.turn.inside), runs_turn l.invariant.4 c.before.before.before.before.before.before.before.before.before.before.if1.true l.invariant.1 t.ensures)
 
 returns : tie.Need-returns invariant-loop decreases-loop
-returns c = runs-all c.before.before.loop.invariant.4 c.before.before.before.before.before.before.before.first-turn.auto.1.0
+returns c = runs_all c.before.before.loop.invariant.4 c.before.before.before.before.before.before.before.first-turn.auto.1.0
 
 pub run_spec : {M : Type 1} → statement M
 run_spec =

@@ -3,7 +3,7 @@ use mathlib.Core.Path.{◌≡◌, refl, sym, ◌∙◌}
 use mathlib.Core.Bool.{true≢false}
 use lib.ListN.{length}
 use native.Mathlib.Omega.{arith}
-use Rattle.asked.proofs.Runs.{Runs, runs_first, runs-turn, runs-all}
+use Rattle.asked.proofs.Runs.{Runs, runs_first, runs_turn, runs_all}
 use Rattle.lending.specs.Lending.{loan_of}
 use Rattle.desk.specs.Keeping.{state_in, Sound}
 use Rattle.desk.specs.Runs.{desk_of, opened, answering}
@@ -51,13 +51,13 @@ loop-again c =
       s.auto.1.1.1.1.1.1.1.0 ∙ l.invariant.4,
       s.auto.1.1.1.1.1.1.1.1.0 ∙ l.invariant.5,
       d.sound,
-      runs-turn l.invariant.7 c.before.before.before.before.before.before.before.before.before.before.before.before.before.before.before.before.before.before.before.before.before.before.if1.true l.invariant.4 d.done,
+      runs_turn l.invariant.7 c.before.before.before.before.before.before.before.before.before.before.before.before.before.before.before.before.before.before.before.before.before.before.if1.true l.invariant.4 d.done,
     )
 
 returns : tie.Need-returns invariant-loop decreases-loop
 returns c =
     let l = c.before.before.loop in
-    record { lent = l.lent; state = state_in l.keeper; run = runs-all l.invariant.7 c.before.before.before.before.before.before.before.before.first-turn.auto.1.0 }
+    record { lent = l.lent; state = state_in l.keeper; run = runs_all l.invariant.7 c.before.before.before.before.before.before.before.before.first-turn.auto.1.0 }
 
 pub run_spec : {M : Type 1} → statement M
 run_spec =

@@ -8,8 +8,8 @@ use Rattle.conversion.specs.Flat.{accepted, flat}
 use Rattle.conversion.specs.Answers.{valid_says}
 use Rattle.rules.specs.Rules.{rules_of, accepted_rules}
 use Rattle.rules.proofs.Listed.{says_refused, says_by}
-use Rattle.rules.proofs.Lent.{accepted-both}
-use Rattle.rules.proofs.Questions.{bs-lent, bs-refused, bs-list}
+use Rattle.rules.proofs.Lent.{accepted_both}
+use Rattle.rules.proofs.Questions.{bs_lent, bs_refused, bs-list}
 use Rattle.festivals.proofs.Numbered.{to_numbered}
 use Rattle.festivals.proofs.festivals_on.Statement.{statement}
 use Rattle.festivals.proofs.festivals_on.Tie as tie
@@ -18,7 +18,7 @@ use Rattle.festivals.proofs.festivals_on.Tie as tie
 both : (e : tie.After-enum-told) → let a = e.before.before.before.before.before.before.args in (accepted a.table a.rows.now ≡ true) × (accepted_rules a.rules.now ≡ true)
 both e =
     let a = e.before.before.before.before.before.before.args in
-    accepted-both (flat a.table a.rows.now) _ (said valid_says e.enum_told.given.1 e.before.before.accept.ensures)
+    accepted_both (flat a.table a.rows.now) _ (said valid_says e.enum_told.given.1 e.before.before.accept.ensures)
 
 day-of-requires : tie.Need-day-of-requires
 day-of-requires c κs = (both c).0
@@ -36,7 +36,7 @@ returns c =
     let t = c.before.before.before in
     let a = t.before.before.before.before.args in
     let xs = a.rules.now in
-    let e = bs-lent _ (flat a.table a.rows.now) (rules_of xs) (accepted_rules xs) a.year a.month a.day _ (said valid_says c.before.lent.given.1 t.accept.ensures) in
+    let e = bs_lent _ (flat a.table a.rows.now) (rules_of xs) (accepted_rules xs) a.year a.month a.day _ (said valid_says c.before.lent.given.1 t.accept.ensures) in
     let s = says_by e (says_refused _ a.out.now) in
     (s.answer, s.buffer)
 
@@ -46,7 +46,7 @@ returns-2 c =
     let a = d.before.before.before.before.before.before.before.args in
     let xs = a.rules.now in
     let g = both d.before in
-    let e = bs-refused _ (flat a.table a.rows.now) (rules_of xs) (accepted_rules xs) a.year a.month a.day g.0 g.1 _ (sym (said number_says c.before.number.given.1 d.day-of.ensures)) in
+    let e = bs_refused _ (flat a.table a.rows.now) (rules_of xs) (accepted_rules xs) a.year a.month a.day g.0 g.1 _ (sym (said number_says c.before.number.given.1 d.day-of.ensures)) in
     let s = says_by e (says_refused _ a.out.now) in
     (s.answer, s.buffer)
 

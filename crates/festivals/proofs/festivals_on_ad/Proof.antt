@@ -9,8 +9,8 @@ use Rattle.conversion.specs.Flat.{accepted, flat, date}
 use Rattle.conversion.specs.Answers.{valid_says}
 use Rattle.rules.specs.Rules.{rules_of, accepted_rules}
 use Rattle.rules.proofs.Listed.{says_refused, says_by}
-use Rattle.rules.proofs.Lent.{accepted-both}
-use Rattle.rules.proofs.Questions.{ad-lent, ad-no-date, ad-list}
+use Rattle.rules.proofs.Lent.{accepted_both}
+use Rattle.rules.proofs.Questions.{ad_lent, ad-no-date, ad-list}
 use Rattle.festivals.proofs.Numbered.{its_number, real_numbered}
 use Rattle.festivals.proofs.festivals_on_ad.Statement.{statement}
 use Rattle.festivals.proofs.festivals_on_ad.Tie as tie
@@ -19,7 +19,7 @@ use Rattle.festivals.proofs.festivals_on_ad.Tie as tie
 both : (e : tie.After-enum-told) → let a = e.before.before.before.before.before.before.args in (accepted a.table a.rows.now ≡ true) × (accepted_rules a.rules.now ≡ true)
 both e =
     let a = e.before.before.before.before.before.before.args in
-    accepted-both (flat a.table a.rows.now) _ (said valid_says e.enum_told.given.1 e.before.before.accept.ensures)
+    accepted_both (flat a.table a.rows.now) _ (said valid_says e.enum_told.given.1 e.before.before.accept.ensures)
 
 -- the date's number
 number : (n : tie.After-number2) →
@@ -39,7 +39,7 @@ returns c =
     let t = c.before.before.before in
     let a = t.before.before.before.before.args in
     let xs = a.rules.now in
-    let e = ad-lent _ (flat a.table a.rows.now) (rules_of xs) (accepted_rules xs) a.year a.month a.day _ (said valid_says c.before.lent.given.1 t.accept.ensures) in
+    let e = ad_lent _ (flat a.table a.rows.now) (rules_of xs) (accepted_rules xs) a.year a.month a.day _ (said valid_says c.before.lent.given.1 t.accept.ensures) in
     let s = says_by e (says_refused _ a.out.now) in
     (s.answer, s.buffer)
 

@@ -3,7 +3,7 @@ use borrow.Author.Rules.{rules}
 use Rattle.paper.specs.declared.Refusal.TheVariants.{Before, After}
 use Rattle.rules.proofs.Listed.{says_refused, says_by}
 use Rattle.rules.proofs.Questions.{then_by, then_not}
-use Rattle.festivals.proofs.Placed.{inside, before-first, after_last}
+use Rattle.festivals.proofs.Placed.{inside, before_first, after_last}
 use Rattle.festivals.proofs.list_placed.Statement.{statement}
 use Rattle.festivals.proofs.list_placed.Tie as tie
 
@@ -13,7 +13,7 @@ returns c =
     let p = b.before.before in
     let o = p.before.before.before.before in
     let k = Before b.place2.given.0.0 in
-    let e = before-first _ o.requires.0 _ p.place.result p.place.ensures _ b.place2.given.1 in
+    let e = before_first _ o.requires.0 _ p.place.result p.place.ensures _ b.place2.given.1 in
     let s = says_by (then_not _ _ k e) (says_refused k o.args.out.now) in
     (s.answer, s.buffer)
 

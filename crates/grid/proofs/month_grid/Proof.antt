@@ -7,10 +7,10 @@ use Rattle.gregorian.specs.Answers.{number_says}
 use Rattle.conversion.specs.Flat.{accepted, flat}
 use Rattle.conversion.specs.Answers.{valid_says}
 use Rattle.rules.specs.Rules.{accepted_rules}
-use Rattle.rules.proofs.Lent.{accepted-both}
+use Rattle.rules.proofs.Lent.{accepted_both}
 use Rattle.festivals.proofs.Numbered.{its_number}
 use Rattle.grid.proofs.Grids.{says_refused, says_by}
-use Rattle.grid.proofs.Asked.{not-lent, no-today, by_length}
+use Rattle.grid.proofs.Asked.{not_lent, no_today, by_length}
 use Rattle.grid.proofs.month_grid.Statement.{statement}
 use Rattle.grid.proofs.month_grid.Tie as tie
 
@@ -18,7 +18,7 @@ use Rattle.grid.proofs.month_grid.Tie as tie
 both : (e : tie.After-enum-told) → let a = e.before.before.before.before.before.before.before.args in (accepted a.table a.rows.now ≡ true) × (accepted_rules a.rules.now ≡ true)
 both e =
     let a = e.before.before.before.before.before.before.before.args in
-    accepted-both (flat a.table a.rows.now) _ (said valid_says e.enum_told.given.1 e.before.before.accept.ensures)
+    accepted_both (flat a.table a.rows.now) _ (said valid_says e.enum_told.given.1 e.before.before.accept.ensures)
 
 lay-month-requires : tie.Need-lay-month-requires
 lay-month-requires c κs = both c.before.before.before.before.before
@@ -27,7 +27,7 @@ returns : tie.Need-returns
 returns c =
     let t = c.before.before.before in
     let a = t.before.before.before.before.before.args in
-    let e = not-lent (flat a.table a.rows.now) _ _ _ _ _ _ _ _ _ (said valid_says c.before.lent.given.1 t.accept.ensures) in
+    let e = not_lent (flat a.table a.rows.now) _ _ _ _ _ _ _ _ _ (said valid_says c.before.lent.given.1 t.accept.ensures) in
     let r = says_refused _ _ a.cells.now a.festivals.now e in
     (r.answer, (r.first, r.second))
 
@@ -36,7 +36,7 @@ returns-2 c =
     let d = c.before.before.before in
     let a = d.before.before.before.before.before.before.before.before.args in
     let g = both d.before in
-    let e = no-today (flat a.table a.rows.now) _ _ _ _ _ _ _ _ g.0 g.1 _ (said number_says c.before.number.given.1 d.day-number.ensures) in
+    let e = no_today (flat a.table a.rows.now) _ _ _ _ _ _ _ _ g.0 g.1 _ (said number_says c.before.number.given.1 d.day-number.ensures) in
     let r = says_refused _ _ a.cells.now a.festivals.now e in
     (r.answer, (r.first, r.second))
 

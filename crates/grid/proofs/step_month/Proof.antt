@@ -12,7 +12,7 @@ use Rattle.conversion.specs.Calendar.{Calendar}
 use Rattle.conversion.specs.Flat.{flat}
 use Rattle.conversion.proofs.Accepted.{Facts, facts}
 use Rattle.grid.specs.Step.{absolute, month_at, step_says}
-use Rattle.grid.proofs.Stepped.{step-bad, step-good}
+use Rattle.grid.proofs.Stepped.{step_bad, step_good}
 use Rattle.grid.proofs.step_month.Statement.{statement}
 use Rattle.grid.proofs.step_month.Tie as tie
 
@@ -27,7 +27,7 @@ known : (c : tie.Else1) → let a = c.before.before.before.args in Facts a.table
 known c = facts _ _ (good c)
 
 returns : tie.Need-returns
-returns c = sym (step-bad (cal c.before.before.before) _ _ _ (sym c.before.accepts.ensures ∙ not-true c.before.accepts.result c.if1.true))
+returns c = sym (step_bad (cal c.before.before.before) _ _ _ (sym c.before.accepts.ensures ∙ not-true c.before.accepts.result c.if1.true))
 
 cast-years : tie.Need-overflow-cast-years
 cast-years c = let f = known c.before in omega (arith, c.year-count.ensures)
@@ -47,7 +47,7 @@ returns-2 c =
     a
     ∙ ap (λ (m : ℕ). month_at k.first m (to_z w64 (of_z w64 n.result))) years.year-count.ensures
     ∙ ap (month_at k.first k.years) (to_z-of_z w64 n.result (record { sfits = n.type-inv }) ∙ sum ∙ ap (absolute x.year x.month) (to_z-of_z w32 x.step s.ranges.step))
-    ∙ sym (step-good k x.year x.month x.step (good years.before))
+    ∙ sym (step_good k x.year x.month x.step (good years.before))
 
 pub step-month-spec : {M : Type 1} → statement M
 step-month-spec =

@@ -1,12 +1,12 @@
 -- `growth::put_years_of` meets its contract. Assumes nothing.
 use Rattle.output.proofs.Pieces.{puts_as, puts_none}
-use Rattle.growth.proofs.Pages.{no-first, no_last, span-is}
+use Rattle.growth.proofs.Pages.{no_first, no_last, span-is}
 use borrow.Author.Rules.{rules}
 use Rattle.growth.proofs.put_years_of.Statement.{statement}
 use Rattle.growth.proofs.put_years_of.Tie as tie
 
 returns : tie.Need-returns
-returns c = puts_as (no-first _ _ _ _ c.before.before.year-days.result c.before.before.year-days.ensures c.enum_told.given.1) (puts_none _ _)
+returns c = puts_as (no_first _ _ _ _ c.before.before.year-days.result c.before.before.year-days.ensures c.enum_told.given.1) (puts_none _ _)
 
 returns-2 : tie.Need-returns-2
 returns-2 c = puts_as (no_last _ _ _ _ c.before.before.before.before.before.before.year-days.result c.before.before.before.before.before.before.year-days.ensures c.before.before.before.before.first-day.given.1 c.before.before.year-days2.result c.before.before.year-days2.ensures c.enum-told2.given.1) (puts_none _ _)

@@ -7,9 +7,9 @@ use Rattle.gregorian.specs.Answers.{number_says}
 use Rattle.conversion.specs.Flat.{accepted, flat}
 use Rattle.conversion.specs.Answers.{valid_says}
 use Rattle.rules.specs.Rules.{rules_of, accepted_rules}
-use Rattle.rules.proofs.Lent.{accepted-both}
+use Rattle.rules.proofs.Lent.{accepted_both}
 use Rattle.festivals.proofs.Numbered.{to_numbered}
-use Rattle.holiday.proofs.Asked.{not-lent, no-day, told-on}
+use Rattle.holiday.proofs.Asked.{not_lent, no_day_law, told-on}
 use Rattle.holiday.proofs.is_holiday.Statement.{statement}
 use Rattle.holiday.proofs.is_holiday.Tie as tie
 
@@ -17,7 +17,7 @@ use Rattle.holiday.proofs.is_holiday.Tie as tie
 both : (e : tie.After-enum-told) → let a = e.before.before.before.before.before.args in (accepted a.table a.rows.now ≡ true) × (accepted_rules a.rules.now ≡ true)
 both e =
     let a = e.before.before.before.before.before.args in
-    accepted-both (flat a.table a.rows.now) _ (said valid_says e.enum_told.given.1 e.before.before.accept.ensures)
+    accepted_both (flat a.table a.rows.now) _ (said valid_says e.enum_told.given.1 e.before.before.accept.ensures)
 
 day-of-requires : tie.Need-day-of-requires
 day-of-requires c κs = (both c).0
@@ -35,7 +35,7 @@ returns c =
     let t = c.before.before.before in
     let a = t.before.before.before.args in
     let xs = a.rules.now in
-    sym (not-lent _ (flat a.table a.rows.now) (rules_of xs) (accepted_rules xs) a.year a.month a.day _ (said valid_says c.before.lent.given.1 t.accept.ensures))
+    sym (not_lent _ (flat a.table a.rows.now) (rules_of xs) (accepted_rules xs) a.year a.month a.day _ (said valid_says c.before.lent.given.1 t.accept.ensures))
 
 returns-2 : tie.Need-returns-2
 returns-2 c =
@@ -43,7 +43,7 @@ returns-2 c =
     let a = d.before.before.before.before.before.before.args in
     let xs = a.rules.now in
     let g = both d.before in
-    sym (no-day _ (flat a.table a.rows.now) (rules_of xs) (accepted_rules xs) a.year a.month a.day g.0 g.1 _ (sym (said number_says c.before.number.given.1 d.day-of.ensures)))
+    sym (no_day_law _ (flat a.table a.rows.now) (rules_of xs) (accepted_rules xs) a.year a.month a.day g.0 g.1 _ (sym (said number_says c.before.number.given.1 d.day-of.ensures)))
 
 returns-3 : tie.Need-returns-3
 returns-3 c =

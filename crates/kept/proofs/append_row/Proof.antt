@@ -9,11 +9,11 @@ use Rattle.paper.proofs.Answers.{said}
 use Rattle.conversion.specs.Flat.{accepted, flat}
 use Rattle.conversion.specs.Answers.{valid_says}
 use Rattle.rules.specs.Rules.{accepted_rules}
-use Rattle.rules.proofs.Lent.{accepted-both}
+use Rattle.rules.proofs.Lent.{accepted_both}
 use Rattle.kept.specs.Held.{held, Ready}
 use Rattle.kept.proofs.Records.{grown, holds_row}
-use Rattle.kept.proofs.Goods.{good-row}
-use Rattle.kept.proofs.Outcomes.{is_done, is_undone, appended, other_length, no_place, not-appended}
+use Rattle.kept.proofs.Goods.{good_row}
+use Rattle.kept.proofs.Outcomes.{is_done, is_undone, appended, other_length, no_place, not_appended}
 use Rattle.kept.proofs.append_row.Statement.{statement}
 use Rattle.kept.proofs.append_row.Tie as tie
 
@@ -36,7 +36,7 @@ longer t w =
 
 -- past the test it is accepted, and so are the rules
 both : (e : tie.After-enum-told) → let t = e.before.before in (accepted t.before.before.before.before.before.before.before.before.before.before.before.before.before.before.args.state.table t.before.front3.result.now ≡ true) × (accepted_rules t.before.before.before.before.before.before.before.front2.result.now ≡ true)
-both e = let t = e.before.before in accepted-both (flat t.before.before.before.before.before.before.before.before.before.before.before.before.before.before.args.state.table t.before.front3.result.now) _ (said valid_says e.enum_told.given.1 t.accept.ensures)
+both e = let t = e.before.before in accepted_both (flat t.before.before.before.before.before.before.before.before.before.before.before.before.before.before.args.state.table t.before.front3.result.now) _ (said valid_says e.enum_told.given.1 t.accept.ensures)
 
 renewed-requires : tie.Need-renewed-requires
 renewed-requires c κs =
@@ -50,7 +50,7 @@ returns-3 c = λ w.
     let i = t.before.before.before.before.before.before in
     let a = i.before.before.before.before.before.before.before.before.args in
     is_undone _ _ _ w
-    (not-appended (held a.state) a.row.now i.if1.false w.good.rules _ _ (longer t w) i.before.front2.ensures _ (said valid_says c.before.lent.given.1 t.accept.ensures))
+    (not_appended (held a.state) a.row.now i.if1.false w.good.rules _ _ (longer t w) i.before.front2.ensures _ (said valid_says c.before.lent.given.1 t.accept.ensures))
 
 returns-4 : tie.Need-returns-4
 returns-4 c = λ w.
@@ -63,7 +63,7 @@ returns-4 c = λ w.
     let row = a.row.now in
     let h = ap (accepted k.table) (sym (longer t w)) ∙ (both c.before.before.before).0 in
     is_done _ _ _ (appended (held k) row i.if1.false h)
-    (holds_row k w _ row _ f.front.ensures i.if1.false r.with-row.ensures _ _ _ c.before.front4.ensures i.before.front2.ensures (good-row (held k) w.good row h) c.renewed.ensures)
+    (holds_row k w _ row _ f.front.ensures i.if1.false r.with-row.ensures _ _ _ c.before.front4.ensures i.before.front2.ensures (good_row (held k) w.good row h) c.renewed.ensures)
 
 pub append-row-spec : {M : Type 1} → statement M
 append-row-spec =

@@ -6,7 +6,7 @@ use Rattle.paper.proofs.Answers.{refused_answered}
 use Rattle.kept.specs.Operations.{blank}
 use Rattle.kept.proofs.Records.{made}
 use Rattle.kept.proofs.Goods.{good_blank}
-use Rattle.kept.proofs.Outcomes.{started, not-started, blank_record}
+use Rattle.kept.proofs.Outcomes.{started, not_started, blank_record}
 use Rattle.kept.proofs.start.Statement.{statement}
 use Rattle.kept.proofs.start.Tie as tie
 
@@ -14,7 +14,7 @@ returns : tie.Need-returns
 returns c =
     let t = c.before.before.before.args.table in
     record {
-      answer = not-started t (sym c.before.can-start.ensures ∙ not-true c.before.can-start.result c.if1.true);
+      answer = not_started t (sym c.before.can-start.ensures ∙ not-true c.before.can-start.result c.if1.true);
       is = blank_record t _ c.before.before.no-years.ensures;
       ready = λ e. absurd (refused_answered refl e);
     }

@@ -9,7 +9,7 @@ use lib.ListN.{length-replicate}
 use Rattle.rules.specs.Rules.{accepted_rules}
 use Rattle.rules.proofs.Few.{few_rules}
 use Rattle.kept.specs.Held.{held}
-use Rattle.kept.proofs.Records.{holds-rules}
+use Rattle.kept.proofs.Records.{holds_rules}
 use Rattle.kept.proofs.Goods.{good_rules}
 use Rattle.kept.proofs.Outcomes.{is_done, is_undone, taken, not_taken}
 use Rattle.kept.proofs.take_rules.Statement.{statement}
@@ -33,7 +33,7 @@ returns-2 c = λ w.
     let k = a.state in
     let list = a.list.now in
     let g = good-list c.before.before.before in
-    is_done _ _ _ (taken (held k) list g) (holds-rules k w list _ _ (good_rules (held k) w.good list g) (few_rules list g) c.before.before.put-at.ensures c.no-years.ensures)
+    is_done _ _ _ (taken (held k) list g) (holds_rules k w list _ _ (good_rules (held k) w.good list g) (few_rules list g) c.before.before.put-at.ensures c.no-years.ensures)
 
 pub take-rules-spec : {M : Type 1} → statement M
 take-rules-spec = tie.close (tie.spec (λ c κs. search rules) returns (λ c. search rules) put-at-requires (λ c κs. search rules) returns-2)

@@ -1,6 +1,6 @@
 -- One number is stored where there is room. Assumes nothing.
 use native.Mathlib.Omega.{arith}
-use Rattle.paper.proofs.Stores.{sets-past}
+use Rattle.paper.proofs.Stores.{sets_past}
 use mathlib.Core.List.{[], ◌∷◌}
 use mathlib.Core.Path.{sym}
 use borrow.Author.Rules.{rules}
@@ -9,7 +9,7 @@ use Rattle.lending.proofs.put.Tie as tie
 
 returns-2 : tie.Need-returns-2
 returns-2 c = let a = c.before.args in
-    record { stored = sym (sets-past (a.x ∷ []) a.list.now a.at c.if1.false); end = omega arith }
+    record { stored = sym (sets_past (a.x ∷ []) a.list.now a.at c.if1.false); end = omega arith }
 
 pub put_spec : {M : Type 1} → statement M
 put_spec =

@@ -4,7 +4,7 @@ use mathlib.Core.Path.{◌≡◌, refl, ◌∙◌}
 use native.Mathlib.Omega.{arith}
 use lib.ListN.{length, drop}
 use Rattle.lines.specs.Lines.{front}
-use Rattle.lines.proofs.Pieces.{Reads, reads_first, reads_more, next-fed, next_last, next_unread}
+use Rattle.lines.proofs.Pieces.{Reads, reads_first, reads_more, next_fed, next_last, next_unread}
 use borrow.Author.Rules.{rules}
 use Rattle.lines.proofs.read_on.Statement.{statement}
 use Rattle.lines.proofs.read_on.Tie as tie
@@ -28,7 +28,7 @@ returns : tie.Need-returns invariant-loop decreases-loop
 returns c = let l = c.before.before.before.before.before.before.before.before.before.before.loop in
     let a = c.before.before.before.before.before.before.before.before.before.before.before.before.before.before.args in
     let f = rw c.before.before.h.given.1 at c.before.before.before.before.before.before.fill_on.ensures in
-    rw c.handed.ensures (next-fed a.input a.piece.now a.line.now (l.left - 1) c.before.before.before.before.before.before.before.before.before.before.before.before.before.before.requires (omega arith) l.piece l.to l.invariant.3 l.invariant.1 f)
+    rw c.handed.ensures (next_fed a.input a.piece.now a.line.now (l.left - 1) c.before.before.before.before.before.before.before.before.before.before.before.before.before.before.requires (omega arith) l.piece l.to l.invariant.3 l.invariant.1 f)
 
 loop-again : tie.Need-loop-preserved invariant-loop decreases-loop
 loop-again c = let l = c.before.before.before.before.before.before.before.before.before.before.before.before.before.before.before.before.loop in

@@ -8,7 +8,7 @@ use lib.ListN.{drop, replicate}
 use lib.Seq.{sets}
 use Rattle.kept.specs.Held.{entries}
 use Rattle.shelf.specs.Inner.{wholes}
-use Rattle.shelf.proofs.Halves.{wholes-turn, wholes_end}
+use Rattle.shelf.proofs.Halves.{wholes_turn, wholes_end}
 use Rattle.shelf.proofs.days_at.Statement.{statement}
 use Rattle.shelf.proofs.days_at.Tie as tie
 
@@ -26,7 +26,7 @@ loop-again : tie.Need-loop-preserved invariant-loop decreases-loop
 loop-again c =
     let l = c.before.before.before.before.loop in
     let a = c.before.before.before.before.before.before.args in
-    (omega arith, wholes-turn a.numbers.now l.days a.at l.i _ _ _ (omega arith) c.before.before.number_at.ensures c.before.number-at2.ensures c.whole.ensures ∙ l.invariant.1)
+    (omega arith, wholes_turn a.numbers.now l.days a.at l.i _ _ _ (omega arith) c.before.before.number_at.ensures c.before.number-at2.ensures c.whole.ensures ∙ l.invariant.1)
 
 returns : tie.Need-returns invariant-loop decreases-loop
 returns c =

@@ -4,19 +4,19 @@ use Prim.Native.Nat.{ℕ}
 use native.Mathlib.Omega.{arith}
 use lib.ListN.{drop, length-replicate}
 use Rattle.shelf.specs.Inner.{kept_of}
-use Rattle.shelf.proofs.Sizes.{part-fits, part-read}
+use Rattle.shelf.proofs.Sizes.{part_fits, part_read}
 use Rattle.shelf.proofs.kept_of.Statement.{statement}
 use Rattle.shelf.proofs.kept_of.Tie as tie
 
 put-at-requires : tie.Need-put-at-requires
 put-at-requires c κs =
     let a = c.before.before.before.args.numbers.now in
-    omega (arith, length-replicate {A = ℕ} 1664 0, part-fits 1664 (drop 8 a) _ c.part.ensures)
+    omega (arith, length-replicate {A = ℕ} 1664 0, part_fits 1664 (drop 8 a) _ c.part.ensures)
 
 put-at-requires-2 : tie.Need-put-at-requires-2
 put-at-requires-2 c κs =
     let a = c.before.before.before.before.before.before.before.args.numbers.now in
-    omega (arith, length-replicate {A = ℕ} 2560 0, part-fits 2560 (drop 1672 a) _ c.part2.ensures)
+    omega (arith, length-replicate {A = ℕ} 2560 0, part_fits 2560 (drop 1672 a) _ c.part2.ensures)
 
 returns : tie.Need-returns
 unfolding kept_of
@@ -25,8 +25,8 @@ returns c =
     let w = t.before.before.before in
     let v = w.before.before.before.before in
     let a = v.before.before.before.args.numbers.now in
-    let rules = part-read 2560 (drop 1672 a) _ w.part2.ensures _ t.before.before.put-at2.ensures in
-    let rows = part-read 1664 (drop 8 a) _ v.part.ensures _ w.before.before.before.put-at.ensures in
+    let rules = part_read 2560 (drop 1672 a) _ w.part2.ensures _ t.before.before.put-at2.ensures in
+    let rows = part_read 1664 (drop 8 a) _ v.part.ensures _ w.before.before.before.put-at.ensures in
     λ i.
     record {
       table = t.table_of.ensures i;

@@ -1,7 +1,7 @@
 -- `shelf::put` meets its contract. Assumes nothing.
 use borrow.Author.Rules.{rules}
 use mathlib.Core.Path.{sym, ◌∙◌}
-use Rattle.shelf.proofs.Sizes.{no_room, long-rows, long-rules, fitting}
+use Rattle.shelf.proofs.Sizes.{no_room, long_rows, long_rules, fitting}
 use Rattle.shelf.proofs.put.Statement.{statement}
 use Rattle.shelf.proofs.put.Tie as tie
 
@@ -9,13 +9,13 @@ returns : tie.Need-returns
 returns c = let a = c.before.before.args in sym (no_room a.state a.out.now c.if1.true)
 
 returns-2 : tie.Need-returns-2
-returns-2 c = let a = c.before.before.before.before.args in sym (long-rows a.state a.out.now c.before.before.if1.false c.if2.true)
+returns-2 c = let a = c.before.before.before.before.args in sym (long_rows a.state a.out.now c.before.before.if1.false c.if2.true)
 
 returns-3 : tie.Need-returns-3
 returns-3 c =
     let t = c.before.before in
     let a = t.before.before.before.before.args in
-    sym (long-rules a.state a.out.now t.before.before.if1.false t.if2.false c.if3.true)
+    sym (long_rules a.state a.out.now t.before.before.if1.false t.if2.false c.if3.true)
 
 returns-4 : tie.Need-returns-4
 returns-4 c =

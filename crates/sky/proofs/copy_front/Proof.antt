@@ -1,5 +1,5 @@
 use lib.Ieee.{Float, nan}
-use Rattle.sky.proofs.Fronts.{front_length, front-more}
+use Rattle.sky.proofs.Fronts.{front_length, front_more}
 use lib.ListN.{length, get_or, take, drop, set}
 use mathlib.Core.List.{List, ◌++◌}
 use Prim.Native.Nat.{◌≤◌, ◌-◌}
@@ -34,7 +34,7 @@ loop-again c =
     let l = c.before.before in
     let a = l.before.args in
     let n = src-length l in
-    (omega arith, ap (λ (o : List Float). set o l.loop.i (get_or a.src.now l.loop.i nan)) l.loop.invariant.1 ∙ front-more a.src.now a.out.now nan l.loop.i (omega arith) (omega arith))
+    (omega arith, ap (λ (o : List Float). set o l.loop.i (get_or a.src.now l.loop.i nan)) l.loop.invariant.1 ∙ front_more a.src.now a.out.now nan l.loop.i (omega arith) (omega arith))
 
 same_length : tie.Need-same-length invariant-loop decreases-loop
 same_length c = kept c.before

@@ -10,8 +10,8 @@ use Rattle.paper.specs.Answers.{answered}
 use Rattle.sky.specs.Tithi.{elongation_of}
 use Rattle.sky.specs.Search.{Walk, offset, target_of, starts_of}
 use Rattle.sky.specs.Answers.{query}
-use Rattle.sky.proofs.Fronts.{over-length, over-front}
-use Rattle.sky.proofs.Searches.{starts-bounded, refused-buffer, out_of_range, no_room, not-ended, gives_found, found-buffer}
+use Rattle.sky.proofs.Fronts.{over_length, over_front}
+use Rattle.sky.proofs.Searches.{starts_bounded, refused_buffer, out_of_range, no_room, not-ended, gives_found, found-buffer}
 use Rattle.sky.proofs.tithi_starts_between.Statement.{statement}
 use Rattle.sky.proofs.tithi_starts_between.Tie as tie
 
@@ -39,12 +39,12 @@ module _ (s : tie.After-walk) where
   written = s.walk.ensures.1.1.1
 
   short : s.walk.result.count ≤ 1024
-  short = omega (arith, count, starts-bounded (offset elongation_of (target_of start.args.tithi)) start.args.from.0 start.args.to.0)
+  short = omega (arith, count, starts_bounded (offset elongation_of (target_of start.args.tithi)) start.args.from.0 start.args.to.0)
 
 copy-front-requires : tie.Need-copy-front-requires
 copy-front-requires c κs =
     let s = c.before.before.before.before in
-    (short s, (over-length (w s).starts zeros (written s) (count s) (short s), c.before.before.if3.true))
+    (short s, (over_length (w s).starts zeros (written s) (count s) (short s), c.before.before.if3.true))
 
 returns : tie.Need-returns
 returns c =
@@ -58,7 +58,7 @@ returns c =
     let done = sym (ended s) ∙ p.before.before.before.before.if2.true in
     let e = gives_found a.tithi a.from.0 a.to.0 a.out.now (good s) done r in (
       ap (λ (m : ℕ). answered (m, s.walk.result.steps)) k ∙ ap (λ (m : ℕ). answered (length l, m)) s.walk.ensures.1.0 ∙ sym e,
-      p.copy-front.ensures ∙ ap (λ (x : List Float). x ++ drop n a.out.now) (over-front l zeros (written s) k)
+      p.copy-front.ensures ∙ ap (λ (x : List Float). x ++ drop n a.out.now) (over_front l zeros (written s) k)
           ∙ ap (λ (m : ℕ). l ++ drop m a.out.now) k ∙ sym (found-buffer a.tithi a.from.0 a.to.0 a.out.now (good s) done r),
     )
 
@@ -67,20 +67,20 @@ returns-2 c =
     let s = c.before.before in
     let a = (start s).args in
     let e = no_room a.tithi a.from.0 a.to.0 a.out.now (good s) (sym (ended s) ∙ c.before.if2.true) (omega (arith, count s)) in
-    (sym e, sym (refused-buffer a.tithi a.from.0 a.to.0 a.out.now e))
+    (sym e, sym (refused_buffer a.tithi a.from.0 a.to.0 a.out.now e))
 
 returns-3 : tie.Need-returns-3
 returns-3 c =
     let s = c.before in
     let a = (start s).args in
     let e = not-ended a.tithi a.from.0 a.to.0 a.out.now (good s) (sym (ended s) ∙ c.if2.false) in
-    (sym e, sym (refused-buffer a.tithi a.from.0 a.to.0 a.out.now e))
+    (sym e, sym (refused_buffer a.tithi a.from.0 a.to.0 a.out.now e))
 
 returns-4 : tie.Need-returns-4
 returns-4 c =
     let a = c.before.before.before.args in
     let e = out_of_range a.tithi a.from.0 a.to.0 a.out.now (sym c.before.is-query.ensures ∙ c.if1.false) in
-    (sym e, sym (refused-buffer a.tithi a.from.0 a.to.0 a.out.now e))
+    (sym e, sym (refused_buffer a.tithi a.from.0 a.to.0 a.out.now e))
 
 pub tithi-starts-between-spec : {M : Type 1} → statement M
 tithi-starts-between-spec =

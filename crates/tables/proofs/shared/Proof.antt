@@ -1,7 +1,7 @@
 -- `tables::shared` meets its contract: the numbers in common so far, and those to come. Assumes nothing.
 use Rattle.std.proofs.Common.{◌≡◌, ◌+◌, ◌-◌, ◌≤◌, length, drop, ◌∙◌, zero-add, arith}
 use Rattle.tables.specs.Shared as Shared
-use Rattle.tables.proofs.Turns.{shared-over, shared-short, shared-differs, shared-turn}
+use Rattle.tables.proofs.Turns.{shared_over, shared-short, shared-differs, shared-turn}
 use Rattle.tables.proofs.shared.Statement.{statement}
 use Rattle.tables.proofs.shared.Tie as tie
 
@@ -43,7 +43,7 @@ loop-again c = let l = c.before.before.before.before.before.loop in
     (omega arith, shared-turn c.before.before.before.before.before.before.args.old.now c.before.before.before.before.before.before.args.new.now l.i c.before.before.before.before.loop-test.true c.before.before.before.if1.false c.if2.false ∙ l.invariant.1)
 
 returns-3 : tie.Need-returns-3 invariant-loop decreases-loop
-returns-3 c = let l = c.before.loop in shared-over c.before.before.args.old.now c.before.before.args.new.now l.i c.loop-test.false ∙ l.invariant.1
+returns-3 c = let l = c.before.loop in shared_over c.before.before.args.old.now c.before.before.args.new.now l.i c.loop-test.false ∙ l.invariant.1
 
 pub shared-spec : {M : Type 1} → statement M
 shared-spec =

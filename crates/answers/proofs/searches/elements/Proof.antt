@@ -4,7 +4,7 @@ use mathlib.Core.Path.{◌≡◌, refl}
 use native.Mathlib.Omega.{arith}
 use lib.ListN.{length}
 use Rattle.output.specs.Floats.{float_text}
-use Rattle.output.proofs.Gathering.{then, Left, left-all, left-turn, left_none}
+use Rattle.output.proofs.Gathering.{then, Left, left_all, left_turn, left_none}
 use borrow.Author.Rules.{rules}
 use Rattle.answers.proofs.searches.elements.Statement.{statement}
 use Rattle.answers.proofs.searches.elements.Tie as tie
@@ -16,10 +16,10 @@ abbrev decreases-loop : tie.decreases-loop
 decreases-loop out₀ buffer p₀ i₀ out p i = length buffer - i
 
 loop-holds : tie.Need-loop-init invariant-loop decreases-loop
-loop-holds c = (refl, search rules, left-all)
+loop-holds c = (refl, search rules, left_all)
 
 loop-again : tie.Need-loop-preserved invariant-loop decreases-loop
-loop-again c = (search rules, search rules, left-turn _ c.before.before.before.before.before.before.loop.invariant.2 (omega arith) c.before.before.float.ensures)
+loop-again c = (search rules, search rules, left_turn _ c.before.before.before.before.before.before.loop.invariant.2 (omega arith) c.before.before.float.ensures)
 
 returns : tie.Need-returns invariant-loop decreases-loop
 returns c = then c.before.before.before.before.word.ensures (left_none c.before.loop.invariant.2 (omega arith))

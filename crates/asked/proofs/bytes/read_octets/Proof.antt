@@ -3,8 +3,8 @@ use Prim.Native.Nat.{◌-◌, ◌≤◌}
 use mathlib.Core.Path.{◌≡◌, refl, ◌∙◌}
 use native.Mathlib.Omega.{arith}
 use lib.ListN.{length, length-set}
-use Rattle.text.proofs.Said.{number-said, number-unsaid}
-use Rattle.asked.proofs.Octets.{Left, left_first, left_over, left-full, left-bad, left-turn, value_small}
+use Rattle.text.proofs.Said.{number_said, number_unsaid}
+use Rattle.asked.proofs.Octets.{Left, left_first, left_over, left-full, left-bad, left_turn, value_small}
 use borrow.Author.Rules.{rules}
 use Rattle.asked.proofs.bytes.read_octets.Statement.{statement}
 use Rattle.asked.proofs.bytes.read_octets.Tie as tie
@@ -27,7 +27,7 @@ returns-2 : tie.Need-returns-2 invariant-loop decreases-loop
 returns-2 c = let l = c.before.before.before.before.before.before.loop in
     let a = c.before.before.before.before.before.before.before.before.args in
     c.no-octets2.ensures ∙ left-bad a.s.now l.at l.count l.bytes c.before.before.before.before.before.loop-test.true (omega (arith, l.invariant.0, c.before.before.before.before.if1.false))
-    (number-unsaid c.before.before.before.octet-at.result c.before.before.before.octet-at.ensures.0 c.before.enum_told.given.1) ∙ l.invariant.2 ∙ left_first a.s.now a.c.at
+    (number_unsaid c.before.before.before.octet-at.result c.before.before.before.octet-at.ensures.0 c.before.enum_told.given.1) ∙ l.invariant.2 ∙ left_first a.s.now a.c.at
 
 cast-bytes : tie.Need-overflow-cast-bytes invariant-loop decreases-loop
 cast-bytes c = let b = c.before.b.given in omega (arith, value_small c.before.before.before.octet-at.result c.before.before.before.octet-at.ensures.1 b.1)
@@ -38,8 +38,8 @@ loop-again c = let l = c.before.before.before.before.before.before.loop in
     let b = c.before.b.given in (
       omega (arith, l.invariant.0, c.before.before.before.before.if1.false),
       simp length-set l.invariant.1,
-      left-turn a.s.now l.at l.count l.bytes c.before.before.before.before.before.loop-test.true (omega (arith, l.invariant.0, c.before.before.before.before.if1.false)) b.0.0 b.0.1.0.at
-          (number-said c.before.before.before.octet-at.result c.before.before.before.octet-at.ensures.0 b.1) ∙ l.invariant.2,
+      left_turn a.s.now l.at l.count l.bytes c.before.before.before.before.before.loop-test.true (omega (arith, l.invariant.0, c.before.before.before.before.if1.false)) b.0.0 b.0.1.0.at
+          (number_said c.before.before.before.octet-at.result c.before.before.before.octet-at.ensures.0 b.1) ∙ l.invariant.2,
     )
 
 returns-3 : tie.Need-returns-3 invariant-loop decreases-loop

@@ -1,5 +1,5 @@
 -- The turn of a line, or the end, with all written out. Assumes nothing.
-use Rattle.asked.proofs.Turns.{turn-failed, turn-over, turn_line}
+use Rattle.asked.proofs.Turns.{turn_failed, turn_over, turn_line}
 use borrow.Author.Rules.{rules}
 use Rattle.asked.proofs.input.turn_of.Statement.{statement}
 use Rattle.asked.proofs.input.turn_of.Tie as tie
@@ -7,12 +7,12 @@ use Rattle.asked.proofs.input.turn_of.Tie as tie
 returns : tie.Need-returns
 returns c = let a = c.before.before.before.before.args in
     let x = c.before.finish in
-    turn-failed a.input a.o x.result c.before.before.if1.true x.ensures.0 x.ensures.1 c.ended.ensures
+    turn_failed a.input a.o x.result c.before.before.if1.true x.ensures.0 x.ensures.1 c.ended.ensures
 
 returns-2 : tie.Need-returns-2
 returns-2 c = let a = c.before.before.before.before.before.before.args in
     let x = c.before.finish2 in
-    turn-over a.input a.o x.result c.before.before.before.before.if1.false c.before.before.if2.true x.ensures.0 x.ensures.1 c.ended2.ensures
+    turn_over a.input a.o x.result c.before.before.before.before.if1.false c.before.before.if2.true x.ensures.0 x.ensures.1 c.ended2.ensures
 
 returns-3 : tie.Need-returns-3
 returns-3 c = let a = c.before.before.before.before.args in

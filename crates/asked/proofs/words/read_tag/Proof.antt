@@ -6,7 +6,7 @@ use native.Mathlib.Omega.{arith}
 use borrow.Author.Tests.{not-true, not-false}
 use lib.ListN.{length, get_or, drop}
 use Rattle.asked.specs.Line.{letter, letters}
-use Rattle.asked.proofs.Splits.{letter_is, letters-over, letters-stop, letters-large, letters-turn}
+use Rattle.asked.proofs.Splits.{letter_is, letters_over, letters_stop, letters_large, letters_turn}
 use borrow.Author.Rules.{rules}
 use Rattle.asked.proofs.words.read_tag.Statement.{statement}
 use Rattle.asked.proofs.words.read_tag.Tie as tie
@@ -24,7 +24,7 @@ returns : tie.Need-returns invariant-loop decreases-loop
 returns c = let a = c.before.before.before.before.before.before.args in
     let l = c.before.before.before.before.loop in
     record {
-      same = letters-stop a.s.now l.i l.v c.before.before.before.loop-test.true (sym c.before.is-letter.ensures ∙ not-true c.before.is-letter.result c.if1.true) ∙ l.invariant.1;
+      same = letters_stop a.s.now l.i l.v c.before.before.before.loop-test.true (sym c.before.is-letter.ensures ∙ not-true c.before.is-letter.result c.if1.true) ∙ l.invariant.1;
       inside = l.invariant.0;
     }
 
@@ -46,7 +46,7 @@ returns-2 c = let a = c.before.before.before.before.before.before.before.args in
     let x = get_or a.s.now l.i 0 in
     let d : letter x ≡ true = sym c.before.before.is-letter.ensures ∙ not-false c.before.before.is-letter.result c.before.if1.false in
     let g = letter_is x d in
-    record { same = letters-large a.s.now l.i l.v c.before.before.before.before.loop-test.true d (omega arith) ∙ l.invariant.1; inside = omega arith }
+    record { same = letters_large a.s.now l.i l.v c.before.before.before.before.loop-test.true d (omega arith) ∙ l.invariant.1; inside = omega arith }
 
 mul-v : tie.Need-overflow-mul-v invariant-loop decreases-loop
 mul-v c = let x = get_or c.before.before.before.before.before.before.before.args.s.now c.before.before.before.before.before.loop.i 0 in
@@ -63,12 +63,12 @@ loop-again c = let a = c.before.before.before.before.before.before.before.args i
     let d : letter x ≡ true = sym c.before.before.is-letter.ensures ∙ not-false c.before.before.is-letter.result c.before.if1.false in
     let g = letter_is x d in
     let m : l.v * 64 + (x - 96) ≤ 18446744073709551615 = omega arith in
-    (omega arith, letters-turn a.s.now l.i l.v c.before.before.before.before.loop-test.true d m ∙ l.invariant.1)
+    (omega arith, letters_turn a.s.now l.i l.v c.before.before.before.before.loop-test.true d m ∙ l.invariant.1)
 
 returns-3 : tie.Need-returns-3 invariant-loop decreases-loop
 returns-3 c = let a = c.before.before.before.args in
     let l = c.before.loop in
-    record { same = letters-over a.s.now l.i l.v c.loop-test.false ∙ l.invariant.1; inside = l.invariant.0 }
+    record { same = letters_over a.s.now l.i l.v c.loop-test.false ∙ l.invariant.1; inside = l.invariant.0 }
 
 pub read-tag-spec : {M : Type 1} → statement M
 read-tag-spec =

@@ -3,9 +3,9 @@ use Prim.Native.Nat.{◌-◌, ◌≤◌}
 use mathlib.Core.Path.{◌≡◌, refl, ◌∙◌}
 use native.Mathlib.Omega.{arith}
 use lib.ListN.{length, length-set}
-use Rattle.text.proofs.Said.{number-said, number-unsaid, passed-said, passed-unsaid}
+use Rattle.text.proofs.Said.{number_said, number_unsaid, passed_said, passed_unsaid}
 use Rattle.asked.specs.Line.{words_of}
-use Rattle.asked.proofs.Splits.{Left, left_over, left-full, left-gap, left-bad, left-turn, words_none, words_tagged, word-said, word-unsaid, word_kind, below_most}
+use Rattle.asked.proofs.Splits.{Left, left_over, left-full, left-gap, left-bad, left_turn, words_none, words_tagged, word_said, word_unsaid, word_kind, below_most}
 use borrow.Author.Rules.{rules}
 use Rattle.asked.proofs.words.split_all.Statement.{statement}
 use Rattle.asked.proofs.words.split_all.Tie as tie
@@ -17,11 +17,11 @@ abbrev decreases-loop : tie.decreases-loop
 decreases-loop s tag at₀ form₀ values₀ k₀ t12 at form values k = 4096 - k
 
 returns : tie.Need-returns invariant-loop decreases-loop
-returns c = c.out-of-form.ensures ∙ words_none c.before.before.before.before.before.args.s.now (number-unsaid c.before.before.before.read-tag.result c.before.before.before.read-tag.ensures c.before.enum_told.given.1)
+returns c = c.out-of-form.ensures ∙ words_none c.before.before.before.before.before.args.s.now (number_unsaid c.before.before.before.read-tag.result c.before.before.before.read-tag.ensures c.before.enum_told.given.1)
 
 loop-holds : tie.Need-loop-init invariant-loop decreases-loop
 loop-holds c = let t = c.before.tag.given in
-    (omega arith, refl, words_tagged c.before.before.before.before.before.args.s.now t.0.0 t.0.1.0.at (number-said c.before.before.before.read-tag.result c.before.before.before.read-tag.ensures t.1))
+    (omega arith, refl, words_tagged c.before.before.before.before.before.args.s.now t.0.0 t.0.1.0.at (number_said c.before.before.before.read-tag.result c.before.before.before.read-tag.ensures t.1))
 
 returns-2 : tie.Need-returns-2 invariant-loop decreases-loop
 returns-2 c = let l = c.before.before.before.loop in
@@ -30,13 +30,13 @@ returns-2 c = let l = c.before.before.before.loop in
 returns-3 : tie.Need-returns-3 invariant-loop decreases-loop
 returns-3 c = let l = c.before.before.before.before.before.before.before.loop in
     c.out-of-form3.ensures ∙ left-gap c.before.before.before.before.before.before.before.before.before.before.before.before.before.args.s.now l.values c.before.before.before.before.before.before.before.before.before.tag.given.0.0 l.form l.k l.at c.before.before.before.before.before.before.loop-test.true (below_most l.k l.invariant.0 c.before.before.before.before.before.if1.false)
-    (passed-unsaid c.before.before.before.pass.result c.before.before.before.pass.ensures c.before.enum-told2.given.1) ∙ l.invariant.2
+    (passed_unsaid c.before.before.before.pass.result c.before.before.before.pass.ensures c.before.enum-told2.given.1) ∙ l.invariant.2
 
 returns-4 : tie.Need-returns-4 invariant-loop decreases-loop
 returns-4 c = let l = c.before.before.before.before.before.before.before.before.before.before.before.loop in
     c.out-of-form4.ensures ∙ left-bad c.before.before.before.before.before.before.before.before.before.before.before.before.before.before.before.before.before.args.s.now l.values c.before.before.before.before.before.before.before.before.before.before.before.before.before.tag.given.0.0 l.form l.k l.at c.before.before.before.before.before.before.before.before.before.before.loop-test.true (below_most l.k l.invariant.0 c.before.before.before.before.before.before.before.before.before.if1.false)
-    (passed-said c.before.before.before.before.before.before.before.pass.result c.before.before.before.before.before.before.before.pass.ensures c.before.before.before.before.before.c.given.1)
-    (word-unsaid c.before.before.before.read_word.result c.before.before.before.read_word.ensures.0 c.before.enum-told3.given.1) ∙ l.invariant.2
+    (passed_said c.before.before.before.before.before.before.before.pass.result c.before.before.before.before.before.before.before.pass.ensures c.before.before.before.before.before.c.given.1)
+    (word_unsaid c.before.before.before.read_word.result c.before.before.before.read_word.ensures.0 c.before.enum-told3.given.1) ∙ l.invariant.2
 
 form-with-requires : tie.Need-form-with-requires invariant-loop decreases-loop
 form-with-requires c κs = let w = c.before.before.before.read_word in word_kind w.result w.ensures.1 c.before.kind.given.1
@@ -69,10 +69,10 @@ loop-again c =
       omega arith,
       rw stored.set_at.ensures (simp length-set l.invariant.1),
       rw (more.form-with.ensures, stored.set_at.ensures)
-          (left-turn tag.before.before.before.before.args.s.now l.values tag.tag.given.0.0 l.form l.k l.at test.before.loop-test.true h
+          (left_turn tag.before.before.before.before.args.s.now l.values tag.tag.given.0.0 l.form l.k l.at test.before.loop-test.true h
           (record { kind = w.0.0; value = w.0.1.0 }) w.0.1.1.0.at
-          (passed-said passed.pass.result passed.pass.ensures gap.c.given.1)
-          (word-said word.read_word.result word.read_word.ensures.0 w.1) ∙ l.invariant.2),
+          (passed_said passed.pass.result passed.pass.ensures gap.c.given.1)
+          (word_said word.read_word.result word.read_word.ensures.0 w.1) ∙ l.invariant.2),
     )
 
 returns-5 : tie.Need-returns-5 invariant-loop decreases-loop

@@ -1,6 +1,6 @@
 use native.Mathlib.Omega.{arith}
 use borrow.Author.Rules.{rules}
-use Rattle.conversion.proofs.Accepted.{frame_no, number-real, number_small, starts}
+use Rattle.conversion.proofs.Accepted.{frame_no, number_real, number_small, starts}
 use Rattle.conversion.proofs.check.frame.Statement.{statement}
 use Rattle.conversion.proofs.check.frame.Tie as tie
 
@@ -26,7 +26,7 @@ returns-7 : tie.Need-returns-7
 returns-7 c =
     let t = c.before.before.before.before.before.before.before.before.before.args.table in
     let first = c.before.first-day in
-    let real = number-real t.year t.month t.day first.result first.ensures (omega arith) in
+    let real = number_real t.year t.month t.day first.result first.ensures (omega arith) in
     record {
       bad = λ z f. omega arith;
       good = λ z. record {

@@ -4,7 +4,7 @@ use Rattle.paper.specs.declared.Refusal.TheVariants.{NoSuchDate}
 use Rattle.paper.proofs.Answers.{said, given_on}
 use Rattle.gregorian.specs.Answers.{number_says}
 use Rattle.conversion.proofs.Accepted.{facts}
-use Rattle.conversion.proofs.Ad.{served, number-ad, refused_ad, number-numbered}
+use Rattle.conversion.proofs.Ad.{served, number_ad, refused_ad, number_numbered}
 use Rattle.conversion.proofs.known.bs_to_ad.Statement.{statement}
 use Rattle.conversion.proofs.known.bs_to_ad.Tie as tie
 
@@ -23,7 +23,7 @@ returns-3 : tie.Need-returns-3
 returns-3 c g =
     let n = sym (said number_says c.before.before.number2.given.1 (c.before.before.before.before.number_of.ensures g)) in
     let s = served _ _ g in
-    c.from-day-number.ensures ∙ given_on _ NoSuchDate _ (number-numbered _ s _ _ _ _ n) ∙ sym (number-ad _ s _ _ _ _ n)
+    c.from-day-number.ensures ∙ given_on _ NoSuchDate _ (number_numbered _ s _ _ _ _ n) ∙ sym (number_ad _ s _ _ _ _ n)
 
 pub bs-to-ad-spec : {M : Type 1} → statement M
 bs-to-ad-spec =

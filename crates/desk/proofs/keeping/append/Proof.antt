@@ -4,7 +4,7 @@ use native.Mathlib.Omega.{arith}
 use lib.Seq.{length-take-le}
 use Rattle.text.proofs.Writes.{wrote_front}
 use Rattle.lending.proofs.Loans.{line_few}
-use Rattle.desk.proofs.Answered.{says-done}
+use Rattle.desk.proofs.Answered.{says_done}
 use borrow.Author.Rules.{rules}
 use Rattle.desk.proofs.keeping.append.Statement.{statement}
 use Rattle.desk.proofs.keeping.append.Tie as tie
@@ -18,7 +18,7 @@ returns c = λ ready.
     let a = numbers.before.before.before.args in
     let row = (wrote_front numbers.put-numbers.ensures (omega (arith, line_few a.w))).1 in
     let put = c.before.before.put-done.ensures in
-    says-done (rw row at (c.before.before.before.append-row.ensures ready)) put.1 put.0
+    says_done (rw row at (c.before.before.before.append-row.ensures ready)) put.1 put.0
 
 pub append-spec : {M : Type 1} → statement M
 append-spec =

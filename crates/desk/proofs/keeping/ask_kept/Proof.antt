@@ -1,7 +1,7 @@
 -- Each question is its arm's. Assumes nothing.
 use mathlib.Core.Path.{refl}
 use Rattle.desk.specs.Keeping.{asked_of}
-use Rattle.desk.proofs.Answered.{says-kept, says-done}
+use Rattle.desk.proofs.Answered.{says_kept, says_done}
 use borrow.Author.Rules.{rules}
 use Rattle.desk.proofs.keeping.ask_kept.Statement.{statement}
 use Rattle.desk.proofs.keeping.ask_kept.Tie as tie
@@ -10,7 +10,7 @@ returns : tie.Need-returns
 unfolding asked_of
 returns c = λ ready.
     let put = c.before.before.put-done.ensures in
-    rw c.before.before.before.before.before.enum_told.given.1 (says-done (c.before.before.before.take-rules.ensures ready) put.1 put.0)
+    rw c.before.before.before.before.before.enum_told.given.1 (says_done (c.before.before.before.take-rules.ensures ready) put.1 put.0)
 
 returns-2 : tie.Need-returns-2
 unfolding asked_of
@@ -30,13 +30,13 @@ returns-5 c = rw c.before.before.before.before.enum-told5.given.1 c.before.befor
 
 returns-6 : tie.Need-returns-6
 unfolding asked_of
-returns-6 c = λ ready. rw c.before.before.before.before.before.enum-told6.given.1 (says-kept refl (c.before.before.before.before.forget.ensures ready) c.before.before.put.ensures)
+returns-6 c = λ ready. rw c.before.before.before.before.before.enum-told6.given.1 (says_kept refl (c.before.before.before.before.forget.ensures ready) c.before.before.put.ensures)
 
 returns-7 : tie.Need-returns-7
 unfolding asked_of
 returns-7 c = λ ready.
     rw c.before.before.before.before.before.enum-told7.given.1
-    (says-kept refl (record { state = refl; ready = ready }) (rw c.before.before.before.stored.ensures at c.before.before.put-stored.ensures))
+    (says_kept refl (record { state = refl; ready = ready }) (rw c.before.before.before.stored.ensures at c.before.before.put-stored.ensures))
 
 pub ask-kept-spec : {M : Type 1} → statement M
 ask-kept-spec =

@@ -1,6 +1,6 @@
 -- The month, both buffers and the state as they were given. Assumes nothing.
 use mathlib.Core.Path.{refl}
-use Rattle.desk.proofs.Answered.{says-kept}
+use Rattle.desk.proofs.Answered.{says_kept}
 use borrow.Author.Rules.{rules}
 use Rattle.desk.proofs.keeping.put_month.Statement.{statement}
 use Rattle.desk.proofs.keeping.put_month.Tie as tie
@@ -11,7 +11,7 @@ returns c = λ ready.
     let month = asked.ask-month.ensures ready in
     let words = asked.before.before.before in
     rw (← words.before.before.date-of.ensures, ← words.before.small.ensures, ← words.small2.ensures)
-    (says-kept refl month.holds (rw (month.answer, month.first, month.second) at c.before.before.put-shown.ensures))
+    (says_kept refl month.holds (rw (month.answer, month.first, month.second) at c.before.before.put-shown.ensures))
 
 pub put-month-spec : {M : Type 1} → statement M
 put-month-spec =

@@ -1,12 +1,12 @@
 -- `doubtful::years::put_year` meets its contract. Assumes nothing.
-use Rattle.doubtful.proofs.Sheets.{year-none, places_opened, year-whole}
+use Rattle.doubtful.proofs.Sheets.{year_none, places_opened, year_whole}
 use Rattle.festivals.proofs.Moons.{moons_front}
 use borrow.Author.Rules.{rules}
 use Rattle.doubtful.proofs.years.put_year.Statement.{statement}
 use Rattle.doubtful.proofs.years.put_year.Tie as tie
 
 returns : tie.Need-returns
-returns c = year-none _ _ _ _ _ c.before.before.before.before.before.before.before.args.p c.before.before.year-days.result c.before.before.year-days.ensures c.enum_told.given.1
+returns c = year_none _ _ _ _ _ c.before.before.before.before.before.before.before.args.p c.before.before.year-days.result c.before.before.year-days.ensures c.enum_told.given.1
 
 months-of-requires : tie.Need-months-of-requires
 months-of-requires c κs =
@@ -35,7 +35,7 @@ returns-2 c =
     let g = d.first.given.1 in
     let f = (moons_front _ _ _ _ _ w.new-moons.ensures.0 w.new-moons.ensures.1 (search rules)).1 in
     let h = places_opened _ _ e g f m.months-of.result m.months-of.ensures in
-    year-whole _ _ _ _ _ y.before.before.before.before.before.args.p y.year-days.result e g f m.months-of.result h c.before.before.before.before.before.before.before.before.before.unheaded.ensures _ _ c.before.before.before.before.before.before.put-moons.ensures c.before.before.put-unopened-months.ensures
+    year_whole _ _ _ _ _ y.before.before.before.before.before.args.p y.year-days.result e g f m.months-of.result h c.before.before.before.before.before.before.before.before.before.unheaded.ensures _ _ c.before.before.before.before.before.before.put-moons.ensures c.before.before.put-unopened-months.ensures
 
 pub put-year-spec : {M : Type 1} → statement M
 put-year-spec =

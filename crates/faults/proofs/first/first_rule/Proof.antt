@@ -3,7 +3,7 @@ use Rattle.std.proofs.Common.{◌≡◌, ◌-◌, ◌≤◌, ◌∙◌, arith, r
 use native.Mathlib.Nat.{sub-zero}
 use Rattle.rules.specs.Rules.{rules_from}
 use Rattle.faults.specs.Faults.{first_from}
-use Rattle.faults.proofs.Turns.{first-over, first-here, first_turn}
+use Rattle.faults.proofs.Turns.{first_over, first-here, first_turn}
 use borrow.Author.Tests.{not-true, not-false}
 use Rattle.faults.proofs.first.first_rule.Statement.{statement}
 use Rattle.faults.proofs.first.first_rule.Tie as tie
@@ -24,7 +24,7 @@ loop-again : tie.Need-loop-preserved invariant-loop decreases-loop
 loop-again c = (omega arith, first_turn c.before.before.before.before.before.before.before.args.rules.now _ c.before.before.before.before.before.loop.i c.before.before.before.before.loop-test.true c.before.before.before.rule-at.ensures c.before.before.first_field.ensures c.before.is-nothing.ensures (not-false _ c.if1.false) ∙ c.before.before.before.before.before.loop.invariant.1)
 
 returns-2 : tie.Need-returns-2 invariant-loop decreases-loop
-returns-2 c = first-over c.before.before.before.args.rules.now _ c.before.loop.i c.loop-test.false ∙ c.before.loop.invariant.1
+returns-2 c = first_over c.before.before.before.args.rules.now _ c.before.loop.i c.loop-test.false ∙ c.before.loop.invariant.1
 
 pub first-rule-spec : {M : Type 1} → statement M
 first-rule-spec =

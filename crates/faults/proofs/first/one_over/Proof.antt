@@ -3,7 +3,7 @@ use Rattle.std.proofs.Common.{◌≡◌, ◌-◌, ◌≤◌, ◌∙◌, arith, r
 use native.Mathlib.Nat.{sub-zero}
 use Rattle.rules.specs.Rules.{rules_from}
 use Rattle.faults.specs.Faults.{over_from}
-use Rattle.faults.proofs.Turns.{above_zero, over-over, over_skip, over-here, over-turn}
+use Rattle.faults.proofs.Turns.{above_zero, over_over, over_skip, over-here, over-turn}
 use Rattle.faults.proofs.first.one_over.Statement.{statement}
 use Rattle.faults.proofs.first.one_over.Tie as tie
 
@@ -29,7 +29,7 @@ loop-again-2 : tie.Need-loop-preserved-2 invariant-loop decreases-loop
 loop-again-2 c = (omega arith, over-turn c.before.before.before.before.before.before.before.args.rules.now _ c.before.before.before.before.before.loop.i c.before.before.before.before.loop-test.true c.before.before.before.rule-at.ensures c.before.before.before.before.before.before.before.args.kind c.before.before.before.before.before.loop.left c.before.if1.false c.if2.false ∙ c.before.before.before.before.before.loop.invariant.1)
 
 returns-2 : tie.Need-returns-2 invariant-loop decreases-loop
-returns-2 c = over-over c.before.before.before.args.rules.now _ c.before.before.before.args.kind c.before.loop.left c.before.loop.i c.loop-test.false ∙ c.before.loop.invariant.1
+returns-2 c = over_over c.before.before.before.args.rules.now _ c.before.before.before.args.kind c.before.loop.left c.before.loop.i c.loop-test.false ∙ c.before.loop.invariant.1
 
 pub one-over-spec : {M : Type 1} → statement M
 one-over-spec =

@@ -1,7 +1,7 @@
 -- `faults::lines::key_reason` meets its contract. Assumes nothing.
 use Rattle.std.proofs.Common.{sym, refl, length-take-le, rules}
-use Rattle.text.proofs.Said.{passed-said, passed-unsaid}
-use Rattle.faults.proofs.Reasons.{key-front, key-other, key-number}
+use Rattle.text.proofs.Said.{passed_said, passed_unsaid}
+use Rattle.faults.proofs.Reasons.{key_front, key_other, key_number}
 use Rattle.faults.proofs.lines.key_reason.Statement.{statement}
 use Rattle.faults.proofs.lines.key_reason.Tie as tie
 
@@ -11,12 +11,12 @@ slice-aggregate-pass c = sym (length-take-le c.before.before.put-key.result _ (s
 returns : tie.Need-returns
 returns c = let a = c.before.before.before.before.before.before.before.before.args in
     let p = c.before.before.pass in
-    key-other a.i a.s.now (key-front a.i refl c.before.before.before.before.before.put-key.ensures) (passed-unsaid p.result p.ensures c.enum_told.given.1)
+    key_other a.i a.s.now (key_front a.i refl c.before.before.before.before.before.put-key.ensures) (passed_unsaid p.result p.ensures c.enum_told.given.1)
 
 returns-2 : tie.Need-returns-2
 returns-2 c = let a = c.before.before.before.before.before.before.before.before.before.before.args in
     let p = c.before.before.before.before.pass in
-    key-number a.i a.s.now (key-front a.i refl c.before.before.before.before.before.before.before.put-key.ensures) (passed-said p.result p.ensures c.before.before.c.given.1) c.number-reason.ensures
+    key_number a.i a.s.now (key_front a.i refl c.before.before.before.before.before.before.before.put-key.ensures) (passed_said p.result p.ensures c.before.before.c.given.1) c.number-reason.ensures
 
 pub key-reason-spec : {M : Type 1} → statement M
 key-reason-spec =

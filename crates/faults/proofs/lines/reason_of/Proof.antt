@@ -1,11 +1,11 @@
 -- `faults::lines::reason_of` meets its contract. Assumes nothing.
 use Rattle.std.proofs.Common.{sym, ◌∙◌, rules}
-use Rattle.faults.proofs.Reasons.{line-none, line_marked, line-return, line-tab, line-space, line-key}
+use Rattle.faults.proofs.Reasons.{line_none, line_marked, line-return, line-tab, line-space, line-key}
 use Rattle.faults.proofs.lines.reason_of.Statement.{statement}
 use Rattle.faults.proofs.lines.reason_of.Tie as tie
 
 returns : tie.Need-returns
-returns c = let a = c.before.before.before.args in line-none a.i a.s.now (sym c.before.at-end.ensures ∙ c.if1.true)
+returns c = let a = c.before.before.before.args in line_none a.i a.s.now (sym c.before.at-end.ensures ∙ c.if1.true)
 
 returns-2 : tie.Need-returns-2
 returns-2 c = let a = c.before.before.before.before.before.args in

@@ -5,7 +5,7 @@ use borrow.Author.Rules.{rules}
 use Rattle.rules.specs.Days.{rank}
 use Rattle.festivals.specs.Kathmandu.{kala_number}
 use Rattle.festivals.specs.Answers.{day_is}
-use Rattle.festivals.proofs.Asked.{asked-claimed, asked-last, asked-anew}
+use Rattle.festivals.proofs.Asked.{asked_claimed, asked_last, asked_anew}
 use borrow.Fn.Kinds.{In}
 use borrow.Fn.PlainCycle.{Measures, is, falls, and}
 use Rattle.festivals.proofs.days.festival_day.Reads as festival-day
@@ -92,7 +92,7 @@ festival-day-returns : (t : ℕ) → festival-day-lts.Need-returns (
 ) (festival-day-at t) festival-day.Post
 festival-day-returns t c =
     let p = c.before.before.before in
-    asked-claimed _ _ _ _ _ _ _ (sym (ap day_is c.before.claim.given.1) ∙ p.first-claim.ensures)
+    asked_claimed _ _ _ _ _ _ _ (sym (ap day_is c.before.claim.given.1) ∙ p.first-claim.ensures)
 
 festival-day-returns-2 : (t : ℕ) → festival-day-lts.Need-returns-2 (
   first-claim-reads.Asked,
@@ -105,7 +105,7 @@ festival-day-returns-2 : (t : ℕ) → festival-day-lts.Need-returns-2 (
 festival-day-returns-2 t c =
     let r = c.before in
     let p = r.before.before.before in
-    asked-last _ _ _ _ _ (sym (ap day_is r.before.enum_told.given.1) ∙ p.first-claim.ensures) (sym r.rank-of.ensures ∙ c.if1.true)
+    asked_last _ _ _ _ _ (sym (ap day_is r.before.enum_told.given.1) ∙ p.first-claim.ensures) (sym r.rank-of.ensures ∙ c.if1.true)
 
 festival-day-returns-3 : (t : ℕ) → festival-day-lts.Need-returns-3 (
   first-claim-reads.Asked,
@@ -119,7 +119,7 @@ festival-day-returns-3 t c =
     let r = c.before.before in
     let p = r.before.before.before in
     c.festival-day.ensures
-    ∙ asked-anew _ _ _ _ _ (sym (ap day_is r.before.enum_told.given.1) ∙ p.first-claim.ensures) (λ e. c.before.if1.false (r.rank-of.ensures ∙ e))
+    ∙ asked_anew _ _ _ _ _ (sym (ap day_is r.before.enum_told.given.1) ∙ p.first-claim.ensures) (λ e. c.before.if1.false (r.rank-of.ensures ∙ e))
 
 pub +festival-day-spec : {M : Type 1} → statement M
 +festival-day-spec = close μ-festival-day λ t. festival-day-lts.spec (

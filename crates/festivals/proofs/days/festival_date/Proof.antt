@@ -7,14 +7,14 @@ use Rattle.sky.specs.Answers.{first_says}
 use Rattle.festivals.specs.Answers.{day_is}
 use Rattle.festivals.proofs.Kalas.{begins_named, asked_named}
 use Rattle.festivals.proofs.Nepal.{nepal_range}
-use Rattle.festivals.proofs.Dates.{date-none, date-begins, date-endless, date-asked}
+use Rattle.festivals.proofs.Dates.{date_none, date-begins, date-endless, date-asked}
 use Rattle.festivals.proofs.days.festival_date.Statement.{statement}
 use Rattle.festivals.proofs.days.festival_date.Tie as tie
 
 returns : tie.Need-returns
 returns c =
     let d = c.before.before in
-    date-none _ _ _ _ (sym (ap day_is c.enum_told.given.1) ∙ d.nepal-day.ensures)
+    date_none _ _ _ _ (sym (ap day_is c.enum_told.given.1) ∙ d.nepal-day.ensures)
 
 returns-2 : tie.Need-returns-2
 returns-2 c =

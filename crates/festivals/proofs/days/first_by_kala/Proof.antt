@@ -3,7 +3,7 @@ use borrow.Author.Rules.{rules}
 use mathlib.Core.Path.{◌≡◌, ◌∙◌}
 use native.Mathlib.Omega.{arith}
 use Rattle.festivals.specs.Kathmandu.{kala_number, kathmandu}
-use Rattle.festivals.proofs.Claims.{Left, kala-claims, from-hit, from-miss, from_none, claimed_is}
+use Rattle.festivals.proofs.Claims.{Left, kala_claims, from_hit, from_miss, from_none, claimed_is}
 use Rattle.festivals.proofs.Kalas.{kala_on}
 use Rattle.festivals.proofs.days.first_by_kala.Statement.{statement}
 use Rattle.festivals.proofs.days.first_by_kala.Tie as tie
@@ -25,8 +25,8 @@ returns c =
     let l = e.before.before in
     let o = l.before in
     let a = o.args in
-    from-hit _ l.loop.n l.loop.left _ l.loop.invariant.1 e.before.loop-test.true _
-    (k.covers-kala.ensures ∙ kala-claims _ _ _ a.kala _ _ o.requires.0 (kala_on a.kala _ _ e.sun-on.ensures)) c.if1.true
+    from_hit _ l.loop.n l.loop.left _ l.loop.invariant.1 e.before.loop-test.true _
+    (k.covers-kala.ensures ∙ kala_claims _ _ _ a.kala _ _ o.requires.0 (kala_on a.kala _ _ e.sun-on.ensures)) c.if1.true
 
 loop-again : tie.Need-loop-preserved invariant-loop decreases-loop
 loop-again c =
@@ -36,8 +36,8 @@ loop-again c =
     let o = l.before in
     let a = o.args in (
       omega arith,
-      from-miss _ l.loop.n l.loop.left _ l.loop.invariant.1 e.before.loop-test.true _
-          (k.covers-kala.ensures ∙ kala-claims _ _ _ a.kala _ _ o.requires.0 (kala_on a.kala _ _ e.sun-on.ensures)) c.if1.false,
+      from_miss _ l.loop.n l.loop.left _ l.loop.invariant.1 e.before.loop-test.true _
+          (k.covers-kala.ensures ∙ kala_claims _ _ _ a.kala _ _ o.requires.0 (kala_on a.kala _ _ e.sun-on.ensures)) c.if1.false,
     )
 
 returns-2 : tie.Need-returns-2 invariant-loop decreases-loop

@@ -6,7 +6,7 @@ use native.Mathlib.Omega.{arith}
 use Rattle.panchanga.specs.Answers.{span_is}
 use Rattle.rules.specs.Days.{nishita}
 use Rattle.festivals.specs.Kathmandu.{sun_on, kathmandu}
-use Rattle.festivals.proofs.Claims.{Left, night-claims, from-hit, from-miss, from_none, claimed_is}
+use Rattle.festivals.proofs.Claims.{Left, night_claims, from_hit, from_miss, from_none, claimed_is}
 use Rattle.festivals.proofs.Kalas.{night_on}
 use Rattle.festivals.proofs.days.first_by_night.Statement.{statement}
 use Rattle.festivals.proofs.days.first_by_night.Tie as tie
@@ -27,8 +27,8 @@ returns c =
     let b = k.before in
     let e = b.before in
     let l = e.before.before in
-    from-hit _ l.loop.n l.loop.left _ l.loop.invariant.1.1 e.before.loop-test.true _
-    (k.covers-night.ensures ∙ night-claims _ _ _ _ _ (night_on _ _ _ _ l.loop.invariant.0 e.sun-on2.ensures b.nishita-between.ensures)) c.if1.true
+    from_hit _ l.loop.n l.loop.left _ l.loop.invariant.1.1 e.before.loop-test.true _
+    (k.covers-night.ensures ∙ night_claims _ _ _ _ _ (night_on _ _ _ _ l.loop.invariant.0 e.sun-on2.ensures b.nishita-between.ensures)) c.if1.true
 
 loop-again : tie.Need-loop-preserved invariant-loop decreases-loop
 loop-again c =
@@ -37,8 +37,8 @@ loop-again c =
     let e = b.before in
     let l = e.before.before in
     let missed =
-    from-miss _ l.loop.n l.loop.left _ l.loop.invariant.1.1 e.before.loop-test.true _
-    (k.covers-night.ensures ∙ night-claims _ _ _ _ _ (night_on _ _ _ _ l.loop.invariant.0 e.sun-on2.ensures b.nishita-between.ensures)) c.if1.false in
+    from_miss _ l.loop.n l.loop.left _ l.loop.invariant.1.1 e.before.loop-test.true _
+    (k.covers-night.ensures ∙ night_claims _ _ _ _ _ (night_on _ _ _ _ l.loop.invariant.0 e.sun-on2.ensures b.nishita-between.ensures)) c.if1.false in
     (e.sun-on2.ensures, (omega arith, missed))
 
 returns-2 : tie.Need-returns-2 invariant-loop decreases-loop

@@ -11,8 +11,8 @@ use Rattle.conversion.specs.Calendar.{from_day}
 use Rattle.conversion.specs.Flat.{flat}
 use Rattle.festivals.specs.Kathmandu.{kathmandu}
 use Rattle.festivals.specs.Answers.{day_is}
-use Rattle.festivals.proofs.Placed.{inside, not-inside, month_of_law}
-use Rattle.festivals.proofs.Moons.{put, Stands, stands-turn, place-nothing, place-outside, place_other, place_in, placed-none, placed_first, none_yet}
+use Rattle.festivals.proofs.Placed.{inside, not_inside, month_of_law}
+use Rattle.festivals.proofs.Moons.{put, Stands, stands_turn, place-nothing, place-outside, place_other, place_in, placed_none, placed_first, none_yet}
 use Rattle.festivals.proofs.months.months_of.Statement.{statement}
 use Rattle.festivals.proofs.months.months_of.Tie as tie
 
@@ -32,7 +32,7 @@ fits d = let o = d.before.before.before.before.before in omega (arith, o.require
 loop-again : tie.Need-loop-preserved invariant-loop decreases-loop
 loop-again c =
     let d = c.before.before in
-    stands-turn _ _ _ _ _ _ _ _ _ d.before.before.loop-test.true (fits d) (place-nothing _ _ _ _ _ (sym (ap day_is c.enum_told.given.1) ∙ d.nepal-day.ensures)) d.before.before.before.loop.invariant
+    stands_turn _ _ _ _ _ _ _ _ _ d.before.before.loop-test.true (fits d) (place-nothing _ _ _ _ _ (sym (ap day_is c.enum_told.given.1) ∙ d.nepal-day.ensures)) d.before.before.before.loop.invariant
 
 loop-again-2 : tie.Need-loop-preserved-2 invariant-loop decreases-loop
 loop-again-2 c =
@@ -40,8 +40,8 @@ loop-again-2 c =
     let n = p.before.before in
     let d = n.before.before in
     let o = d.before.before.before.before.before in
-    let r = not-inside _ o.requires.0 _ p.place.result p.place.ensures c.match2.keys2 in
-    stands-turn _ _ _ _ _ _ _ _ _ d.before.before.loop-test.true (fits d) (place-outside _ _ _ _ _ _ (sym (ap day_is n.k.given.1) ∙ d.nepal-day.ensures) r.0 r.1) d.before.before.before.loop.invariant
+    let r = not_inside _ o.requires.0 _ p.place.result p.place.ensures c.match2.keys2 in
+    stands_turn _ _ _ _ _ _ _ _ _ d.before.before.loop-test.true (fits d) (place-outside _ _ _ _ _ _ (sym (ap day_is n.k.given.1) ∙ d.nepal-day.ensures) r.0 r.1) d.before.before.before.loop.invariant
 
 -- the date of a new moon inside the table
 dated-in : (t : tie.After-date invariant-loop decreases-loop) →
@@ -58,7 +58,7 @@ loop-again-3 c =
     let t = c.before.before.before in
     let n = t.before.before.before.before in
     let d = n.before.before in
-    stands-turn _ _ _ _ _ _ _ _ _ d.before.before.loop-test.true (fits d) (place_other _ _ _ _ _ _ (sym (ap day_is n.k.given.1) ∙ d.nepal-day.ensures) _ (dated-in t) c.if1.true) d.before.before.before.loop.invariant
+    stands_turn _ _ _ _ _ _ _ _ _ d.before.before.loop-test.true (fits d) (place_other _ _ _ _ _ _ (sym (ap day_is n.k.given.1) ∙ d.nepal-day.ensures) _ (dated-in t) c.if1.true) d.before.before.before.loop.invariant
 
 sub-j : tie.Need-overflow-sub-j invariant-loop decreases-loop
 sub-j c = omega (arith, month_of_law _ _ _ (dated-in c.before.before.before.before))
@@ -75,7 +75,7 @@ loop-again-4 c =
     let t = c.before.before.before.before in
     let n = t.before.before.before.before in
     let d = n.before.before in
-    stands-turn _ _ _ _ _ _ _ _ _ d.before.before.loop-test.true (fits d) (place_in _ _ _ _ _ _ (sym (ap day_is n.k.given.1) ∙ d.nepal-day.ensures) _ (dated-in t) c.before.if1.false) d.before.before.before.loop.invariant
+    stands_turn _ _ _ _ _ _ _ _ _ d.before.before.loop-test.true (fits d) (place_in _ _ _ _ _ _ (sym (ap day_is n.k.given.1) ∙ d.nepal-day.ensures) _ (dated-in t) c.before.if1.false) d.before.before.before.loop.invariant
 
 returns : tie.Need-returns invariant-loop decreases-loop
 unfolding near of_bits
@@ -84,7 +84,7 @@ returns c =
     let a = l.before.before.args in
     let k = flat a.table a.rows.now in
     let e : l.loop.i ≡ a.n = omega arith in
-    sym (placed-none _ k a.year a.found.now a.n l.loop.m) ∙ (rw e at l.loop.invariant.1) ∙ placed_first _ k a.year _ _ none_yet
+    sym (placed_none _ k a.year a.found.now a.n l.loop.m) ∙ (rw e at l.loop.invariant.1) ∙ placed_first _ k a.year _ _ none_yet
 
 pub months-of-spec : {M : Type 1} → statement M
 months-of-spec =

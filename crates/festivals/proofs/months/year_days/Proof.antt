@@ -4,7 +4,7 @@ use mathlib.Core.Path.{sym}
 use Rattle.paper.proofs.Answers.{said}
 use Rattle.gregorian.specs.Answers.{number_says}
 use Rattle.conversion.specs.Answers.{days_says}
-use Rattle.festivals.proofs.TableYears.{no-first, no_length, no_last, both-days}
+use Rattle.festivals.proofs.TableYears.{no_first, no_length, no_last, both_days}
 use Rattle.festivals.proofs.months.year_days.Statement.{statement}
 use Rattle.festivals.proofs.months.year_days.Tie as tie
 
@@ -12,7 +12,7 @@ returns : tie.Need-returns
 returns c =
     let d = c.before.before in
     let o = d.before.before in
-    no-first o.args.table o.args.rows.now o.requires o.args.year _ (sym (said number_says c.enum_told.given.1 d.day-of.ensures))
+    no_first o.args.table o.args.rows.now o.requires o.args.year _ (sym (said number_says c.enum_told.given.1 d.day-of.ensures))
 
 returns-2 : tie.Need-returns-2
 returns-2 c =
@@ -37,7 +37,7 @@ returns-4 c =
     let a = m.before.before in
     let d = a.before.before in
     let o = d.before.before in
-    both-days o.args.table o.args.rows.now o.requires o.args.year _ _ _
+    both_days o.args.table o.args.rows.now o.requires o.args.year _ _ _
     (sym (said number_says a.a.given.1 d.day-of.ensures)) (sym (said days_says n.len.given.1 m.month-days.ensures)) (sym (said number_says b.b.given.1 f.day-of2.ensures))
 
 pub year-days-spec : {M : Type 1} → statement M

@@ -6,13 +6,13 @@ use mathlib.Core.List.{List}
 use native.Mathlib.Omega.{arith}
 use lib.ListN.{length}
 use Rattle.conversion.specs.Flat.{flat}
-use Rattle.rules.specs.Festivals.{ruleDay, entry}
+use Rattle.rules.specs.Festivals.{rule_day, entry}
 use Rattle.rules.specs.Resolved.{put_entry}
 use Rattle.rules.proofs.Accepted.{good_rules, good_rule}
 use Rattle.festivals.specs.Kathmandu.{kathmandu}
 use Rattle.festivals.specs.Answers.{day_is}
-use Rattle.festivals.proofs.Placed.{inside, not-inside}
-use Rattle.festivals.proofs.Entries.{Entered, rule_day_at, entry-nothing, entry-outside, entry_here, entered-first, entered-skip, entered-next, entered_all, place-left}
+use Rattle.festivals.proofs.Placed.{inside, not_inside}
+use Rattle.festivals.proofs.Entries.{Entered, rule_day_at, entry_nothing, entry_outside, entry_here, entered_first, entered-skip, entered-next, entered_all, place-left}
 use Rattle.festivals.proofs.years.resolve_year.Statement.{statement}
 use Rattle.festivals.proofs.years.resolve_year.Tie as tie
 
@@ -23,7 +23,7 @@ abbrev decreases-loop : tie.decreases-loop
 decreases-loop table rows rules year months out₀ n j₀ i₀ out j i = n - i
 
 loop-holds : tie.Need-loop-init invariant-loop decreases-loop
-loop-holds c = entered-first _ _ _ _ _
+loop-holds c = entered_first _ _ _ _ _
 
 loop-again : tie.Need-loop-preserved invariant-loop decreases-loop
 loop-again c =
@@ -53,7 +53,7 @@ rule-day-requires c κs =
 met-day : (d : tie.After-rule-day invariant-loop decreases-loop) →
     let g = d.before.before.before in
     let a = g.before.before.before.before.before.before.args in
-    ruleDay kathmandu (flat a.table a.rows.now) a.year g.rule-at.result ≡ day_is d.rule-day.result
+    rule_day kathmandu (flat a.table a.rows.now) a.year g.rule-at.result ≡ day_is d.rule-day.result
 met-day d =
     let f = d.before in
     let g = f.before.before in
@@ -79,7 +79,7 @@ turned d days e =
 loop-again-2 : tie.Need-loop-preserved-2 invariant-loop decreases-loop
 loop-again-2 c =
     let d = c.before.before in
-    turned d _ (entry-nothing _ _ _ _ _ _ (met-day d ∙ ap day_is c.enum_told.given.1))
+    turned d _ (entry_nothing _ _ _ _ _ _ (met-day d ∙ ap day_is c.enum_told.given.1))
 
 loop-again-3 : tie.Need-loop-preserved-3 invariant-loop decreases-loop
 loop-again-3 c =
@@ -87,8 +87,8 @@ loop-again-3 c =
     let q = p.before.before in
     let d = q.before.before in
     let o = d.before.before.before.before.before.before.before.before.before in
-    let r = not-inside _ o.requires.0 _ p.place.result p.place.ensures c.match2.keys2 in
-    turned d _ (entry-outside _ _ _ _ _ _ _ r.0 (met-day d ∙ ap day_is q.k.given.1) r.1)
+    let r = not_inside _ o.requires.0 _ p.place.result p.place.ensures c.match2.keys2 in
+    turned d _ (entry_outside _ _ _ _ _ _ _ r.0 (met-day d ∙ ap day_is q.k.given.1) r.1)
 
 mul-out : tie.Need-overflow-mul-out invariant-loop decreases-loop
 mul-out c = omega (arith, room c.before.before.before.before.before.before.before)

@@ -6,7 +6,7 @@ use Prim.Native.Nat.{◌-◌}
 use native.Mathlib.Omega.{arith}
 use Rattle.sky.specs.Answers.{first_says}
 use Rattle.rules.proofs.Accepted.{computed_of}
-use Rattle.festivals.proofs.Entries.{day-moonless, day-unstarted, day-started}
+use Rattle.festivals.proofs.Entries.{day_moonless, day-unstarted, day-started}
 use Rattle.festivals.proofs.years.rule_day.Statement.{statement}
 use Rattle.festivals.proofs.years.rule_day.Tie as tie
 
@@ -19,7 +19,7 @@ element-copy-out-if1 c = let o = c.before in omega (arith, computed_of o.args.r 
 returns : tie.Need-returns
 returns c =
     let a = c.before.before.before.args in
-    day-moonless _ a.r a.t1 (a.r.month - 1) (not-true _ c.if1.true)
+    day_moonless _ a.r a.t1 (a.r.month - 1) (not-true _ c.if1.true)
 
 element-copy-out-t16 : tie.Need-element-copy-out-t16
 element-copy-out-t16 c = let o = c.before.before.before in omega (arith, computed_of o.args.r o.requires.0 o.requires.1)

@@ -4,7 +4,7 @@ use Prim.Native.Nat.{◌-◌, ◌≤◌}
 use mathlib.Core.Path.{◌≡◌, refl, ◌∙◌}
 use lib.ListN.{length, drop}
 use Rattle.fields.specs.Line.{comment}
-use Rattle.fields.proofs.Said.{comment-over, comment-here, comment-turn}
+use Rattle.fields.proofs.Said.{comment_over, comment-here, comment-turn}
 use Rattle.fields.proofs.comments.comment_at.Statement.{statement}
 use Rattle.fields.proofs.comments.comment_at.Tie as tie
 
@@ -42,7 +42,7 @@ loop-again c = let l = c.before.before.before.loop in
     (omega arith, comment-turn c.before.before.before.before.before.args.s.now l.i c.before.before.loop-test.true c.if1.false ∙ l.invariant.1)
 
 returns-2 : tie.Need-returns-2 invariant-loop decreases-loop
-returns-2 c = let l = c.before.loop in (omega arith, comment-over c.before.before.before.args.s.now l.i c.loop-test.false ∙ l.invariant.1)
+returns-2 c = let l = c.before.loop in (omega arith, comment_over c.before.before.before.args.s.now l.i c.loop-test.false ∙ l.invariant.1)
 
 pub comment-at-spec : {M : Type 1} → statement M
 comment-at-spec =

@@ -1,11 +1,11 @@
 -- `fields::row::judge` meets its contract. Assumes nothing.
-use Rattle.fields.proofs.Rows.{judged-blank, judged-good, judged-other}
+use Rattle.fields.proofs.Rows.{judged_blank, judged-good, judged-other}
 use borrow.Author.Rules.{rules}
 use Rattle.fields.proofs.row.judge.Statement.{statement}
 use Rattle.fields.proofs.row.judge.Tie as tie
 
 returns : tie.Need-returns
-returns c = judged-blank c.before.before.before.before.args.wanted c.before.before.before.before.args.form c.before.before.form.given.1 c.if1.true
+returns c = judged_blank c.before.before.before.before.args.wanted c.before.before.before.before.args.form c.before.before.form.given.1 c.if1.true
 
 returns-2 : tie.Need-returns-2
 returns-2 c = let a = c.before.before.before.before.before.args in

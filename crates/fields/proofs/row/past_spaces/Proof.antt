@@ -4,7 +4,7 @@ use Prim.Native.Nat.{◌-◌, ◌≤◌}
 use mathlib.Core.Path.{◌≡◌, refl, ◌∙◌}
 use lib.ListN.{length, drop}
 use Rattle.fields.specs.Line.{skip}
-use Rattle.fields.proofs.Rows.{skip-over, skip_stop, skip-turn}
+use Rattle.fields.proofs.Rows.{skip_over, skip_stop, skip-turn}
 use Rattle.fields.proofs.row.past_spaces.Statement.{statement}
 use Rattle.fields.proofs.row.past_spaces.Tie as tie
 
@@ -35,7 +35,7 @@ loop-again c = let l = c.before.before.before.loop in
     (omega arith, skip-turn c.before.before.before.before.args.s.now l.i c.before.before.loop-test.true c.if1.false ∙ l.invariant.1)
 
 returns-2 : tie.Need-returns-2 invariant-loop decreases-loop
-returns-2 c = let l = c.before.loop in (omega arith, skip-over c.before.before.args.s.now l.i c.loop-test.false ∙ l.invariant.1)
+returns-2 c = let l = c.before.loop in (omega arith, skip_over c.before.before.args.s.now l.i c.loop-test.false ∙ l.invariant.1)
 
 pub past-spaces-spec : {M : Type 1} → statement M
 past-spaces-spec =

@@ -3,9 +3,9 @@ use native.Mathlib.Omega.{arith}
 use Prim.Native.Nat.{◌-◌, ◌≤◌}
 use mathlib.Core.Path.{◌≡◌, refl, sym, ◌∙◌}
 use lib.ListN.{length, length-set, drop}
-use Rattle.text.proofs.Said.{number-said, number-unsaid}
+use Rattle.text.proofs.Said.{number_said, number_unsaid}
 use Rattle.fields.specs.Line.{row_of}
-use Rattle.fields.proofs.Rows.{Left, left_first, left_over, left-full, left-bad, left-turn, number_small, below_thirteen}
+use Rattle.fields.proofs.Rows.{Left, left_first, left_over, left-full, left-bad, left_turn, number_small, below_thirteen}
 use borrow.Author.Tests.{not-true, not-false}
 use borrow.Author.Rules.{rules}
 use Rattle.fields.proofs.row.read_row.Statement.{statement}
@@ -29,11 +29,11 @@ returns c = let l = c.before.before.before.before.loop in
 
 returns-2 : tie.Need-returns-2 invariant-loop decreases-loop
 returns-2 c = let l = c.before.before.before.before.before.before.before.loop in
-    c.faulty2.ensures ∙ left-bad c.before.before.before.before.before.before.before.before.before.before.args.s.now l.values l.k l.at (sym c.before.before.before.before.before.before.ends.ensures ∙ not-true _ c.before.before.before.before.before.if1.true) (below_thirteen l.k l.invariant.0 c.before.before.before.before.if2.false) (number-unsaid c.before.before.before.read_number.result c.before.before.before.read_number.ensures c.before.enum_told.given.1) ∙ l.invariant.2
+    c.faulty2.ensures ∙ left-bad c.before.before.before.before.before.before.before.before.before.before.args.s.now l.values l.k l.at (sym c.before.before.before.before.before.before.ends.ensures ∙ not-true _ c.before.before.before.before.before.if1.true) (below_thirteen l.k l.invariant.0 c.before.before.before.before.if2.false) (number_unsaid c.before.before.before.read_number.result c.before.before.before.read_number.ensures c.before.enum_told.given.1) ∙ l.invariant.2
 
 cast-values : tie.Need-overflow-cast-values invariant-loop decreases-loop
 cast-values c = let l = c.before.before.before.before.before.before.before.loop in
-    omega (arith, number_small (drop l.at c.before.before.before.before.before.before.before.before.before.before.args.s.now) c.before.n.given.0.0 (drop c.before.n.given.0.1.0.at c.before.before.before.before.before.before.before.before.before.before.args.s.now) (number-said c.before.before.before.read_number.result c.before.before.before.read_number.ensures c.before.n.given.1))
+    omega (arith, number_small (drop l.at c.before.before.before.before.before.before.before.before.before.before.args.s.now) c.before.n.given.0.0 (drop c.before.n.given.0.1.0.at c.before.before.before.before.before.before.before.before.before.before.args.s.now) (number_said c.before.before.before.read_number.result c.before.before.before.read_number.ensures c.before.n.given.1))
 
 mul-values : tie.Need-overflow-mul-values invariant-loop decreases-loop
 mul-values c = let l = c.before.before.before.before.before.before.before.loop in omega (arith, below_thirteen l.k l.invariant.0 c.before.before.before.before.if2.false)
@@ -50,7 +50,7 @@ loop-less c = let l = c.before.before.before.before.before.before.before.loop in
 loop-again : tie.Need-loop-preserved invariant-loop decreases-loop
 loop-again c = let l = c.before.before.before.before.before.before.before.loop in
     let h = below_thirteen l.k l.invariant.0 c.before.before.before.before.if2.false in
-    (omega arith, simp length-set l.invariant.1, left-turn c.before.before.before.before.before.before.before.before.before.before.args.s.now l.values l.k l.at (sym c.before.before.before.before.before.before.ends.ensures ∙ not-true _ c.before.before.before.before.before.if1.true) h c.before.n.given.0.0 c.before.n.given.0.1.0.at (number-said c.before.before.before.read_number.result c.before.before.before.read_number.ensures c.before.n.given.1) ∙ l.invariant.2)
+    (omega arith, simp length-set l.invariant.1, left_turn c.before.before.before.before.before.before.before.before.before.before.args.s.now l.values l.k l.at (sym c.before.before.before.before.before.before.ends.ensures ∙ not-true _ c.before.before.before.before.before.if1.true) h c.before.n.given.0.0 c.before.n.given.0.1.0.at (number_said c.before.before.before.read_number.result c.before.before.before.read_number.ensures c.before.n.given.1) ∙ l.invariant.2)
 
 returns-3 : tie.Need-returns-3 invariant-loop decreases-loop
 returns-3 c = let l = c.before.before.loop in left_over c.before.before.before.before.before.args.s.now l.values l.k l.at (sym c.before.ends.ensures ∙ not-false _ c.if1.false) ∙ l.invariant.2

@@ -1,14 +1,14 @@
 -- `files::listing::refused` meets its contract. Assumes nothing.
-use Rattle.files.proofs.Whole.{refused-two, refused-other}
+use Rattle.files.proofs.Whole.{refused_two, refused_other}
 use Rattle.std.proofs.Common.{rules}
 use Rattle.files.proofs.listing.refused.Statement.{statement}
 use Rattle.files.proofs.listing.refused.Tie as tie
 
 returns : tie.Need-returns
-returns c = refused-two _ c.before.before.number.ensures c.before.if1.true
+returns c = refused_two _ c.before.before.number.ensures c.before.if1.true
 
 returns-2 : tie.Need-returns-2
-returns-2 c = refused-other _ c.before.before.number.ensures c.before.if1.false
+returns-2 c = refused_other _ c.before.before.number.ensures c.before.if1.false
 
 pub refused-spec : {M : Type 1} → statement M
 refused-spec =

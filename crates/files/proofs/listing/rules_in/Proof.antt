@@ -1,6 +1,6 @@
 -- `files::listing::rules_in` meets its contract. Assumes nothing.
 use Rattle.std.proofs.Common.{arith, rules}
-use Rattle.files.proofs.Whole.{read_fits, rules-are, rules-refused}
+use Rattle.files.proofs.Whole.{read_fits, rules_are, rules_refused}
 use Rattle.files.proofs.listing.rules_in.Statement.{statement}
 use Rattle.files.proofs.listing.rules_in.Tie as tie
 
@@ -10,10 +10,10 @@ mul-t10 c = let a = c.before.before.before.before.before.before.before.before.be
     omega arith
 
 returns : tie.Need-returns
-returns c = let a = c.before.before.before.before.before.before.before.before.before.before.args in rules-are a.text.now a.rules.now c.before.before.before.before.before.read-rules.ensures c.before.k.given.1
+returns c = let a = c.before.before.before.before.before.before.before.before.before.before.args in rules_are a.text.now a.rules.now c.before.before.before.before.before.read-rules.ensures c.before.k.given.1
 
 returns-2 : tie.Need-returns-2
-returns-2 c = let a = c.before.before.before.before.before.before.before.before.before.before.before.args in rules-refused a.text.now a.rules.now c.before.before.before.before.before.before.read-rules.ensures c.before.before.why.given.1 c.refused.ensures
+returns-2 c = let a = c.before.before.before.before.before.before.before.before.before.before.before.args in rules_refused a.text.now a.rules.now c.before.before.before.before.before.before.read-rules.ensures c.before.before.why.given.1 c.refused.ensures
 
 pub rules-in-spec : {M : Type 1} → statement M
 rules-in-spec =

@@ -2,7 +2,7 @@
 use Rattle.std.proofs.Common.{◌≡◌, true, length, sym, refl, ◌∙◌, arith, rules}
 use borrow.Author.Tests.{not-false, not-true}
 use Rattle.files.specs.File.{made, well}
-use Rattle.files.proofs.Made.{Stood, stood_first, stood-turn, stood-fault, stood_over}
+use Rattle.files.proofs.Made.{Stood, stood_first, stood_turn, stood_fault, stood_over}
 use Rattle.files.proofs.reading.read_lines.Statement.{statement}
 use Rattle.files.proofs.reading.read_lines.Tie as tie
 
@@ -19,12 +19,12 @@ loop-holds c = (refl, refl, refl, stood_first 50000 (omega arith) c.start.ensure
 
 returns : tie.Need-returns invariant-loop decreases-loop
 returns c = let l = c.before.before.before.before.before.before.before.before.before.before.before.before.before.before.before.before.loop in
-    stood-fault l.invariant.3 l.invariant.4 l.invariant.2 c.before.before.before.before.before.before.before.before.before.before.before.next-line.ensures c.before.before.before.before.with-input.ensures (sym c.before.is-well.ensures ∙ not-true _ c.if2.true)
+    stood_fault l.invariant.3 l.invariant.4 l.invariant.2 c.before.before.before.before.before.before.before.before.before.before.before.next-line.ensures c.before.before.before.before.with-input.ensures (sym c.before.is-well.ensures ∙ not-true _ c.if2.true)
 
 loop-again : tie.Need-loop-preserved invariant-loop decreases-loop
 loop-again c = let l = c.before.before.before.before.before.before.before.before.before.before.before.before.before.before.before.before.loop in
     let ok = sym c.before.is-well.ensures ∙ not-false _ c.if2.false in
-    (search rules, search rules, search rules, stood-turn l.invariant.3 l.invariant.4 l.invariant.2 c.before.before.before.before.before.before.before.before.before.before.before.next-line.ensures c.before.before.before.before.with-input.ensures ok, ok)
+    (search rules, search rules, search rules, stood_turn l.invariant.3 l.invariant.4 l.invariant.2 c.before.before.before.before.before.before.before.before.before.before.before.next-line.ensures c.before.before.before.before.with-input.ensures ok, ok)
 
 returns-2 : tie.Need-returns-2 invariant-loop decreases-loop
 returns-2 c = stood_over c.before.before.loop.invariant.3 (omega (arith, c.if1.false))

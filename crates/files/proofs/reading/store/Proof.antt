@@ -1,7 +1,7 @@
 -- `files::reading::store` meets its contract: what is left of the numbers is to be stored at the place reached. Assumes nothing.
 use Rattle.std.proofs.Common.{◌≡◌, ◌+◌, ◌-◌, ◌≤◌, length, take, drop, refl, ◌∙◌, arith, length-set}
 use lib.Seq.{sets}
-use Rattle.files.proofs.Made.{store-first, store-turn, store-over}
+use Rattle.files.proofs.Made.{store_first, store_turn, store_over}
 use Rattle.files.proofs.reading.store.Statement.{statement}
 use Rattle.files.proofs.reading.store.Tie as tie
 
@@ -12,7 +12,7 @@ abbrev decreases-loop : tie.decreases-loop
 decreases-loop rows₀ at values i₀ rows i = 13 - i
 
 loop-holds : tie.Need-loop-init invariant-loop decreases-loop
-loop-holds c = let a = c.args in (omega arith, refl, store-first a.rows.now a.t3 a.at 13 (omega (arith, c.requires)))
+loop-holds c = let a = c.args in (omega arith, refl, store_first a.rows.now a.t3 a.at 13 (omega (arith, c.requires)))
 
 mul-rows : tie.Need-overflow-mul-rows invariant-loop decreases-loop
 mul-rows c = omega arith
@@ -38,7 +38,7 @@ loop-less c = omega arith
 loop-again : tie.Need-loop-preserved invariant-loop decreases-loop
 loop-again c = let a = c.before.before.args in
     let l = c.before.loop in
-    (omega arith, simp length-set l.invariant.1, store-turn l.rows a.t3 a.at 13 (omega (arith, c.before.before.requires)) l.i c.loop-test.true ∙ l.invariant.2)
+    (omega arith, simp length-set l.invariant.1, store_turn l.rows a.t3 a.at 13 (omega (arith, c.before.before.requires)) l.i c.loop-test.true ∙ l.invariant.2)
 
 same_length : tie.Need-same-length invariant-loop decreases-loop
 same_length c = c.before.loop.invariant.1
@@ -46,7 +46,7 @@ same_length c = c.before.loop.invariant.1
 returns : tie.Need-returns invariant-loop decreases-loop
 returns c = let a = c.before.before.args in
     let l = c.before.loop in
-    store-over l.rows a.t3 a.at 13 (omega (arith, c.before.before.requires)) l.i c.loop-test.false ∙ l.invariant.2
+    store_over l.rows a.t3 a.at 13 (omega (arith, c.before.before.requires)) l.i c.loop-test.false ∙ l.invariant.2
 
 pub store_spec : {M : Type 1} → statement M
 store_spec =

@@ -1,11 +1,11 @@
 -- `files::reading::with_next` meets its contract. Assumes nothing.
 use Rattle.std.proofs.Common.{refl, rules}
-use Rattle.files.proofs.Made.{instead, next-over, next-long, next-text}
+use Rattle.files.proofs.Made.{instead, next_over, next-long, next-text}
 use Rattle.files.proofs.reading.with_next.Statement.{statement}
 use Rattle.files.proofs.reading.with_next.Tie as tie
 
 returns : tie.Need-returns
-returns c = let a = c.before.before.before.before.before.args in instead c.faulted.ensures refl (next-over a.r a.rows.now a.s.now a.long c.before.if1.true)
+returns c = let a = c.before.before.before.before.before.args in instead c.faulted.ensures refl (next_over a.r a.rows.now a.s.now a.long c.before.if1.true)
 
 returns-2 : tie.Need-returns-2
 returns-2 c = let a = c.before.before.before.before.before.before.before.args in

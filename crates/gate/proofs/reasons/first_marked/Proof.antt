@@ -4,7 +4,7 @@ use mathlib.Core.Path.{◌≡◌, refl}
 use native.Mathlib.Nat.{sub-zero}
 use native.Mathlib.Omega.{arith}
 use Rattle.gate.specs.Inner.{marked_from}
-use Rattle.gate.proofs.Why.{marked_none, marked-here, marked-on}
+use Rattle.gate.proofs.Why.{marked_none, marked_here, marked_on}
 use Rattle.gate.proofs.reasons.first_marked.Statement.{statement}
 use Rattle.gate.proofs.reasons.first_marked.Tie as tie
 
@@ -20,12 +20,12 @@ loop-holds c = (omega arith, refl)
 returns : tie.Need-returns invariant-loop decreases-loop
 returns c =
     let l = c.before.before.before.before in
-    rw sub-zero at (marked-here l.before.args.list.now l.loop.i l.before.args.count c.before.before.before.loop-test.true _ l.loop.invariant.1 c.before.if1.true)
+    rw sub-zero at (marked_here l.before.args.list.now l.loop.i l.before.args.count c.before.before.before.loop-test.true _ l.loop.invariant.1 c.before.if1.true)
 
 loop-again : tie.Need-loop-preserved invariant-loop decreases-loop
 loop-again c =
     let l = c.before.before.before in
-    (omega arith, marked-on l.before.args.list.now l.loop.i l.before.args.count c.before.before.loop-test.true _ l.loop.invariant.1 c.if1.false)
+    (omega arith, marked_on l.before.args.list.now l.loop.i l.before.args.count c.before.before.loop-test.true _ l.loop.invariant.1 c.if1.false)
 
 returns-2 : tie.Need-returns-2 invariant-loop decreases-loop
 returns-2 c =

@@ -7,9 +7,9 @@ use Rattle.gregorian.specs.Answers.{number_says}
 use Rattle.conversion.specs.Flat.{accepted, flat}
 use Rattle.conversion.specs.Answers.{valid_says}
 use Rattle.rules.specs.Rules.{accepted_rules}
-use Rattle.rules.proofs.Lent.{accepted-both}
+use Rattle.rules.proofs.Lent.{accepted_both}
 use Rattle.festivals.proofs.Numbered.{to_numbered}
-use Rattle.gate.proofs.Why.{not-lent, no-day, told-on}
+use Rattle.gate.proofs.Why.{not_lent, no_day_law, told-on}
 use Rattle.gate.proofs.reasons.reason_on.Statement.{statement}
 use Rattle.gate.proofs.reasons.reason_on.Tie as tie
 
@@ -17,7 +17,7 @@ use Rattle.gate.proofs.reasons.reason_on.Tie as tie
 both : (e : tie.After-enum-told) → let a = e.before.before.before.before.before.args in (accepted a.table a.rows.now ≡ true) × (accepted_rules a.rules.now ≡ true)
 both e =
     let a = e.before.before.before.before.before.args in
-    accepted-both (flat a.table a.rows.now) _ (said valid_says e.enum_told.given.1 e.before.before.accept.ensures)
+    accepted_both (flat a.table a.rows.now) _ (said valid_says e.enum_told.given.1 e.before.before.accept.ensures)
 
 day-of-requires : tie.Need-day-of-requires
 day-of-requires c κs = (both c).0
@@ -34,14 +34,14 @@ returns : tie.Need-returns
 returns c =
     let t = c.before.before.before in
     let a = t.before.before.before.args in
-    not-lent (flat a.table a.rows.now) a.rules.now a.year a.month a.day _ (said valid_says c.before.lent.given.1 t.accept.ensures)
+    not_lent (flat a.table a.rows.now) a.rules.now a.year a.month a.day _ (said valid_says c.before.lent.given.1 t.accept.ensures)
 
 returns-2 : tie.Need-returns-2
 returns-2 c =
     let d = c.before.before.before in
     let a = d.before.before.before.before.before.before.args in
     let g = both d.before in
-    no-day (flat a.table a.rows.now) a.rules.now a.year a.month a.day g.0 g.1 _ (sym (said number_says c.before.number.given.1 d.day-of.ensures))
+    no_day_law (flat a.table a.rows.now) a.rules.now a.year a.month a.day g.0 g.1 _ (sym (said number_says c.before.number.given.1 d.day-of.ensures))
 
 returns-3 : tie.Need-returns-3
 returns-3 c =

@@ -5,7 +5,7 @@ use native.Mathlib.Nat.{add-zero}
 use native.Mathlib.Omega.{arith}
 use lib.ListN.{length, drop, length-set, drop_of_length-le}
 use lib.Seq.{sets}
-use Rattle.paper.proofs.Stores.{sets-turn}
+use Rattle.paper.proofs.Stores.{sets_turn}
 use Rattle.grid.proofs.page.put_at.Statement.{statement}
 use Rattle.grid.proofs.page.put_at.Tie as tie
 
@@ -25,7 +25,7 @@ loop-again c =
     let a = c.before.before.before.args in (
       omega arith,
       simp length-set l.invariant.1,
-      sets-turn l.out a.src.now a.at l.i 0 c.before.loop-test.true ∙ l.invariant.2,
+      sets_turn l.out a.src.now a.at l.i 0 c.before.loop-test.true ∙ l.invariant.2,
     )
 
 same_length : tie.Need-same-length invariant-loop decreases-loop

@@ -10,7 +10,7 @@ use Rattle.rules.specs.declared.lists.Day.{Day}
 use Rattle.rules.specs.Festivals.{numbers}
 use Rattle.grid.specs.Cells.{saturday, day_cell}
 use Rattle.grid.specs.Kathmandu.{reading_on}
-use Rattle.grid.specs.Inner.{listFor}
+use Rattle.grid.specs.Inner.{list_for}
 use Rattle.grid.proofs.Marks.{shown, cell_of_law, cell_length, sets_same}
 use Rattle.grid.proofs.page.put_cell.Statement.{statement}
 use Rattle.grid.proofs.page.put_cell.Tie as tie
@@ -31,7 +31,7 @@ returns c =
     let day = listed.before.before in
     let s = day.before.before.before.before in
     let a = s.args in
-    let list = listFor a.rules.now a.plan in
+    let list = list_for a.rules.now a.plan in
     let q = day.day-on.result in
     let e = day.day-on.ensures in
     let p = listed.put-day-list in

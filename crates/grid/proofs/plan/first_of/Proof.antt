@@ -2,7 +2,7 @@
 use borrow.Author.Rules.{rules}
 use Rattle.paper.proofs.Answers.{said}
 use Rattle.gregorian.specs.Answers.{number_says}
-use Rattle.grid.proofs.Plans.{first_is, always-first}
+use Rattle.grid.proofs.Plans.{first_is, always_first}
 use Rattle.grid.proofs.plan.first_of.Statement.{statement}
 use Rattle.grid.proofs.plan.first_of.Tie as tie
 
@@ -11,7 +11,7 @@ returns c =
     let d = c.before.before in
     let o = d.before.before in
     let x = o.args.first in
-    always-first o.args.table o.args.rows.now o.requires.0 x.year x.month x.day o.requires.1.0 o.requires.1.1 o.requires.1.2 _ (said number_says c.enum_told.given.1 d.day-of.ensures)
+    always_first o.args.table o.args.rows.now o.requires.0 x.year x.month x.day o.requires.1.0 o.requires.1.1 o.requires.1.2 _ (said number_says c.enum_told.given.1 d.day-of.ensures)
 
 returns-2 : tie.Need-returns-2
 returns-2 c =

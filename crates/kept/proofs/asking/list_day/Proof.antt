@@ -13,7 +13,7 @@ use Rattle.festivals.proofs.Numbered.{to_numbered, drawn_list}
 use Rattle.kept.specs.declared.Store.{Store}
 use Rattle.kept.specs.Inner.{Fresh}
 use Rattle.kept.proofs.Stores.{drawn-years}
-use Rattle.kept.proofs.Replies.{dated_in, day_refused, day-counted}
+use Rattle.kept.proofs.Replies.{dated_in, day_refused, day_counted}
 use Rattle.kept.proofs.asking.list_day.Statement.{statement}
 use Rattle.kept.proofs.asking.list_day.Tie as tie
 
@@ -49,7 +49,7 @@ returns-2 : tie.Need-returns-2
 returns-2 c = λ g.
     let f = c.before.before.before.before.before in
     let s = says_by (ap answered (its-list c.before.before.before.before.before.before.before g)) (record { answer = f.list-from.ensures.0; buffer = f.list-from.ensures.1 }) in
-    day-counted _ _ _ _ _ _ _ _ (said list_says c.before.answer2.given.1 s.answer) s.buffer (c.before.before.before.before.before.before.before.drawn-years.ensures g)
+    day_counted _ _ _ _ _ _ _ _ (said list_says c.before.answer2.given.1 s.answer) s.buffer (c.before.before.before.before.before.before.before.drawn-years.ensures g)
 
 pub list-day-spec : {M : Type 1} → statement M
 list-day-spec =

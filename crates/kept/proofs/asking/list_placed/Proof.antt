@@ -5,9 +5,9 @@ use Rattle.paper.specs.declared.Refusal.TheVariants.{Before, After}
 use Rattle.conversion.specs.Flat.{flat}
 use Rattle.conversion.proofs.Days.{to_from}
 use Rattle.rules.proofs.Questions.{then_by, then_not}
-use Rattle.festivals.proofs.Placed.{inside, before-first, after_last}
+use Rattle.festivals.proofs.Placed.{inside, before_first, after_last}
 use Rattle.kept.specs.Operations.{drawn_on}
-use Rattle.kept.proofs.Replies.{day-not, day_by_law}
+use Rattle.kept.proofs.Replies.{day_not, day_by_law}
 use Rattle.kept.proofs.asking.list_placed.Statement.{statement}
 use Rattle.kept.proofs.asking.list_placed.Tie as tie
 
@@ -23,14 +23,14 @@ returns c = λ g.
     let p = c.before.before.before in
     let o = c.before.before.before.before.before.before.before in
     let k = Before c.before.place2.given.0.0 in
-    day-not _ _ _ _ _ k o.args.out.now (then_not _ _ k (before-first _ o.requires.0 _ p.place.result p.place.ensures _ c.before.place2.given.1))
+    day_not _ _ _ _ _ k o.args.out.now (then_not _ _ k (before_first _ o.requires.0 _ p.place.result p.place.ensures _ c.before.place2.given.1))
 
 returns-2 : tie.Need-returns-2
 returns-2 c = λ g.
     let p = c.before.before.before in
     let o = c.before.before.before.before.before.before.before in
     let k = After c.before.place3.given.0.0 in
-    day-not _ _ _ _ _ k o.args.out.now (then_not _ _ k (after_last _ o.requires.0 _ p.place.result p.place.ensures _ c.before.place3.given.1))
+    day_not _ _ _ _ _ k o.args.out.now (then_not _ _ k (after_last _ o.requires.0 _ p.place.result p.place.ensures _ c.before.place3.given.1))
 
 returns-3 : tie.Need-returns-3
 returns-3 c = λ g.

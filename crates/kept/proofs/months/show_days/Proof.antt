@@ -10,13 +10,13 @@ use Rattle.rules.proofs.Questions.{then_by}
 use Rattle.grid.specs.declared.page.Plan.{Plan}
 use Rattle.grid.specs.Month.{Grid, fitted, grid_says}
 use Rattle.grid.specs.Kathmandu.{grid_under}
-use Rattle.grid.specs.Inner.{Planned, gridBy}
+use Rattle.grid.specs.Inner.{Planned, grid_by}
 use Rattle.grid.proofs.Grids.{says_by}
 use Rattle.grid.proofs.Plans.{in_year, planned, same-grid}
 use Rattle.kept.specs.declared.Store.{Store}
 use Rattle.kept.specs.Inner.{Fresh}
 use Rattle.kept.proofs.Stores.{drawn-years}
-use Rattle.kept.proofs.Replies.{month-refused, month-answered}
+use Rattle.kept.proofs.Replies.{month_refused, month_answered}
 use Rattle.kept.proofs.months.show_days.Statement.{statement}
 use Rattle.kept.proofs.months.show_days.Tie as tie
 
@@ -34,7 +34,7 @@ its-grid : (p : tie.After-plan-of) →
     let c = flat a.table a.rows.now in
     Fresh c a.rules.now a.store
     → then (month_len c a.year a.month) (λ n. fitted (grid_under c a.rules.now a.today a.year a.month n) (length a.cells.now) (length a.festivals.now))
-    ≡ fitted (gridBy a.rules.now p.plan-of.result) (length a.cells.now) (length a.festivals.now)
+    ≡ fitted (grid_by a.rules.now p.plan-of.result) (length a.cells.now) (length a.festivals.now)
 its-grid p g =
     let o = p.before.before.before.before.before.before in
     let a = o.args in
@@ -48,13 +48,13 @@ returns : tie.Need-returns
 returns c = λ g.
     let f = c.before.before.before.before.before.before.before in
     let s = says_by (its-grid c.before.before.before.before.before.before.before.before.before.before g) (record { answer = f.write-month.ensures.0; first = f.write-month.ensures.1.0; second = f.write-month.ensures.1.1 }) in
-    month-refused _ _ _ _ _ _ _ _ (said grid_says c.before.answer.given.1 s.answer) s.first s.second
+    month_refused _ _ _ _ _ _ _ _ (said grid_says c.before.answer.given.1 s.answer) s.first s.second
 
 returns-2 : tie.Need-returns-2
 returns-2 c = λ g.
     let f = c.before.before.before.before.before.before.before in
     let s = says_by (its-grid c.before.before.before.before.before.before.before.before.before.before g) (record { answer = f.write-month.ensures.0; first = f.write-month.ensures.1.0; second = f.write-month.ensures.1.1 }) in
-    month-answered _ _ _ _ _ _ _ _ _ (said grid_says c.before.answer2.given.1 s.answer) s.first s.second (c.before.before.before.before.before.before.before.before.before.before.before.drawn-years.ensures g)
+    month_answered _ _ _ _ _ _ _ _ _ (said grid_says c.before.answer2.given.1 s.answer) s.first s.second (c.before.before.before.before.before.before.before.before.before.before.before.drawn-years.ensures g)
 
 pub show-days-spec : {M : Type 1} → statement M
 show-days-spec =

@@ -4,7 +4,7 @@ use mathlib.Core.Path.{sym}
 use Rattle.paper.proofs.Answers.{said}
 use Rattle.conversion.specs.Answers.{days_says}
 use Rattle.rules.proofs.Questions.{then_not}
-use Rattle.kept.proofs.Replies.{month-not}
+use Rattle.kept.proofs.Replies.{month_not}
 use Rattle.kept.proofs.months.show_laid.Statement.{statement}
 use Rattle.kept.proofs.months.show_laid.Tie as tie
 
@@ -14,7 +14,7 @@ show-days-requires c κs = (c.before.before.before.before.before.before.before.b
 returns : tie.Need-returns
 returns c = λ g.
     let a = c.before.before.before.before.before.before.before.before.args in
-    month-not _ _ _ _ _ _ a.cells.now a.festivals.now (then_not _ _ _ (sym (said days_says c.before.days.given.1 c.before.before.before.month-days.ensures)))
+    month_not _ _ _ _ _ _ a.cells.now a.festivals.now (then_not _ _ _ (sym (said days_says c.before.days.given.1 c.before.before.before.month-days.ensures)))
 
 pub show-laid-spec : {M : Type 1} → statement M
 show-laid-spec =

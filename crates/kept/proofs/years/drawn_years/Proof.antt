@@ -3,7 +3,7 @@ use borrow.Author.Rules.{rules}
 use native.Mathlib.Omega.{arith}
 use Rattle.conversion.specs.Flat.{flat}
 use Rattle.conversion.proofs.Accepted.{facts}
-use Rattle.kept.proofs.Fresh.{drawn-late, drawn-first, drawn-two}
+use Rattle.kept.proofs.Fresh.{drawn_late, drawn_first, drawn_two}
 use Rattle.kept.proofs.Stores.{one-fresh, two-fresh}
 use Rattle.kept.proofs.years.drawn_years.Statement.{statement}
 use Rattle.kept.proofs.years.drawn_years.Tie as tie
@@ -13,7 +13,7 @@ returns c = λ g.
     let o = c.before.before.before.before.before in
     let a = o.args in
     let k = flat a.table a.rows.now in
-    one-fresh k a.rules.now _ _ _ _ (drawn-late k a.year a.month o.requires.1 (omega (arith, c.before.if1.true))) (c.before.before.year_from.ensures g) c.one-year.ensures
+    one-fresh k a.rules.now _ _ _ _ (drawn_late k a.year a.month o.requires.1 (omega (arith, c.before.if1.true))) (c.before.before.year_from.ensures g) c.one-year.ensures
 
 returns-2 : tie.Need-returns-2
 returns-2 c = λ g.
@@ -21,7 +21,7 @@ returns-2 c = λ g.
     let a = o.args in
     let k = flat a.table a.rows.now in
     let f = (facts a.table a.rows.now o.requires.0.0).frame in
-    one-fresh k a.rules.now _ _ _ _ (drawn-first k a.year a.month o.requires.1 (omega (arith, c.before.before.before.if1.false)) (omega (arith, c.before.if2.true, f.year_from)))
+    one-fresh k a.rules.now _ _ _ _ (drawn_first k a.year a.month o.requires.1 (omega (arith, c.before.before.before.if1.false)) (omega (arith, c.before.if2.true, f.year_from)))
     (c.before.before.before.before.year_from.ensures g) c.one-year2.ensures
 
 returns-3 : tie.Need-returns-3
@@ -29,7 +29,7 @@ returns-3 c = λ g.
     let o = c.before.before.before.before.before.before.before.before.before in
     let a = o.args in
     let k = flat a.table a.rows.now in
-    two-fresh k a.rules.now _ _ _ _ _ _ (drawn-two k a.year a.month o.requires.1 (omega (arith, c.before.before.before.before.before.if1.false)) (omega (arith, c.before.before.before.if2.false)))
+    two-fresh k a.rules.now _ _ _ _ _ _ (drawn_two k a.year a.month o.requires.1 (omega (arith, c.before.before.before.before.before.if1.false)) (omega (arith, c.before.before.before.if2.false)))
     c.before.before.year_before.ensures (c.before.year-from2.ensures g) (c.before.before.before.before.before.before.year_from.ensures g) c.two-years.ensures
 
 pub drawn-years-spec : {M : Type 1} → statement M

@@ -1,12 +1,12 @@
 -- `notes::lines::put_month_rules` meets its contract. Assumes nothing.
-use Rattle.notes.specs.Lines.{rulesPieces}
+use Rattle.notes.specs.Lines.{rules_pieces}
 use Rattle.output.proofs.Pieces.{then}
 use borrow.Author.Rules.{rules}
 use Rattle.notes.proofs.lines.put_month_rules.Statement.{statement}
 use Rattle.notes.proofs.lines.put_month_rules.Tie as tie
 
 returns : tie.Need-returns
-unfolding rulesPieces
+unfolding rules_pieces
 returns c = then c.before.before.before.before.before.before.before.before.before.before.before.put-labelled.ensures (then c.before.before.before.before.before.before.put-text.ensures c.before.before.put-rule-lines.ensures)
 
 pub put-month-rules-spec : {M : Type 1} → statement M

@@ -6,14 +6,14 @@ use lib.ListN.{length}
 use Rattle.rules.specs.Rules.{rules_from}
 use Rattle.output.specs.Gathered.{gathered}
 use Rattle.output.specs.Pieces.{put_pieces}
-use Rattle.notes.specs.Lines.{listPieces}
+use Rattle.notes.specs.Lines.{list_pieces}
 use Rattle.notes.proofs.Lists.{Rest, rest_all, rest_turn, rest_none}
 use borrow.Author.Rules.{rules}
 use Rattle.notes.proofs.lines.put_rule_lines.Statement.{statement}
 use Rattle.notes.proofs.lines.put_rule_lines.Tie as tie
 
 abbrev invariant-loop : tie.invariant-loop
-invariant-loop out₀ month rules names l₀ n i₀ out l i = (i ≤ n) × (length out ≡ length out₀) × Rest names month rules n (put_pieces (gathered out₀ l₀.out) (listPieces names month l₀.some (rules_from rules 0 n))) i out l
+invariant-loop out₀ month rules names l₀ n i₀ out l i = (i ≤ n) × (length out ≡ length out₀) × Rest names month rules n (put_pieces (gathered out₀ l₀.out) (list_pieces names month l₀.some (rules_from rules 0 n))) i out l
 
 abbrev decreases-loop : tie.decreases-loop
 decreases-loop out₀ month rules names l₀ n i₀ out l i = n - i

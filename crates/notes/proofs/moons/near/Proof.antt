@@ -4,14 +4,14 @@ use lib.IntN.{pos}
 use lib.Ieee.{Float, of_bits}
 use Rattle.paper.specs.Floats.{◌⊕◌, near, dec, whole}
 use Rattle.notes.specs.Near.{minutes_to}
-use Rattle.notes.proofs.Nears.{near-after, near-neither, near_before, near-early}
+use Rattle.notes.proofs.Nears.{near_after, near-neither, near_before, near-early}
 use borrow.Author.Rules.{rules}
 use Rattle.notes.proofs.moons.near.Statement.{statement}
 use Rattle.notes.proofs.moons.near.Tie as tie
 
 returns : tie.Need-returns
 returns c = let a = c.before.before.before.before.args in
-    near-after a.x.0 a.n a.day a.len c.minutes-to.result c.before.if1.true (c.minutes-to.ensures ∙ ap (minutes_to (whole (pos a.n))) c.before.before.before.local-day.ensures)
+    near_after a.x.0 a.n a.day a.len c.minutes-to.result c.before.if1.true (c.minutes-to.ensures ∙ ap (minutes_to (whole (pos a.n))) c.before.before.before.local-day.ensures)
 
 returns-2 : tie.Need-returns-2
 unfolding near of_bits

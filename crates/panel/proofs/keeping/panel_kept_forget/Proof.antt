@@ -3,7 +3,7 @@ use mathlib.Core.Path.{refl, ◌∙◌}
 use Rattle.kept.specs.State.{State}
 use Rattle.kept.specs.Operations.{forgotten}
 use Rattle.kept.specs.Held.{Holds}
-use Rattle.shelf.proofs.Made.{put-laid}
+use Rattle.shelf.proofs.Made.{put_laid}
 use Rattle.panel.proofs.Arrays.{refuses, answers, of_made}
 use Rattle.panel.proofs.Handing.{both}
 use Rattle.panel.proofs.keeping.panel_kept_forget.Statement.{statement}
@@ -17,7 +17,7 @@ returns-2 c =
     let asked = c.before.before.before.before in
     answers c.before.before.before.before.before.before.before.if1.false (λ σ m.
     let h = of_made (λ (τ : State). Holds asked.forget.result (forgotten τ)) m asked.before.kept_of.ensures asked.forget.ensures in
-    both refl (c.before.before.put.ensures ∙ put-laid _ (forgotten σ) asked.forget.result h m.room))
+    both refl (c.before.before.put.ensures ∙ put_laid _ (forgotten σ) asked.forget.result h m.room))
 
 pub panel-kept-forget-spec : {M : Type 1} → statement M
 panel-kept-forget-spec = tie.close (tie.spec (λ c κs. search rules) returns (λ c κs. search rules) (λ c κs. search rules) (λ c κs. search rules) (λ c. search rules) returns-2)

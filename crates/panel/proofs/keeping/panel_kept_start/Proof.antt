@@ -1,7 +1,7 @@
 use borrow.Author.Rules.{rules}
 use mathlib.Core.Path.{sym, ap, ◌∙◌}
 use Rattle.conversion.specs.Answers.{valid_says}
-use Rattle.panel.proofs.Arrays.{not-started, started-short, started}
+use Rattle.panel.proofs.Arrays.{not_started, started_short, started}
 use Rattle.panel.proofs.keeping.panel_kept_start.Statement.{statement}
 use Rattle.panel.proofs.keeping.panel_kept_start.Tie as tie
 
@@ -10,13 +10,13 @@ returns : tie.Need-returns
 returns c =
     let asked = c.before.before.before.before in
     let s = rw asked.before.table_of.ensures at asked.start.ensures in
-    started-short _ _ (sym (ap valid_says c.before.before.enum_told.given.1) ∙ s.answer) c.before.if1.true c.number2.ensures
+    started_short _ _ (sym (ap valid_says c.before.before.enum_told.given.1) ∙ s.answer) c.before.if1.true c.number2.ensures
 
 returns-2 : tie.Need-returns-2
 returns-2 c =
     let asked = c.before.before.before.before in
     let s = rw asked.before.table_of.ensures at asked.start.ensures in
-    not-started _ _ _ (sym (ap valid_says c.before.before.answer.given.1) ∙ s.answer) c.number.ensures
+    not_started _ _ _ (sym (ap valid_says c.before.before.answer.given.1) ∙ s.answer) c.number.ensures
 
 returns-3 : tie.Need-returns-3
 returns-3 c =

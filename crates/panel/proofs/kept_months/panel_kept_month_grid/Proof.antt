@@ -2,7 +2,7 @@ use borrow.Author.Rules.{rules}
 use Rattle.conversion.specs.Flat.{date}
 use Rattle.kept.specs.State.{State}
 use Rattle.kept.specs.Operations.{ask_month}
-use Rattle.panel.proofs.Arrays.{refuses, answers, handed-month}
+use Rattle.panel.proofs.Arrays.{refuses, answers, handed_month}
 use Rattle.panel.proofs.kept_months.panel_kept_month_grid.Statement.{statement}
 use Rattle.panel.proofs.kept_months.panel_kept_month_grid.Tie as tie
 
@@ -15,7 +15,7 @@ returns-2 c =
     let a = asked.before.before.before.before.before.before.before.before.before.args in
     let today = date a.today-year a.today-month a.today-day in
     answers asked.before.before.before.before.before.if1.false (λ σ m.
-    handed-month m asked.before.before.before.kept_of.ensures _ (λ (τ : State). ask_month τ today a.year a.month a.cells.now a.festivals.now) _ asked.ask-month.ensures c.give-grid.ensures
+    handed_month m asked.before.before.before.kept_of.ensures _ (λ (τ : State). ask_month τ today a.year a.month a.cells.now a.festivals.now) _ asked.ask-month.ensures c.give-grid.ensures
     c.before.before.before.before.before.before.before.before.before.before.before.before.keep-month.ensures)
 
 pub panel-kept-month-grid-spec : {M : Type 1} → statement M

@@ -5,7 +5,7 @@ use native.Mathlib.Nat.{add-zero}
 use native.Mathlib.Omega.{arith}
 use borrow.Author.Rules.{rules}
 use Rattle.wall.specs.Places.{place_from}
-use Rattle.wall.proofs.Places.{place-over, place_found, place-turn}
+use Rattle.wall.proofs.Places.{place_over, place_found, place_turn}
 use Rattle.patro.specs.Pages.{cell_day, cell_of}
 use Rattle.patro.proofs.pages.cell_of.Statement.{statement}
 use Rattle.patro.proofs.pages.cell_of.Tie as tie
@@ -29,13 +29,13 @@ loop-again : tie.Need-loop-preserved invariant-loop decreases-loop
 loop-again c =
     let a = c.before.before.before.before.args in
     let l = c.before.before.before.loop in
-    (omega arith, place-turn (cell_day a.cells.now) a.day l.i (42 - l.i) (42 - (l.i + 1)) (omega arith) (rw add-zero c.if1.false) ∙ l.invariant.1)
+    (omega arith, place_turn (cell_day a.cells.now) a.day l.i (42 - l.i) (42 - (l.i + 1)) (omega arith) (rw add-zero c.if1.false) ∙ l.invariant.1)
 
 returns-2 : tie.Need-returns-2 invariant-loop decreases-loop
 returns-2 c =
     let a = c.before.before.args in
     let l = c.before.loop in
-    place-over (cell_day a.cells.now) a.day l.i (42 - l.i) (omega arith) ∙ l.invariant.1
+    place_over (cell_day a.cells.now) a.day l.i (42 - l.i) (omega arith) ∙ l.invariant.1
 
 pub cell-of-spec : {M : Type 1} → statement M
 cell-of-spec =

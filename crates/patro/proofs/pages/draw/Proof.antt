@@ -1,15 +1,15 @@
 -- `patro::pages::draw` meets its contract. Assumes nothing.
-use Rattle.patro.specs.Pages.{pageAsked}
+use Rattle.patro.specs.Pages.{page_asked}
 use borrow.Author.Rules.{rules}
 use Rattle.patro.proofs.pages.draw.Statement.{statement}
 use Rattle.patro.proofs.pages.draw.Tie as tie
 
 returns : tie.Need-returns
-unfolding pageAsked
+unfolding page_asked
 returns c = rw c.before.before.before.before.before.asked.given.1 c.before.before.draw-bs.ensures
 
 returns-2 : tie.Need-returns-2
-unfolding pageAsked
+unfolding page_asked
 returns-2 c = rw c.before.before.before.before.before.asked2.given.1 c.before.before.draw-bs2.ensures
 
 returns-3 : tie.Need-returns-3

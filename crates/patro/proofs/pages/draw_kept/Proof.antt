@@ -2,7 +2,7 @@
 use Rattle.kept.specs.Held.{held}
 use Rattle.patro.specs.declared.pages.Part.TheVariants.{Whole}
 use Rattle.patro.proofs.Drawing.{draws_refused}
-use Rattle.patro.proofs.Parts.{few-cells, bs-page, bs-refused}
+use Rattle.patro.proofs.Parts.{few_cells, bs_page, bs_refused}
 use Rattle.patro.proofs.Months.{asked-answer, asked-cells, asked-festivals, asked-same}
 use borrow.Author.Rules.{rules}
 use Rattle.patro.proofs.pages.draw_kept.Statement.{statement}
@@ -14,7 +14,7 @@ draw-part-requires c κs =
     let a = e.args in
     let σ = held a.state in
     let p = asked-answer σ a.today a.year a.month e.requires.1 (c.before.before.before.before.before.before.before.before.before.ask-month.ensures e.requires.0) in
-    (few-cells σ.table σ.rows σ.rules a.today a.year a.month p c.before.before.before.before.answer.given.1, c.before.before.before.before.before.before.before.before.cells2.given)
+    (few_cells σ.table σ.rows σ.rules a.today a.year a.month p c.before.before.before.before.answer.given.1, c.before.before.before.before.before.before.before.before.cells2.given)
 
 returns : tie.Need-returns
 returns c =
@@ -23,7 +23,7 @@ returns c =
     let σ = held a.state in
     let g = c.before.before.before.before.before.before.before.before.before.before.before.before.ask-month.ensures e.requires.0 in
     let p = asked-answer σ a.today a.year a.month e.requires.1 g in
-    let page = bs-page σ.table σ.rows σ.rules a.today a.year a.month p a.names.now Whole c.before.before.before.before.before.before.before.answer.given.1 in
+    let page = bs_page σ.table σ.rows σ.rules a.today a.year a.month p a.names.now Whole c.before.before.before.before.before.before.before.answer.given.1 in
     let cells = asked-cells σ a.today a.year a.month e.requires.1 g in
     let festivals = asked-festivals σ a.today a.year a.month e.requires.1 g in
     record {
@@ -40,7 +40,7 @@ returns-2 c =
     let g = c.before.before.before.before.before.before.ask-month.ensures e.requires.0 in
     let p = asked-answer σ a.today a.year a.month e.requires.1 g in
     record {
-      laid = draws_refused (bs-refused σ.table σ.rows σ.rules a.today a.year a.month p a.names.now Whole c.before.answer2.given.1);
+      laid = draws_refused (bs_refused σ.table σ.rows σ.rules a.today a.year a.month p a.names.now Whole c.before.answer2.given.1);
       ready = g.holds.ready;
       same = asked-same σ a.today a.year a.month e.requires.1 g;
     }

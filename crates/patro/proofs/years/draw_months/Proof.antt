@@ -6,9 +6,9 @@ use lib.ListN.{length}
 use Rattle.kept.specs.State.{State}
 use Rattle.kept.specs.Operations.{forgotten, empty}
 use Rattle.kept.specs.Held.{held, Ready}
-use Rattle.patro.specs.Inner.{spacedOf}
+use Rattle.patro.specs.Inner.{spaced_of}
 use Rattle.patro.proofs.Drawing.{draws_refused}
-use Rattle.patro.proofs.Months.{Sofar, sofar-none, sofar-all, sofar-next, sofar-refused}
+use Rattle.patro.proofs.Months.{Sofar, sofar_none, sofar-all, sofar-next, sofar-refused}
 use borrow.Author.Rules.{rules}
 use Rattle.patro.proofs.years.draw_months.Statement.{statement}
 use Rattle.patro.proofs.years.draw_months.Tie as tie
@@ -24,7 +24,7 @@ loop-holds c =
     let e = c.before.before in
     let a = e.args in
     let σ = held a.state in
-    (refl, omega arith, omega arith, e.requires.0, refl, sofar-none σ.table σ.rows σ.rules a.names.now a.today a.year a.page.now)
+    (refl, omega arith, omega arith, e.requires.0, refl, sofar_none σ.table σ.rows σ.rules a.names.now a.today a.year a.page.now)
 
 draw-next-requires : tie.Need-draw-next-requires invariant-loop decreases-loop
 draw-next-requires c κs = let l = c.before.before.loop in (l.invariant.3, ap (λ (σ : State). empty σ.rows) l.invariant.4 ∙ c.before.before.before.before.before.requires.1)
@@ -39,7 +39,7 @@ returns c =
     let l = c.before.before.before.before.before.before.before.before.loop in
     let h : l.month ≤ 12 = omega (arith, c.before.before.before.before.before.before.before.loop-test.true) in
     let d = c.before.before.before.before.before.draw-next.ensures in
-    let e = ap (λ (σ : State). spacedOf σ a.names.now a.today a.year l.month) l.invariant.4 in
+    let e = ap (λ (σ : State). spaced_of σ a.names.now a.today a.year l.month) l.invariant.4 in
     draws_refused (sofar-refused σ.table σ.rows σ.rules a.names.now a.today a.year l.invariant.5 h (rw e at d.laid) c.before.laid2.given.1)
 
 loop-again : tie.Need-loop-preserved invariant-loop decreases-loop
@@ -49,7 +49,7 @@ loop-again c =
     let l = c.before.before.before.before.before.before.before.before.before.loop in
     let h : l.month ≤ 12 = omega (arith, c.before.before.before.before.before.before.before.before.loop-test.true) in
     let d = c.before.before.before.before.before.before.draw-next.ensures in
-    let e = ap (λ (σ : State). spacedOf σ a.names.now a.today a.year l.month) l.invariant.4 in (
+    let e = ap (λ (σ : State). spaced_of σ a.names.now a.today a.year l.month) l.invariant.4 in (
       search rules,
       omega arith,
       omega arith,

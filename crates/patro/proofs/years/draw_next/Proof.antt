@@ -1,7 +1,7 @@
 -- `patro::years::draw_next` meets its contract. Assumes nothing.
 use Rattle.text.proofs.Writes.{wrote_none}
 use Rattle.kept.specs.Held.{held}
-use Rattle.patro.proofs.Months.{gap_none, gap_feed, draws-spaced}
+use Rattle.patro.proofs.Months.{gap_none, gap_feed, draws_spaced}
 use borrow.Author.Rules.{rules}
 use Rattle.patro.proofs.years.draw_next.Statement.{statement}
 use Rattle.patro.proofs.years.draw_next.Tie as tie
@@ -12,7 +12,7 @@ returns c =
     let σ = held a.state in
     let d = c.before.before.draw-kept.ensures in
     record {
-      laid = draws-spaced σ.table σ.rows σ.rules a.names.now a.today a.year a.month (gap_none a.month c.before.before.before.before.if1.true) (wrote_none a.page.now a.at) d.laid;
+      laid = draws_spaced σ.table σ.rows σ.rules a.names.now a.today a.year a.month (gap_none a.month c.before.before.before.before.if1.true) (wrote_none a.page.now a.at) d.laid;
       ready = d.ready;
       same = d.same;
     }
@@ -23,7 +23,7 @@ returns-2 c =
     let σ = held a.state in
     let d = c.before.before.draw-kept2.ensures in
     record {
-      laid = draws-spaced σ.table σ.rows σ.rules a.names.now a.today a.year a.month (gap_feed a.month c.before.before.before.before.before.before.before.before.before.if1.false) c.before.before.before.before.before.before.put.ensures d.laid;
+      laid = draws_spaced σ.table σ.rows σ.rules a.names.now a.today a.year a.month (gap_feed a.month c.before.before.before.before.before.before.before.before.before.if1.false) c.before.before.before.before.before.before.put.ensures d.laid;
       ready = d.ready;
       same = d.same;
     }

@@ -3,8 +3,8 @@ use Prim.Native.Nat.{◌-◌}
 use native.Mathlib.Omega.{arith}
 use borrow.Author.Rules.{rules}
 use lib.ListN.{length}
-use Rattle.keyed.proofs.Said.{line-said, line-inside, line-unsaid}
-use Rattle.keyed.proofs.Walks.{Ahead, ahead-start, nearer, ahead_turn, ahead-count, ahead-whole, ahead-stored}
+use Rattle.keyed.proofs.Said.{line_said, line_inside, line_unsaid}
+use Rattle.keyed.proofs.Walks.{Ahead, ahead_start, nearer, ahead_turn, ahead-count, ahead-whole, ahead-stored}
 use Rattle.rulefile.specs.Files.{rule_form}
 use Rattle.rulefile.proofs.reading.read_all.Statement.{statement}
 use Rattle.rulefile.proofs.reading.read_all.Tie as tie
@@ -16,7 +16,7 @@ abbrev decreases-loop : tie.decreases-loop
 decreases-loop s numbers₀ at₀ i₀ numbers at i = length s - at
 
 loop-holds : tie.Need-loop-init invariant-loop decreases-loop
-loop-holds c = let a = c.before.before.args in ahead-start rule_form 0 a.s.now a.numbers.now
+loop-holds c = let a = c.before.before.args in ahead_start rule_form 0 a.s.now a.numbers.now
 
 same_length : tie.Need-same-length invariant-loop decreases-loop
 same_length c = c.before.before.before.before.loop.invariant.long
@@ -25,7 +25,7 @@ returns : tie.Need-returns invariant-loop decreases-loop
 returns c =
     let due = c.before.before.before in
     let inv = due.before.loop.invariant in
-    let e = line-unsaid due.read-due.result due.read-due.ensures c.before.enum_told.given.1 in
+    let e = line_unsaid due.read-due.result due.read-due.ensures c.before.enum_told.given.1 in
     record {
       small = omega (arith, inv.short, inv.inside);
       count = ahead-count rule_form 0 inv e;
@@ -39,8 +39,8 @@ add-i c =
     let inv = due.before.loop.invariant in
     let r = due.read-due in
     let known = c.before.before.before.before.before.n.given.1 in
-    let inside = line-inside r.result r.ensures known in
-    omega (arith, nearer rule_form 0 inv (line-said r.result r.ensures known) inside, inv.short)
+    let inside = line_inside r.result r.ensures known in
+    omega (arith, nearer rule_form 0 inv (line_said r.result r.ensures known) inside, inv.short)
 
 loop-less : tie.Need-loop-smaller invariant-loop decreases-loop
 loop-less c =
@@ -48,8 +48,8 @@ loop-less c =
     let inv = due.before.loop.invariant in
     let r = due.read-due in
     let known = c.before.before.before.before.before.n.given.1 in
-    let inside = line-inside r.result r.ensures known in
-    omega (arith, nearer rule_form 0 inv (line-said r.result r.ensures known) inside, inside)
+    let inside = line_inside r.result r.ensures known in
+    omega (arith, nearer rule_form 0 inv (line_said r.result r.ensures known) inside, inside)
 
 loop-again : tie.Need-loop-preserved invariant-loop decreases-loop
 loop-again c =
@@ -57,8 +57,8 @@ loop-again c =
     let inv = due.before.loop.invariant in
     let r = due.read-due in
     let known = c.before.before.before.before.before.n.given.1 in
-    let inside = line-inside r.result r.ensures known in
-    rw c.before.before.set_at.ensures (ahead_turn rule_form 0 inv (line-said r.result r.ensures known) inside)
+    let inside = line_inside r.result r.ensures known in
+    rw c.before.before.set_at.ensures (ahead_turn rule_form 0 inv (line_said r.result r.ensures known) inside)
 
 pub read-all-spec : {M : Type 1} → statement M
 read-all-spec =

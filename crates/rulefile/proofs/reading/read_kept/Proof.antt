@@ -1,14 +1,14 @@
 -- `rulefile::reading::read_kept` meets its contract: 12, 2 and 9 in this order, and then the numbers. Assumes nothing.
 use borrow.Author.Rules.{rules}
 use borrow.Author.Tests.{not-true, not-false}
-use Rattle.rulefile.proofs.Outcomes.{out-of-form, many, part-long, not_good, no_room, all_read}
+use Rattle.rulefile.proofs.Outcomes.{out_of_form, many, part-long, not_good, no_room, all_read}
 use Rattle.rulefile.proofs.reading.read_kept.Statement.{statement}
 use Rattle.rulefile.proofs.reading.read_kept.Tie as tie
 
 returns : tie.Need-returns
 returns c =
     let seen = c.before.before.before.before in
-    out-of-form _ seen.read_all.ensures (not-true _ c.if1.true)
+    out_of_form _ seen.read_all.ensures (not-true _ c.if1.true)
 
 returns-2 : tie.Need-returns-2
 returns-2 c =

@@ -4,7 +4,7 @@ use native.Mathlib.Omega.{arith}
 use borrow.Author.Rules.{rules}
 use lib.ListN.{length, drop}
 use Rattle.text.proofs.Texts.{cut, over}
-use Rattle.keyed.proofs.Walks.{Laid, laid-start, laid-turn, laid_end, laid-long}
+use Rattle.keyed.proofs.Walks.{Laid, laid_start, laid-turn, laid_end, laid-long}
 use Rattle.rulefile.specs.Files.{rule_form}
 use Rattle.rulefile.proofs.writing.put_all.Statement.{statement}
 use Rattle.rulefile.proofs.writing.put_all.Tie as tie
@@ -16,7 +16,7 @@ abbrev decreases-loop : tie.decreases-loop
 decreases-loop rules out₀ at₀ i₀ out at i = length rules - i
 
 loop-holds : tie.Need-loop-init invariant-loop decreases-loop
-loop-holds c = let a = c.before.before.args in (omega arith, laid-start rule_form 0 a.rules.now a.out.now)
+loop-holds c = let a = c.before.before.args in (omega arith, laid_start rule_form 0 a.rules.now a.out.now)
 
 loop-again : tie.Need-loop-preserved invariant-loop decreases-loop
 loop-again c =

@@ -2,14 +2,14 @@
 use borrow.Author.Rules.{rules}
 use borrow.Author.Tests.{not-true, not-false}
 use mathlib.Core.Path.{sym, ◌∙◌}
-use Rattle.rulefile.proofs.Outcomes.{bad-rules, too_long, all-written}
+use Rattle.rulefile.proofs.Outcomes.{bad_rules, too_long, all-written}
 use Rattle.rulefile.proofs.writing.write_rules.Statement.{statement}
 use Rattle.rulefile.proofs.writing.write_rules.Tie as tie
 
 returns : tie.Need-returns
 returns c =
     let a = c.before.before.before.before.args in
-    bad-rules a.rules.now a.out.now (sym c.before.accepts-rules.ensures ∙ not-true _ c.if1.true)
+    bad_rules a.rules.now a.out.now (sym c.before.accepts-rules.ensures ∙ not-true _ c.if1.true)
 
 returns-2 : tie.Need-returns-2
 returns-2 c =

@@ -9,7 +9,7 @@ use lib.ListN.{length}
 use Rattle.rules.specs.Rules.{rules_from}
 use Rattle.rules.specs.Festivals.{silenced}
 use Rattle.rules.proofs.Walk.{left_none}
-use Rattle.rules.proofs.Stores.{turn-silenced, none_silenced}
+use Rattle.rules.proofs.Stores.{turn_silenced, none_silenced}
 use Rattle.rules.proofs.lists.is_silenced.Statement.{statement}
 use Rattle.rules.proofs.lists.is_silenced.Tie as tie
 
@@ -27,7 +27,7 @@ loop-again : tie.Need-loop-preserved invariant-loop decreases-loop
 loop-again c =
     let l = c.before.before.before.loop in
     let a = c.before.before.before.before.before.args in
-    (omega arith, turn-silenced a.rules.now l.i _ c.before.before.loop-test.true _ c.before.rule-at.ensures a.year a.name l.found _ _ l.invariant.1 c.overrides-it.ensures)
+    (omega arith, turn_silenced a.rules.now l.i _ c.before.before.loop-test.true _ c.before.rule-at.ensures a.year a.name l.found _ _ l.invariant.1 c.overrides-it.ensures)
 
 returns : tie.Need-returns invariant-loop decreases-loop
 returns c =

@@ -10,7 +10,7 @@ use Rattle.rules.specs.Festivals.{picked}
 use Rattle.rules.specs.Resolved.{falls}
 use Rattle.rules.specs.Inner.{store_pairs}
 use Rattle.rules.proofs.Walk.{left_none}
-use Rattle.rules.proofs.Stores.{turn-picked, none_picked}
+use Rattle.rules.proofs.Stores.{turn_picked, none_picked}
 use Rattle.rules.proofs.lists.put_dated.Statement.{statement}
 use Rattle.rules.proofs.lists.put_dated.Tie as tie
 
@@ -36,7 +36,7 @@ loop-again c =
       omega arith,
       p.keep_pair.auto.0 ∙ l.invariant.1,
       omega (arith, p.keep_pair.ensures.1, l.invariant.2),
-      turn-picked a.rules.now l.i _ g.before.loop-test.true _ g.rule-at.ensures (falls a.k a.day) (l.buf, l.t) _ _ _ p.before.falls-on.ensures p.keep_pair.ensures.0 l.invariant.3,
+      turn_picked a.rules.now l.i _ g.before.loop-test.true _ g.rule-at.ensures (falls a.k a.day) (l.buf, l.t) _ _ _ p.before.falls-on.ensures p.keep_pair.ensures.0 l.invariant.3,
     )
 
 same_length : tie.Need-same-length invariant-loop decreases-loop

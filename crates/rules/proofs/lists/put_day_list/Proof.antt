@@ -4,7 +4,7 @@ use native.Mathlib.Omega.{arith}
 use Rattle.rules.specs.Rules.{rules_of}
 use Rattle.rules.specs.Resolved.{pairs_by, list_by}
 use Rattle.rules.proofs.Accepted.{good_rules}
-use Rattle.rules.proofs.Most.{list-most}
+use Rattle.rules.proofs.Most.{list_most}
 use Rattle.rules.proofs.Stores.{five}
 use Rattle.rules.proofs.lists.put_day_list.Statement.{statement}
 use Rattle.rules.proofs.lists.put_day_list.Tie as tie
@@ -42,7 +42,7 @@ returns c =
     let a = o.args in
     let rs = rules_of a.rules.now in
     let w = five _ _ _ _ _ a.buf.now a.at _ _ _ _ _ fixed.put-dated.ensures.0 both.put-dated2.ensures.0 prior.put-before.ensures.0 own.put-resolved.ensures.0 whole.put-dated3.ensures.0 in
-    let most = list-most rs (good_rules a.rules.now o.requires.0).counts a.day a.years in
+    let most = list_most rs (good_rules a.rules.now o.requires.0).counts a.day a.years in
     (w.0, (w.1, omega (arith, w.1, most)))
 
 pub put-day-list-spec : {M : Type 1} → statement M

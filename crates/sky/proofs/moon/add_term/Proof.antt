@@ -4,7 +4,7 @@ use mir.Syntax.{w32}
 use mir.Val.{SFits}
 use borrow.Author.Rules.{rules}
 use Rattle.sky.proofs.Signed.{is, is_not}
-use Rattle.sky.proofs.Series.{term-none, term_is}
+use Rattle.sky.proofs.Series.{term_none, term_is}
 use Rattle.sky.proofs.moon.add_term.Statement.{statement}
 use Rattle.sky.proofs.moon.add_term.Tie as tie
 
@@ -12,7 +12,7 @@ returns : tie.Need-returns
 returns c =
     let s = c.before.before.before.args in
     let f : SFits w32 s.x.coefficient = record { sfits = c.before.struct_told.given.1.1.1.1.0.1 } in
-    term-none s.factor s.x s.sine s.sum (is w32 s.x.coefficient f 0 c.if1.true)
+    term_none s.factor s.x s.sine s.sum (is w32 s.x.coefficient f 0 c.if1.true)
 
 returns-2 : tie.Need-returns-2
 returns-2 c =

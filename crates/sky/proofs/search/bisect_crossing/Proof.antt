@@ -6,7 +6,7 @@ use borrow.Author.Rules.{rules}
 use Rattle.paper.specs.Floats.{near}
 use Rattle.sky.specs.Tithi.{elongation_of}
 use Rattle.sky.specs.Search.{offset, halved}
-use Rattle.sky.proofs.Halving.{halved-low, halved-high, halved-done}
+use Rattle.sky.proofs.Halving.{halved_low, halved_high, halved_done}
 use Rattle.sky.proofs.search.bisect_crossing.Statement.{statement}
 use Rattle.sky.proofs.search.bisect_crossing.Tie as tie
 
@@ -27,8 +27,8 @@ loop-again c =
     let o = c.before.elongation-offset.ensures in
     l.loop.invariant
     ∙ ⊎_elim
-    (λ w. halved-low f l.loop.left l.loop.a l.loop.b c.before.before.loop-test.true (rw o at w.0.taken) ∙ simp (w.1, w.2))
-    (λ w. halved-high f l.loop.left l.loop.a l.loop.b c.before.before.loop-test.true (rw o at w.0.left) ∙ simp (w.1, w.2))
+    (λ w. halved_low f l.loop.left l.loop.a l.loop.b c.before.before.loop-test.true (rw o at w.0.taken) ∙ simp (w.1, w.2))
+    (λ w. halved_high f l.loop.left l.loop.a l.loop.b c.before.before.loop-test.true (rw o at w.0.left) ∙ simp (w.1, w.2))
     c.if1.branch
 
 returns : tie.Need-returns invariant-loop decreases-loop
@@ -36,7 +36,7 @@ unfolding near of_bits
 returns c =
     let l = c.before.loop in
     let e : l.left ≡ 0 = omega arith in
-    sym (l.invariant ∙ rw e (halved-done (offset elongation_of c.before.before.args.target) l.a l.b))
+    sym (l.invariant ∙ rw e (halved_done (offset elongation_of c.before.before.args.target) l.a l.b))
 
 pub bisect-crossing-spec : {M : Type 1} → statement M
 bisect-crossing-spec = tie.close (tie.spec invariant-loop decreases-loop loop-holds (λ c κs. search rules) (λ c. omega arith) (λ c. omega arith) loop-again returns)

@@ -5,7 +5,7 @@ use borrow.Author.Rules.{rules}
 use Rattle.sky.specs.Tithi.{elongation_of}
 use Rattle.sky.specs.Search.{offset}
 use Rattle.sky.specs.Inner.{stopped}
-use Rattle.sky.proofs.Steps.{rest-stop, rest_end, Turn, Sought, sought-begin, sought-none, sought-one, sought-out}
+use Rattle.sky.proofs.Steps.{rest_stop, rest_end, Turn, Sought, sought-begin, sought-none, sought-one, sought-out}
 use Rattle.sky.proofs.search.next_start.Statement.{statement}
 use Rattle.sky.proofs.search.next_start.Tie as tie
 
@@ -50,7 +50,7 @@ returns-2 c =
     let a = l.before.args in
     let f = offset elongation_of a.target in
     let h = c.before.if1.false in
-    rw c.no_start.ensures (sought-out f a.end a.steps a.from l.loop.invariant (rest-stop f a.end l.loop.left l.loop.lo h ∙ ap (λ (b : Bool). stopped (not b)) (sym h)))
+    rw c.no_start.ensures (sought-out f a.end a.steps a.from l.loop.invariant (rest_stop f a.end l.loop.left l.loop.lo h ∙ ap (λ (b : Bool). stopped (not b)) (sym h)))
 
 returns-3 : tie.Need-returns-3 invariant-loop decreases-loop
 returns-3 c =

@@ -2,7 +2,7 @@
 use Rattle.std.proofs.Common.{◌≡◌, ◌-◌, ◌≤◌, ◌∙◌, arith, rules}
 use native.Mathlib.Nat.{sub-zero}
 use Rattle.tables.specs.Breaks.{row_from}
-use Rattle.tables.proofs.Turns.{row-over, row_here, row-turn}
+use Rattle.tables.proofs.Turns.{row_over, row_here, row-turn}
 use Rattle.tables.proofs.broken.row_of.Statement.{statement}
 use Rattle.tables.proofs.broken.row_of.Tie as tie
 
@@ -28,7 +28,7 @@ loop-again c = let l = c.before.before.before.loop in
     (omega arith, row-turn a.rows.now a.n l.i c.before.before.loop-test.true m.result m.ensures c.if1.false ∙ l.invariant.1)
 
 returns-2 : tie.Need-returns-2 invariant-loop decreases-loop
-returns-2 c = let l = c.before.loop in row-over c.before.before.before.args.rows.now c.before.before.before.args.n l.i c.loop-test.false ∙ l.invariant.1
+returns-2 c = let l = c.before.loop in row_over c.before.before.before.args.rows.now c.before.before.before.args.n l.i c.loop-test.false ∙ l.invariant.1
 
 pub row-of-spec : {M : Type 1} → statement M
 row-of-spec =

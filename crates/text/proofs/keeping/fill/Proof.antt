@@ -4,7 +4,7 @@ use mathlib.Core.Path.{◌≡◌, refl, ap, ◌∙◌}
 use native.Mathlib.Omega.{arith}
 use lib.ListN.{length, get_or, drop}
 use Rattle.text.specs.Kept.{Current, holds, line}
-use Rattle.text.proofs.Lines.{line-over, line-feed, line_turn}
+use Rattle.text.proofs.Lines.{line_over, line_feed, line_turn}
 use borrow.Author.Rules.{rules}
 use Rattle.text.proofs.keeping.fill.Statement.{statement}
 use Rattle.text.proofs.keeping.fill.Tie as tie
@@ -31,7 +31,7 @@ returns : tie.Need-returns invariant-loop decreases-loop
 returns c = let a = c.before.before.before.before.before.before.args in
     let l = c.before.before.before.loop in
     record {
-      same = line-feed (length a.buffer.now) (holds l.buffer l.held) a.piece.now l.i c.before.before.loop-test.true c.if1.true ∙ l.invariant.2;
+      same = line_feed (length a.buffer.now) (holds l.buffer l.held) a.piece.now l.i c.before.before.loop-test.true c.if1.true ∙ l.invariant.2;
       inside = l.invariant.1;
       next = omega arith;
     }
@@ -64,7 +64,7 @@ returns-2 : tie.Need-returns-2 invariant-loop decreases-loop
 returns-2 c = let a = c.before.before.before.before.args in
     let l = c.before.loop in
     record {
-      same = line-over (length a.buffer.now) (holds l.buffer l.held) a.piece.now l.i c.loop-test.false ∙ l.invariant.2;
+      same = line_over (length a.buffer.now) (holds l.buffer l.held) a.piece.now l.i c.loop-test.false ∙ l.invariant.2;
       inside = l.invariant.1;
       next = omega arith;
     }

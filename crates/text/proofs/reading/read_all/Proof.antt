@@ -4,7 +4,7 @@ use mathlib.Core.Path.{◌≡◌, refl, ◌∙◌}
 use native.Mathlib.Omega.{arith}
 use lib.ListN.{length, get_or, drop}
 use Rattle.text.specs.Digits.{worth, scan}
-use Rattle.text.proofs.Turns.{scan-over, scan-stop, scan-large, scan-turn}
+use Rattle.text.proofs.Turns.{scan_over, scan_stop, scan_large, scan_turn}
 use borrow.Author.Rules.{rules}
 use Rattle.text.proofs.reading.read_all.Statement.{statement}
 use Rattle.text.proofs.reading.read_all.Tie as tie
@@ -28,7 +28,7 @@ returns : tie.Need-returns invariant-loop decreases-loop
 returns c = let a = c.before.before.before.before.before.before.args in
     let l = c.before.before.before.before.loop in
     record {
-      same = scan-stop a.limit a.s.now l.i l.v c.before.before.before.loop-test.true (rw c.before.worth.ensures at c.if1.true) ∙ l.invariant.2;
+      same = scan_stop a.limit a.s.now l.i l.v c.before.before.before.loop-test.true (rw c.before.worth.ensures at c.if1.true) ∙ l.invariant.2;
       inside = l.invariant.1;
     }
 
@@ -39,7 +39,7 @@ returns-2 c = let a = c.before.before.before.before.before.before.before.args in
     let d : worth (get_or a.s.now l.i 0) < 10 = omega arith in
     let t = c.if2.true in
     record {
-      same = scan-large a.limit a.s.now l.i l.v c.before.before.before.before.loop-test.true d (omega arith) ∙ l.invariant.2;
+      same = scan_large a.limit a.s.now l.i l.v c.before.before.before.before.loop-test.true d (omega arith) ∙ l.invariant.2;
       inside = omega arith;
     }
 
@@ -55,7 +55,7 @@ returns-3 c = let a = c.before.before.before.before.before.before.before.before.
     let e = c.before.before.before.worth.ensures in
     let d : worth (get_or a.s.now l.i 0) < 10 = omega arith in
     record {
-      same = scan-large a.limit a.s.now l.i l.v c.before.before.before.before.before.loop-test.true d (omega arith) ∙ l.invariant.2;
+      same = scan_large a.limit a.s.now l.i l.v c.before.before.before.before.before.loop-test.true d (omega arith) ∙ l.invariant.2;
       inside = omega arith;
     }
 
@@ -79,13 +79,13 @@ loop-again c = let a = c.before.before.before.before.before.before.before.before
     let m : l.v * 10 + worth (get_or a.s.now l.i 0) ≤ a.limit = omega arith in (
       omega arith,
       omega arith,
-      rw e (scan-turn a.limit a.s.now l.i l.v c.before.before.before.before.before.loop-test.true d m ∙ l.invariant.2),
+      rw e (scan_turn a.limit a.s.now l.i l.v c.before.before.before.before.before.loop-test.true d m ∙ l.invariant.2),
     )
 
 returns-4 : tie.Need-returns-4 invariant-loop decreases-loop
 returns-4 c = let a = c.before.before.before.args in
     let l = c.before.loop in
-    record { same = scan-over a.limit a.s.now l.i l.v c.loop-test.false ∙ l.invariant.2; inside = l.invariant.1 }
+    record { same = scan_over a.limit a.s.now l.i l.v c.loop-test.false ∙ l.invariant.2; inside = l.invariant.1 }
 
 pub read-all-spec : {M : Type 1} → statement M
 read-all-spec =

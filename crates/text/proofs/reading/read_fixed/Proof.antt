@@ -4,7 +4,7 @@ use mathlib.Core.Path.{◌≡◌, ap, ◌∙◌}
 use native.Mathlib.Omega.{arith}
 use lib.ListN.{length, drop}
 use Rattle.text.specs.Digits.{worth, fixed}
-use Rattle.text.proofs.Turns.{fixed-over, fixed-stop, fixed-turn, fixed-done, room_turn, room_small}
+use Rattle.text.proofs.Turns.{fixed_over, fixed_stop, fixed_turn, fixed_done, room_turn, room_small}
 use borrow.Author.Rules.{rules}
 use Rattle.text.proofs.reading.read_fixed.Statement.{statement}
 use Rattle.text.proofs.reading.read_fixed.Tie as tie
@@ -25,7 +25,7 @@ returns : tie.Need-returns invariant-loop decreases-loop
 returns c = let a = c.before.before.before.before.before.args in
     let l = c.before.before.loop in
     record {
-      same = fixed-over a.s.now a.base l.i l.v l.left c.if1.true c.before.loop-test.true ∙ l.invariant.2;
+      same = fixed_over a.s.now a.base l.i l.v l.left c.if1.true c.before.loop-test.true ∙ l.invariant.2;
       inside = omega arith;
     }
 
@@ -40,7 +40,7 @@ returns-2 c = let a = c.before.before.before.before.before.before.before.before.
     let l = c.before.before.before.before.before.loop in
     let e = c.before.worth.ensures in
     record {
-      same = fixed-stop a.s.now a.base l.i l.v l.left c.before.before.before.if1.false (rw e at c.if2.true) c.before.before.before.before.loop-test.true ∙ l.invariant.2;
+      same = fixed_stop a.s.now a.base l.i l.v l.left c.before.before.before.if1.false (rw e at c.if2.true) c.before.before.before.before.loop-test.true ∙ l.invariant.2;
       inside = omega arith;
     }
 
@@ -71,13 +71,13 @@ loop-again c = let a = c.before.before.before.before.before.before.before.before
     let e = c.before.worth.ensures in (
       omega arith,
       room_turn l.v c.before.worth.result a.base l.left (2 ^ 64) c.if2.false c.before.before.before.before.loop-test.true l.invariant.1,
-      rw e (fixed-turn a.s.now a.base l.i l.v l.left c.before.before.before.if1.false (rw e at c.if2.false) c.before.before.before.before.loop-test.true ∙ l.invariant.2),
+      rw e (fixed_turn a.s.now a.base l.i l.v l.left c.before.before.before.if1.false (rw e at c.if2.false) c.before.before.before.before.loop-test.true ∙ l.invariant.2),
     )
 
 returns-3 : tie.Need-returns-3 invariant-loop decreases-loop
 returns-3 c = let a = c.before.before.before.before.args in
     let l = c.before.loop in
-    record { same = fixed-done a.s.now a.base l.i l.v l.left c.loop-test.false ∙ l.invariant.2; inside = l.invariant.0 }
+    record { same = fixed_done a.s.now a.base l.i l.v l.left c.loop-test.false ∙ l.invariant.2; inside = l.invariant.0 }
 
 pub read-fixed-spec : {M : Type 1} → statement M
 read-fixed-spec =

@@ -2,7 +2,7 @@
 use mathlib.Core.Path.{◌∙◌}
 use native.Mathlib.Omega.{arith}
 use lib.ListN.{drop}
-use Rattle.text.proofs.Said.{passed-said, passed-unsaid}
+use Rattle.text.proofs.Said.{passed_said, passed_unsaid}
 use Rattle.text.proofs.Dashes.{next_said, next_none}
 use borrow.Author.Rules.{rules}
 use Rattle.text.proofs.triples.read_next.Statement.{statement}
@@ -22,7 +22,7 @@ enum_told c = search rules
 
 returns : tie.Need-returns
 returns c = let a = c.before.before.before.before.before.args in
-    record { same = next_none a.width (drop a.c.at a.s.now) (passed-unsaid c.before.before.pass.result c.before.before.pass.ensures c.enum_told.given.1); inside = omega arith }
+    record { same = next_none a.width (drop a.c.at a.s.now) (passed_unsaid c.before.before.pass.result c.before.before.pass.ensures c.enum_told.given.1); inside = omega arith }
 
 read-number-requires : tie.Need-read-number-requires
 read-number-requires c κs = search rules
@@ -30,7 +30,7 @@ read-number-requires c κs = search rules
 returns-2 : tie.Need-returns-2
 returns-2 c = let a = c.before.before.before.before.before.before.before.args in
     record {
-      same = c.read_number.ensures.same ∙ next_said a.width (drop a.c.at a.s.now) (passed-said c.before.before.before.before.pass.result c.before.before.before.before.pass.ensures c.before.before.d.given.1);
+      same = c.read_number.ensures.same ∙ next_said a.width (drop a.c.at a.s.now) (passed_said c.before.before.before.before.pass.result c.before.before.before.before.pass.ensures c.before.before.d.given.1);
       inside = c.read_number.ensures.inside;
     }
 

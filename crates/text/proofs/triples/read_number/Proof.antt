@@ -2,7 +2,7 @@
 use mathlib.Core.Path.{sym, ◌∙◌}
 use native.Mathlib.Omega.{arith}
 use lib.ListN.{drop}
-use Rattle.text.proofs.Dashes.{number_decimal, number-wide, number_none}
+use Rattle.text.proofs.Dashes.{number_decimal, number_wide, number_none}
 use borrow.Author.Rules.{rules}
 use Rattle.text.proofs.triples.read_number.Statement.{statement}
 use Rattle.text.proofs.triples.read_number.Tie as tie
@@ -19,7 +19,7 @@ wide-requires c κs = search rules
 
 returns-2 : tie.Need-returns-2
 returns-2 c = let a = c.before.before.before.before.args in
-    record { same = c.wide.ensures.same ∙ sym (number-wide a.width (drop a.c.at a.s.now) c.before.before.if1.false c.before.if2.true); inside = c.wide.ensures.inside }
+    record { same = c.wide.ensures.same ∙ sym (number_wide a.width (drop a.c.at a.s.now) c.before.before.if1.false c.before.if2.true); inside = c.wide.ensures.inside }
 
 returns-3 : tie.Need-returns-3
 returns-3 c = let a = c.before.before.before.args in

@@ -4,7 +4,7 @@ use mathlib.Core.Path.{◌≡◌, refl, sym, ◌∙◌}
 use native.Mathlib.Omega.{arith}
 use lib.ListN.{length, drop, length-set}
 use lib.Seq.{sets}
-use Rattle.paper.proofs.Stores.{sets-past}
+use Rattle.paper.proofs.Stores.{sets_past}
 use Rattle.text.proofs.Texts.{over}
 use Rattle.text.proofs.Turns.{put_turn}
 use Rattle.text.proofs.writing.put.Statement.{statement}
@@ -24,7 +24,7 @@ same_length c = c.before.before.loop.invariant.3
 
 returns : tie.Need-returns invariant-loop decreases-loop
 returns c = let l = c.before.before.loop in
-    record { stored = sym (sets-past (drop l.i c.before.before.before.args.src.now) l.out l.next c.if1.true) ∙ l.invariant.4; end = omega arith }
+    record { stored = sym (sets_past (drop l.i c.before.before.before.args.src.now) l.out l.next c.if1.true) ∙ l.invariant.4; end = omega arith }
 
 shared-slice-read-out : tie.Need-shared-slice-read-out invariant-loop decreases-loop
 shared-slice-read-out c = omega arith

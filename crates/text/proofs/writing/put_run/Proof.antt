@@ -5,7 +5,7 @@ use native.Mathlib.Nat.{mod-lt}
 use native.Mathlib.Omega.{arith}
 use lib.ListN.{length, length-set}
 use lib.Seq.{sets}
-use Rattle.paper.proofs.Stores.{sets-past}
+use Rattle.paper.proofs.Stores.{sets_past}
 use Rattle.text.specs.Digits.{run}
 use Rattle.text.proofs.Runs.{length_run}
 use Rattle.text.proofs.Turns.{run_turn, run_done}
@@ -21,7 +21,7 @@ decreases-loop n base k out₀ at rest₀ left₀ out rest left = left
 
 returns : tie.Need-returns invariant-loop decreases-loop
 returns c = let a = c.before.before.args in
-    record { stored = sym (sets-past (run a.base a.k a.n) a.out.now a.at c.if1.true); end = omega arith }
+    record { stored = sym (sets_past (run a.base a.k a.n) a.out.now a.at c.if1.true); end = omega arith }
 
 loop-holds : tie.Need-loop-init invariant-loop decreases-loop
 loop-holds c = (omega arith, refl, refl)

@@ -4,7 +4,7 @@ use mathlib.Core.Path.{◌≡◌, sym, ◌∙◌}
 use native.Mathlib.Omega.{arith}
 use lib.ListN.{length, drop}
 use Rattle.utf8.specs.Characters.{front}
-use Rattle.utf8.proofs.Cuts.{front-over, front-on, front-stop, front-first}
+use Rattle.utf8.proofs.Cuts.{front_over, front-on, front-stop, front-first}
 use borrow.Author.Rules.{rules}
 use Rattle.utf8.proofs.fronts.front_length.Statement.{statement}
 use Rattle.utf8.proofs.fronts.front_length.Tie as tie
@@ -43,7 +43,7 @@ loop-again-2 c = let l = c.before.before.before.before.before.loop in
     (omega arith, omega (arith, front-first l.left c.before.before.before.before.before.before.before.args.s.now l.i c.before.before.before.before.loop-test.true (sym c.before.before.goes_on.ensures ∙ c.before.if1.false) c.if2.false))
 
 returns-2 : tie.Need-returns-2 invariant-loop decreases-loop
-returns-2 c = let l = c.before.loop in omega (arith, front-over l.left c.before.before.before.args.s.now l.i c.loop-test.false)
+returns-2 c = let l = c.before.loop in omega (arith, front_over l.left c.before.before.before.args.s.now l.i c.loop-test.false)
 
 pub front-length-spec : {M : Type 1} → statement M
 front-length-spec =

@@ -5,7 +5,7 @@ use native.Mathlib.Omega.{arith}
 use lib.ListN.{length, drop}
 use Rattle.text.proofs.Texts.{cut, over}
 use Rattle.utf8.specs.Utf8.{comes, utf8}
-use Rattle.utf8.proofs.Turns.{comes_end, first_turn, first-not, tail-turn, tail-low, tail-high}
+use Rattle.utf8.proofs.Turns.{comes_end, first_turn, first_not, tail_turn, tail_low, tail_high}
 use borrow.Author.Rules.{rules}
 use Rattle.utf8.proofs.sequences.is_utf8.Statement.{statement}
 use Rattle.utf8.proofs.sequences.is_utf8.Tie as tie
@@ -31,7 +31,7 @@ follow-requires c κs = search rules
 returns : tie.Need-returns invariant-loop decreases-loop
 returns c = let l = c.before.before.before.before.before.loop in
     let e = c.before.follow.ensures in
-    first-not _ _ l.left l.least l.most _ (cut c.before.before.before.before.before.before.before.args.s.now l.i c.before.before.before.before.loop-test.true) c.before.before.if1.true (omega arith) ∙ l.invariant.1
+    first_not _ _ l.left l.least l.most _ (cut c.before.before.before.before.before.before.before.args.s.now l.i c.before.before.before.before.loop-test.true) c.before.before.if1.true (omega arith) ∙ l.invariant.1
 
 low-requires : tie.Need-low-requires invariant-loop decreases-loop
 low-requires c κs = search rules
@@ -49,11 +49,11 @@ loop-again c = let l = c.before.before.before.before.before.before.before.loop i
 
 returns-2 : tie.Need-returns-2 invariant-loop decreases-loop
 returns-2 c = let l = c.before.before.before.before.loop in
-    tail-low _ _ l.least l.most _ (cut c.before.before.before.before.before.before.args.s.now l.i c.before.before.before.loop-test.true) l.left c.before.if1.false c.if3.true ∙ l.invariant.1
+    tail_low _ _ l.least l.most _ (cut c.before.before.before.before.before.before.args.s.now l.i c.before.before.before.loop-test.true) l.left c.before.if1.false c.if3.true ∙ l.invariant.1
 
 returns-3 : tie.Need-returns-3 invariant-loop decreases-loop
 returns-3 c = let l = c.before.before.before.before.before.loop in
-    tail-high _ _ l.least l.most _ (cut c.before.before.before.before.before.before.before.args.s.now l.i c.before.before.before.before.loop-test.true) l.left c.before.before.if1.false c.before.if3.false c.if4.true ∙ l.invariant.1
+    tail_high _ _ l.least l.most _ (cut c.before.before.before.before.before.before.before.args.s.now l.i c.before.before.before.before.loop-test.true) l.left c.before.before.if1.false c.before.if3.false c.if4.true ∙ l.invariant.1
 
 sub-left : tie.Need-overflow-sub-left invariant-loop decreases-loop
 sub-left c = let n = c.before.before.if1.false in omega arith
@@ -63,7 +63,7 @@ loop-less-2 c = omega arith
 
 loop-again-2 : tie.Need-loop-preserved-2 invariant-loop decreases-loop
 loop-again-2 c = let l = c.before.before.before.before.before.loop in
-    (omega arith, tail-turn _ _ l.least l.most _ (cut c.before.before.before.before.before.before.before.args.s.now l.i c.before.before.before.before.loop-test.true) l.left c.before.before.if1.false c.before.if3.false c.if4.false ∙ l.invariant.1)
+    (omega arith, tail_turn _ _ l.least l.most _ (cut c.before.before.before.before.before.before.before.args.s.now l.i c.before.before.before.before.loop-test.true) l.left c.before.before.if1.false c.before.if3.false c.if4.false ∙ l.invariant.1)
 
 returns-4 : tie.Need-returns-4 invariant-loop decreases-loop
 returns-4 c = let l = c.before.loop in comes_end _ l.left l.least l.most (over c.before.before.before.args.s.now l.i c.loop-test.false) ∙ l.invariant.1

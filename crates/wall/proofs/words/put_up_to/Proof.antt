@@ -2,7 +2,7 @@
 use mathlib.Core.Path.{◌≡◌, refl, ◌∙◌}
 use lib.ListN.{length, drop}
 use Rattle.text.specs.Fronts.{up_to}
-use Rattle.text.proofs.Fronts.{up-over, up-stopped, up_none, up_turn}
+use Rattle.text.proofs.Fronts.{up_over, up_stopped, up_none, up_turn}
 use Rattle.wall.proofs.Going.{Going, stopped, written}
 use borrow.Author.Rules.{rules}
 use Rattle.wall.proofs.words.put_up_to.Statement.{statement}
@@ -21,13 +21,13 @@ same_length : tie.Need-same-length invariant-loop decreases-loop
 same_length c = c.before.before.loop.invariant.0
 
 returns : tie.Need-returns invariant-loop decreases-loop
-returns c = let l = c.before.before.loop in stopped l.invariant.1 (up-over c.before.before.before.before.before.args.stop c.before.before.before.before.before.args.s.now l.i l.left c.if1.true)
+returns c = let l = c.before.before.loop in stopped l.invariant.1 (up_over c.before.before.before.before.before.args.stop c.before.before.before.before.before.args.s.now l.i l.left c.if1.true)
 
 same-length-2 : tie.Need-same-length-2 invariant-loop decreases-loop
 same-length-2 c = c.before.before.before.before.loop.invariant.0
 
 returns-2 : tie.Need-returns-2 invariant-loop decreases-loop
-returns-2 c = let l = c.before.before.before.before.loop in stopped l.invariant.1 (up-stopped c.before.before.before.before.before.before.before.args.stop c.before.before.before.before.before.before.before.args.s.now l.i l.left c.before.before.if1.false c.if2.true)
+returns-2 c = let l = c.before.before.before.before.loop in stopped l.invariant.1 (up_stopped c.before.before.before.before.before.before.before.args.stop c.before.before.before.before.before.before.before.args.s.now l.i l.left c.before.before.if1.false c.if2.true)
 
 loop-again : tie.Need-loop-preserved invariant-loop decreases-loop
 loop-again c = let l = c.before.before.before.before.before.before.before.before.before.loop in (c.before.before.put.auto.0 ∙ l.invariant.0, written l.invariant.1 c.before.before.put.ensures _ (up_turn c.before.before.before.before.before.before.before.before.before.before.before.before.args.stop c.before.before.before.before.before.before.before.before.before.before.before.before.args.s.now l.i l.left c.before.before.before.before.before.before.before.before.loop-test.true c.before.before.before.before.before.before.before.if1.false c.before.before.before.before.before.if2.false))

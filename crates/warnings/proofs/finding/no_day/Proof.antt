@@ -1,14 +1,14 @@
 -- `warnings::finding::no_day` meets its contract. Assumes nothing.
-use Rattle.warnings.proofs.Found.{day-none, day_refused, day-past, day-there}
+use Rattle.warnings.proofs.Found.{day_none, day_refused, day_past, day-there}
 use borrow.Author.Rules.{rules}
 use Rattle.warnings.proofs.finding.no_day.Statement.{statement}
 use Rattle.warnings.proofs.finding.no_day.Tie as tie
 
 returns : tie.Need-returns
-returns c = day-none _ _ c.if1.true
+returns c = day_none _ _ c.if1.true
 
 returns-2 : tie.Need-returns-2
-returns-2 c = day-past _ _ c.before.before.before.before.before.before.if1.false c.before.before.before.before.before.bs-month-len.ensures c.before.before.before.n.given.1 c.if2.true
+returns-2 c = day_past _ _ c.before.before.before.before.before.before.if1.false c.before.before.before.before.before.bs-month-len.ensures c.before.before.before.n.given.1 c.if2.true
 
 returns-3 : tie.Need-returns-3
 returns-3 c = day_refused _ _ c.before.before.before.if1.false c.before.before.bs-month-len.ensures c.enum_told.given.1

@@ -5,7 +5,7 @@ use mathlib.Core.Path.{◌≡◌, ◌∙◌}
 use native.Mathlib.Nat.{sub-zero}
 use Rattle.rules.specs.Rules.{rules_from}
 use Rattle.warnings.specs.Warnings.{first_like}
-use Rattle.warnings.proofs.Turns.{like-over, like-here, like-turn}
+use Rattle.warnings.proofs.Turns.{like_over, like-here, like-turn}
 use borrow.Author.Rules.{rules}
 use Rattle.warnings.proofs.search.first_like.Statement.{statement}
 use Rattle.warnings.proofs.search.first_like.Tie as tie
@@ -26,7 +26,7 @@ loop-again : tie.Need-loop-preserved invariant-loop decreases-loop
 loop-again c = (omega arith, like-turn c.before.before.before.before.before.before.args.rules.now _ c.before.before.before.before.before.before.args.how c.before.before.before.before.before.before.args.r c.before.before.before.before.loop.i c.before.before.before.loop-test.true c.before.before.rule-at.ensures c.before.stands.ensures c.if1.false ∙ c.before.before.before.before.loop.invariant.1)
 
 returns-2 : tie.Need-returns-2 invariant-loop decreases-loop
-returns-2 c = like-over c.before.before.before.args.rules.now _ c.before.before.before.args.how c.before.before.before.args.r c.before.loop.i c.loop-test.false ∙ c.before.loop.invariant.1
+returns-2 c = like_over c.before.before.before.args.rules.now _ c.before.before.before.args.how c.before.before.before.args.r c.before.loop.i c.loop-test.false ∙ c.before.loop.invariant.1
 
 pub first-like-spec : {M : Type 1} → statement M
 first-like-spec =

@@ -5,7 +5,7 @@ use lib.ListN.{drop}
 use lib.Seq.{drop-drop}
 use Rattle.text.specs.Digits.{starts_digit, got}
 use Rattle.text.proofs.Texts.{stands_inside, digit_inside}
-use Rattle.text.proofs.Decimals.{decimal-led, decimal-nought, decimal-scan, decimal-other}
+use Rattle.text.proofs.Decimals.{decimal_led, decimal_nought, decimal_scan, decimal_other}
 use borrow.Author.Rules.{rules}
 use Rattle.text.proofs.reading.Cursor.decimal.Statement.{statement}
 use Rattle.text.proofs.reading.Cursor.decimal.Tie as tie
@@ -24,7 +24,7 @@ returns c = let a = c.before.before.before.before.before.args in
     let s = a.s.now in
     let at = a.self.at in
     record {
-      same = sym (decimal-led a.limit (drop at s) (sym c.before.before.before.stands.ensures ∙ c.before.before.if1.true) (ap starts_digit (drop-drop 1 at s) ∙ sym c.before.stands-digit.ensures ∙ c.if2.true));
+      same = sym (decimal_led a.limit (drop at s) (sym c.before.before.before.stands.ensures ∙ c.before.before.if1.true) (ap starts_digit (drop-drop 1 at s) ∙ sym c.before.stands-digit.ensures ∙ c.if2.true));
       inside = omega arith;
     }
 
@@ -37,7 +37,7 @@ returns-2 c = let a = c.before.before.before.before.before.args in
     let at = a.self.at in
     let z = sym c.before.before.before.stands.ensures ∙ c.before.before.if1.true in
     record {
-      same = ap (got 0) (sym (drop-drop 1 at s)) ∙ sym (decimal-nought a.limit (drop at s) z (ap starts_digit (drop-drop 1 at s) ∙ sym c.before.stands-digit.ensures ∙ c.if2.false));
+      same = ap (got 0) (sym (drop-drop 1 at s)) ∙ sym (decimal_nought a.limit (drop at s) z (ap starts_digit (drop-drop 1 at s) ∙ sym c.before.stands-digit.ensures ∙ c.if2.false));
       inside = omega (arith, stands_inside 48 s at z);
     }
 
@@ -52,14 +52,14 @@ returns-3 c = let a = c.before.before.before.before.before.before.args in
     let s = a.s.now in
     let at = a.self.at in
     record {
-      same = c.read_all.ensures.same ∙ sym (decimal-scan a.limit (drop at s) (sym c.before.before.before.before.stands.ensures ∙ c.before.before.before.if1.false) (sym c.before.before.stands-digit2.ensures ∙ c.before.if3.true));
+      same = c.read_all.ensures.same ∙ sym (decimal_scan a.limit (drop at s) (sym c.before.before.before.before.stands.ensures ∙ c.before.before.before.if1.false) (sym c.before.before.stands-digit2.ensures ∙ c.before.if3.true));
       inside = c.read_all.ensures.inside;
     }
 
 returns-4 : tie.Need-returns-4
 returns-4 c = let a = c.before.before.before.before.before.args in
     record {
-      same = sym (decimal-other a.limit (drop a.self.at a.s.now) (sym c.before.before.before.stands.ensures ∙ c.before.before.if1.false) (sym c.before.stands-digit2.ensures ∙ c.if3.false));
+      same = sym (decimal_other a.limit (drop a.self.at a.s.now) (sym c.before.before.before.stands.ensures ∙ c.before.before.if1.false) (sym c.before.stands-digit2.ensures ∙ c.if3.false));
       inside = omega arith;
     }
 

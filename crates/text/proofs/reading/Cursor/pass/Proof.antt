@@ -4,7 +4,7 @@ use mathlib.Core.Path.{◌≡◌, refl, ap, ◌∙◌}
 use native.Mathlib.Omega.{arith}
 use lib.ListN.{length, drop}
 use Rattle.text.specs.Digits.{past}
-use Rattle.text.proofs.Texts.{over, past-over, past-differs, past-turn}
+use Rattle.text.proofs.Texts.{over, past_over, past_differs, past_turn}
 use borrow.Author.Rules.{rules}
 use Rattle.text.proofs.reading.Cursor.pass.Statement.{statement}
 use Rattle.text.proofs.reading.Cursor.pass.Tie as tie
@@ -25,7 +25,7 @@ returns : tie.Need-returns invariant-loop decreases-loop
 returns c = let a = c.before.before.before.before.before.before.args in
     let l = c.before.before.loop in
     record {
-      same = past-over a.text.now a.s.now l.k l.i c.before.loop-test.true c.if1.true ∙ l.invariant.2 ∙ ap (past a.text.now) c.before.before.before.within.ensures.1;
+      same = past_over a.text.now a.s.now l.k l.i c.before.loop-test.true c.if1.true ∙ l.invariant.2 ∙ ap (past a.text.now) c.before.before.before.within.ensures.1;
       inside = omega arith;
     }
 
@@ -39,7 +39,7 @@ returns-2 : tie.Need-returns-2 invariant-loop decreases-loop
 returns-2 c = let a = c.before.before.before.before.before.before.before.before.before.args in
     let l = c.before.before.before.before.before.loop in
     record {
-      same = past-differs a.text.now a.s.now l.k l.i c.before.before.before.before.loop-test.true c.before.before.before.if1.false c.if2.true ∙ l.invariant.2 ∙ ap (past a.text.now) c.before.before.before.before.before.before.within.ensures.1;
+      same = past_differs a.text.now a.s.now l.k l.i c.before.before.before.before.loop-test.true c.before.before.before.if1.false c.if2.true ∙ l.invariant.2 ∙ ap (past a.text.now) c.before.before.before.before.before.before.within.ensures.1;
       inside = omega arith;
     }
 
@@ -57,7 +57,7 @@ loop-again c = let a = c.before.before.before.before.before.before.before.before
     let l = c.before.before.before.before.before.loop in (
       omega arith,
       omega arith,
-      past-turn a.text.now a.s.now l.k l.i c.before.before.before.before.loop-test.true c.before.before.before.if1.false c.if2.false ∙ l.invariant.2,
+      past_turn a.text.now a.s.now l.k l.i c.before.before.before.before.loop-test.true c.before.before.before.if1.false c.if2.false ∙ l.invariant.2,
     )
 
 returns-3 : tie.Need-returns-3 invariant-loop decreases-loop

@@ -9,10 +9,10 @@ use mir.Syntax.{w32}
 use mir.ValLaws.{to_z-of_z}
 use mathlib.Core.List.{List}
 use Rattle.text.specs.Digits.{below, decimal}
-use Rattle.text.proofs.Said.{number-said, number-inside, number-unsaid}
+use Rattle.text.proofs.Said.{number_said, number_inside, number_unsaid}
 use Rattle.text.proofs.Texts.{stands_inside}
 use Rattle.text.proofs.Decimals.{digits_decimal}
-use Rattle.text.proofs.Signs.{signed_plain, signed_minus, above-said, below-said, below_nought, no_number, word_fits}
+use Rattle.text.proofs.Signs.{signed_plain, signed_minus, above_said, below_said, below_nought, no_number, word_fits}
 use borrow.Author.Rules.{rules}
 use Rattle.text.proofs.reading.Cursor.signed.Statement.{statement}
 use Rattle.text.proofs.reading.Cursor.signed.Tie as tie
@@ -35,7 +35,7 @@ enum_told c = search rules
 returns : tie.Need-returns
 returns c = let a = c.before.before.before.before.before.before.args in
     let x = drop a.self.at a.s.now in
-    let e = number-unsaid c.before.before.decimal.result c.before.before.decimal.ensures c.enum_told.given.1 in
+    let e = number_unsaid c.before.before.decimal.result c.before.before.decimal.ensures c.enum_told.given.1 in
     record {
       same = (no_number e).1 ∙ ap (λ (y : List ℕ). below (decimal 2147483648 y)) (sym (drop-drop 1 a.self.at a.s.now)) ∙ sym (signed_minus x (sym c.before.before.before.before.stands.ensures ∙ c.before.before.before.if1.true));
       inside = omega arith;
@@ -44,7 +44,7 @@ returns c = let a = c.before.before.before.before.before.before.args in
 returns-2 : tie.Need-returns-2
 returns-2 c = let a = c.before.before.before.before.before.before.before.before.args in
     let x = drop a.self.at a.s.now in
-    let e = number-said c.before.before.before.before.decimal.result c.before.before.before.before.decimal.ensures c.before.before.n.given.1 in
+    let e = number_said c.before.before.before.before.decimal.result c.before.before.before.before.decimal.ensures c.before.before.n.given.1 in
     record {
       same = below_nought e c.if2.true ∙ ap (λ (y : List ℕ). below (decimal 2147483648 y)) (sym (drop-drop 1 a.self.at a.s.now)) ∙ sym (signed_minus x (sym c.before.before.before.before.before.before.stands.ensures ∙ c.before.before.before.before.before.if1.true));
       inside = omega arith;
@@ -55,20 +55,20 @@ sub-below-zero c = search rules
 
 below-zero-requires : tie.Need-below-zero-requires
 below-zero-requires c κs = let a = c.before.before.before.before.before.before.before.before.args in
-    let e = number-said c.before.before.before.before.decimal.result c.before.before.before.before.decimal.ensures c.before.before.n.given.1 in
+    let e = number_said c.before.before.before.before.decimal.result c.before.before.before.before.decimal.ensures c.before.before.n.given.1 in
     omega (arith, (digits_decimal 2147483648 (drop (a.self.at + 1) a.s.now) c.before.before.n.given.0.0 _ e).most)
 
 returns-3 : tie.Need-returns-3
 returns-3 c = let a = c.before.before.before.before.before.before.before.before.before.args in
     let x = drop a.self.at a.s.now in
     let n = c.before.before.before.n.given.0.0 in
-    let e = number-said c.before.before.before.before.before.decimal.result c.before.before.before.before.before.decimal.ensures c.before.before.before.n.given.1 in
+    let e = number_said c.before.before.before.before.before.decimal.result c.before.before.before.before.before.decimal.ensures c.before.before.before.n.given.1 in
     let m = (digits_decimal 2147483648 (drop (a.self.at + 1) a.s.now) n _ e).most in
     let w : n - 1 ≤ 2147483647 = omega arith in
     record {
       same = rw (c.below-zero.ensures, to_z-of_z w32 (negsuc (n - 1)) (word_fits (negsuc (n - 1)) w))
-          (below-said e c.before.if2.false ∙ ap (λ (y : List ℕ). below (decimal 2147483648 y)) (sym (drop-drop 1 a.self.at a.s.now)) ∙ sym (signed_minus x (sym c.before.before.before.before.before.before.before.stands.ensures ∙ c.before.before.before.before.before.before.if1.true)));
-      inside = number-inside c.before.before.before.before.before.decimal.result c.before.before.before.before.before.decimal.ensures c.before.before.before.n.given.1;
+          (below_said e c.before.if2.false ∙ ap (λ (y : List ℕ). below (decimal 2147483648 y)) (sym (drop-drop 1 a.self.at a.s.now)) ∙ sym (signed_minus x (sym c.before.before.before.before.before.before.before.stands.ensures ∙ c.before.before.before.before.before.before.if1.true)));
+      inside = number_inside c.before.before.before.before.before.decimal.result c.before.before.before.before.before.decimal.ensures c.before.before.before.n.given.1;
     }
 
 decimal-requires-2 : tie.Need-decimal-requires-2
@@ -83,7 +83,7 @@ enum-told-2 c = search rules
 returns-4 : tie.Need-returns-4
 returns-4 c = let a = c.before.before.before.before.before.before.args in
     let x = drop a.self.at a.s.now in
-    let e = number-unsaid c.before.before.decimal2.result c.before.before.decimal2.ensures c.enum-told2.given.1 in
+    let e = number_unsaid c.before.before.decimal2.result c.before.before.decimal2.ensures c.enum-told2.given.1 in
     record {
       same = (no_number e).0 ∙ sym (signed_plain x (sym c.before.before.before.before.stands.ensures ∙ c.before.before.before.if1.false));
       inside = omega arith;
@@ -91,18 +91,18 @@ returns-4 c = let a = c.before.before.before.before.before.before.args in
 
 from-zero-requires : tie.Need-from-zero-requires
 from-zero-requires c κs = let a = c.before.before.before.before.before.before.before.args in
-    let e = number-said c.before.before.before.decimal2.result c.before.before.before.decimal2.ensures c.before.n2.given.1 in
+    let e = number_said c.before.before.before.decimal2.result c.before.before.before.decimal2.ensures c.before.n2.given.1 in
     (digits_decimal 2147483647 (drop a.self.at a.s.now) c.before.n2.given.0.0 _ e).most
 
 returns-5 : tie.Need-returns-5
 returns-5 c = let a = c.before.before.before.before.before.before.before.before.args in
     let x = drop a.self.at a.s.now in
     let n = c.before.before.n2.given.0.0 in
-    let e = number-said c.before.before.before.before.decimal2.result c.before.before.before.before.decimal2.ensures c.before.before.n2.given.1 in
+    let e = number_said c.before.before.before.before.decimal2.result c.before.before.before.before.decimal2.ensures c.before.before.n2.given.1 in
     let m = (digits_decimal 2147483647 x n _ e).most in
     record {
-      same = rw (c.from_zero.ensures, to_z-of_z w32 (pos n) (word_fits (pos n) m)) (above-said e ∙ sym (signed_plain x (sym c.before.before.before.before.before.before.stands.ensures ∙ c.before.before.before.before.before.if1.false)));
-      inside = number-inside c.before.before.before.before.decimal2.result c.before.before.before.before.decimal2.ensures c.before.before.n2.given.1;
+      same = rw (c.from_zero.ensures, to_z-of_z w32 (pos n) (word_fits (pos n) m)) (above_said e ∙ sym (signed_plain x (sym c.before.before.before.before.before.before.stands.ensures ∙ c.before.before.before.before.before.if1.false)));
+      inside = number_inside c.before.before.before.before.decimal2.result c.before.before.before.before.decimal2.ensures c.before.before.n2.given.1;
     }
 
 pub signed-spec : {M : Type 1} → statement M
