@@ -1,0 +1,28 @@
+-- `answers::almanac::of_date` meets its contract. Assumes nothing.
+use Rattle.replies.specs.Replies.{among}
+use Rattle.answers.specs.Almanac.{date_rows}
+use Rattle.answers.proofs.Rows.{other}
+use Rattle.answers.proofs.almanac.of_date.Goals as goal
+
+pub returns-in-5739177235 : goal.returns-in-5739177235
+unfolding among
+returns-in-5739177235 c = rw (c.in-5739177235.is, c.span.ensures, c.sun_events.ensures)
+
+pub returns-in-4756677 : goal.returns-in-4756677
+unfolding among
+returns-in-4756677 c = rw (c.in-4756677.is, c.instant.ensures, c.sunrise.ensures)
+
+pub returns-in-78164 : goal.returns-in-78164
+unfolding among
+returns-in-78164 c = rw (c.in-78164.is, c.instant-in-78164.ensures, c.sunset.ensures)
+
+pub returns-in-972057253121 : goal.returns-in-972057253121
+unfolding among
+returns-in-972057253121 c = rw (c.in-972057253121.is, c.span-in-972057253121.ensures, c.nishita_window.ensures)
+
+pub returns-in-4739140 : goal.returns-in-4739140
+unfolding among
+returns-in-4739140 c = rw (c.in-4739140.is, c.reading-in-4739140.ensures, c.reading.ensures)
+
+pub returns-in_default : goal.returns-in_default
+returns-in_default c = other c.args.tag (date_rows c.args.d) c.in_default.rest

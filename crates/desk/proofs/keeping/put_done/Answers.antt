@@ -1,0 +1,6 @@
+-- The reply, and the state as it was given. Assumes nothing.
+use mathlib.Core.Path.{refl}
+use Rattle.desk.proofs.keeping.put_done.Goals as goal
+
+pub returns : goal.returns
+returns c = (rw (← c.done_of.ensures) c.put.ensures, refl)

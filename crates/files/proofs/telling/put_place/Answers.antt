@@ -1,0 +1,12 @@
+-- `files::telling::put_place` meets its contract. Assumes nothing.
+use Rattle.text.proofs.Writes.{then}
+use Rattle.files.specs.Told.{place_text}
+use Rattle.files.proofs.telling.put_place.Goals as goal
+
+pub returns-then-p : goal.returns-then-p
+unfolding place_text
+returns-then-p c = rw c.if-p.true (then c.put-a.ensures (then c.put-b.ensures c.put_decimal.ensures))
+
+pub returns : goal.returns
+unfolding place_text
+returns c = rw c.if-p.false c.put-a.ensures

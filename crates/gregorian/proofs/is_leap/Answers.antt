@@ -1,0 +1,15 @@
+use Rattle.std.proofs.Common.{eq-eqb, ne_eqb}
+use Rattle.gregorian.specs.Calendar.{leap}
+use Rattle.gregorian.proofs.is_leap.Goals as goal
+
+pub returns-then-y-ne0 : goal.returns-then-y-ne0
+unfolding leap
+returns-then-y-ne0 c = simp (eq-eqb _ _ c.if-y-eq0.true, ne_eqb _ _ c.if-y-ne0.true)
+
+pub returns-else-y-ne0 : goal.returns-else-y-ne0
+unfolding leap
+returns-else-y-ne0 c = simp (eq-eqb _ _ c.if-y-eq0.true, eq-eqb _ _ c.if-y-ne0.false)
+
+pub returns-else-y-eq0 : goal.returns-else-y-eq0
+unfolding leap
+returns-else-y-eq0 c = simp (ne_eqb _ _ c.if-y-eq0.false)

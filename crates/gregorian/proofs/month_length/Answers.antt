@@ -1,0 +1,15 @@
+use Rattle.std.proofs.Common.{sym, ⊎_elim, eq-eqb, ne_eqb}
+use Rattle.gregorian.specs.Calendar.{month_length}
+use Rattle.gregorian.proofs.Months.{no_month}
+use Rattle.gregorian.proofs.month_length.Goals as goal
+
+pub returns-then-m-gt12 : goal.returns-then-m-gt12
+returns-then-m-gt12 c = sym (no_month c.args.l c.args.m c.if-m-gt12.true)
+
+pub returns-then-m-eq2 : goal.returns-then-m-eq2
+unfolding month_length
+returns-then-m-eq2 c = simp (c.if-l.true, eq-eqb _ _ c.if-m-eq2.true)
+
+pub returns : goal.returns
+unfolding month_length
+returns c = ⊎_elim (λ w. simp (w.0.taken, ne_eqb _ _ w.1.left)) (λ w. simp w.left) c.if-l.branch

@@ -1,0 +1,11 @@
+-- `kept::front` meets its contract. Assumes nothing.
+use mathlib.Core.Path.{sym}
+use native.Mathlib.Omega.{arith}
+use lib.Seq.{length-take-le, take_all}
+use Rattle.kept.proofs.front.Goals as goal
+
+pub slice_bounds-result-end : goal.slice_bounds-result-end
+slice_bounds-result-end c = let a = c.args in sym (length-take-le a.n a.list.now (omega arith))
+
+pub returns : goal.returns
+returns c = let a = c.args in sym (take_all a.n a.list.now (omega arith))

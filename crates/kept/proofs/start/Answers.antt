@@ -1,0 +1,25 @@
+-- `kept::start` meets its contract. Assumes nothing.
+use borrow.Author.Tests.{not-true, not-false}
+use mathlib.Core.Path.{refl, sym, ◌∙◌}
+use Rattle.paper.proofs.Answers.{refused_answered}
+use Rattle.kept.specs.Operations.{blank}
+use Rattle.kept.proofs.Records.{made}
+use Rattle.kept.proofs.Goods.{good_blank}
+use Rattle.kept.proofs.Outcomes.{started, not_started, blank_record}
+use Rattle.kept.proofs.start.Goals as goal
+
+pub returns-then-not-can_start : goal.returns-then-not-can_start
+returns-then-not-can_start c =
+    let t = c.args.table in
+    record {
+      answer = not_started t (sym c.can_start.ensures ∙ not-true c.can_start.result c.if-not-can_start.true);
+      is = blank_record t _ c.no_years-store.ensures;
+      ready = λ e. absurd (refused_answered refl e);
+    }
+
+pub returns : goal.returns
+returns c =
+    let t = c.args.table in
+    let g = sym c.can_start.ensures ∙ not-false c.can_start.result c.if-not-can_start.false in
+    let r = blank_record t _ c.no_years-store.ensures in
+    record { answer = started t g; is = r; ready = λ e. made _ (blank t) (good_blank t g) r }

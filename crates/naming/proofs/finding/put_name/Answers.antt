@@ -1,0 +1,35 @@
+-- `naming::finding::put_name` meets its contract. Assumes nothing.
+use native.Mathlib.Omega.{arith}
+use Prim.Native.Nat.{◌-◌, ◌≤◌}
+use mathlib.Core.Path.{sym}
+use lib.ListN.{length, take, drop}
+use lib.Seq.{length-take-le}
+use Rattle.text.proofs.Writes.{wrote_none}
+use Rattle.naming.proofs.Searches.{front_inside, finds_inside, name_none, name_some}
+use Rattle.naming.proofs.finding.put_name.Goals as goal
+
+pub returns-in_default : goal.returns-in_default
+returns-in_default c = let a = c.args in
+    let f = c.find in
+    rw (name_none f.result f.ensures c.in_default.is) (wrote_none a.out.now a.at)
+
+pub slice_bounds-s-count : goal.slice_bounds-s-count
+slice_bounds-s-count c = let f = c.find in omega (arith, (finds_inside f.result f.ensures c.in-Text.is).0)
+
+pub slice_bounds-s-start : goal.slice_bounds-s-start
+slice_bounds-s-start c = let f = c.find in omega (arith, (finds_inside f.result f.ensures c.in-Text.is).0)
+
+pub slice_bounds-s-end : goal.slice_bounds-s-end
+slice_bounds-s-end c = let f = c.find in omega (arith, (finds_inside f.result f.ensures c.in-Text.is).1)
+
+pub slice_bounds-put-end : goal.slice_bounds-put-end
+slice_bounds-put-end c = let n = c.front_length-n in
+    let p = c.from-1.given.0 in
+    let s = take (p.1.0 - p.0) (drop p.0 c.args.file.now) in
+    let h : n.result ≤ length s = omega (arith, front_inside 120 s) in
+    sym (length-take-le n.result s h)
+
+pub returns : goal.returns
+returns c = let f = c.find in
+    let n = c.front_length-n in
+    rw (name_some f.result f.ensures n.result c.in-Text.is n.ensures) c.put.ensures

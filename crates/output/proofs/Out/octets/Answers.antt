@@ -1,0 +1,12 @@
+-- `output::Out::octets` meets its contract. Assumes nothing.
+use mathlib.Core.Path.{refl}
+use native.Mathlib.Omega.{arith}
+use Rattle.output.proofs.Gathering.{one_word, long_word}
+use Rattle.output.proofs.Joins.{length_octets}
+use Rattle.output.proofs.Out.octets.Goals as goal
+
+pub returns-then-list-gt15 : goal.returns-then-list-gt15
+returns-then-list-gt15 c = long_word (omega (arith, length_octets c.args.list.now, c.if-list-gt15.true)) c.space-o.ensures.0 c.space-o.ensures.1 c.join_octets.ensures
+
+pub returns : goal.returns
+returns c = one_word (omega (arith, length_octets c.args.list.now, c.if-list-gt15.false)) c.space-o.ensures.0 c.put_octets.ensures refl

@@ -1,0 +1,10 @@
+-- `output::Out::word` meets its contract. Assumes nothing.
+use mathlib.Core.Path.{refl}
+use Rattle.output.proofs.Gathering.{one_word, long_word}
+use Rattle.output.proofs.Out.word.Goals as goal
+
+pub returns-then-word-gt30 : goal.returns-then-word-gt30
+returns-then-word-gt30 c = long_word c.if-word-gt30.true c.space-o.ensures.0 c.space-o.ensures.1 c.join_all.ensures
+
+pub returns : goal.returns
+returns c = one_word c.if-word-gt30.false c.space-o.ensures.0 c.put.ensures refl

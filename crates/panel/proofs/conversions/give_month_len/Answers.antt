@@ -1,0 +1,10 @@
+use Rattle.panel.proofs.conversions.give_month_len.Goals as goal
+
+pub number-requires : goal.number-requires
+number-requires c = tt
+
+pub returns-in-Days : goal.returns-in-Days
+returns-in-Days c = rw c.in-Days.is
+
+pub returns-in-Refused : goal.returns-in-Refused
+returns-in-Refused c = rw (c.in-Refused.is, c.number.ensures)

@@ -1,0 +1,10 @@
+use Rattle.panel.proofs.dates.give_number.Goals as goal
+
+pub number-requires : goal.number-requires
+number-requires c = tt
+
+pub returns-in-Number : goal.returns-in-Number
+returns-in-Number c = rw c.in-Number.is
+
+pub returns-in-Refused : goal.returns-in-Refused
+returns-in-Refused c = rw (c.in-Refused.is, c.number.ensures)

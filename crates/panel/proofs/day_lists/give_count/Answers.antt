@@ -1,0 +1,10 @@
+use Rattle.panel.proofs.day_lists.give_count.Goals as goal
+
+pub number-requires : goal.number-requires
+number-requires c = tt
+
+pub returns-in-Count : goal.returns-in-Count
+returns-in-Count c = rw c.in-Count.is
+
+pub returns-in-Refused : goal.returns-in-Refused
+returns-in-Refused c = rw (c.in-Refused.is, c.number.ensures)

@@ -1,9 +1,0 @@
-use borrow.Author.Rules.{rules}
-use Rattle.panel.proofs.Handing.{between}
-use Rattle.panel.proofs.day_lists.give_count_or_days.Statement.{statement}
-use Rattle.panel.proofs.day_lists.give_count_or_days.Tie as tie
-
-pub give-count-or-days-spec : {M : Type 1} → statement M
-give-count-or-days-spec =
-    tie.close (tie.spec (λ c. search rules) (λ c. search rules) (λ c κs. tt) (λ c. rw c.before.answer.given.1)
-    (λ c. rw c.before.before.before.before.answer2.given.1 (between _ c.give-days.ensures)))

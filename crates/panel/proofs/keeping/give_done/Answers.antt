@@ -1,0 +1,9 @@
+-- `` meets its contract. Assumes nothing.
+use mathlib.Core.Path.{refl}
+use Rattle.panel.proofs.keeping.give_done.Goals as goal
+
+pub returns-in-Valid : goal.returns-in-Valid
+returns-in-Valid c = rw c.in-Valid.is (refl, c.put.ensures)
+
+pub returns-in-Refused : goal.returns-in-Refused
+returns-in-Refused c = rw c.in-Refused.is (c.number.ensures, refl)

@@ -1,0 +1,10 @@
+use Rattle.panel.proofs.months.give_month.Goals as goal
+
+pub number-requires : goal.number-requires
+number-requires c = tt
+
+pub returns-in-Month : goal.returns-in-Month
+returns-in-Month c = rw c.in-Month.is
+
+pub returns-in-Refused : goal.returns-in-Refused
+returns-in-Refused c = rw (c.in-Refused.is, c.number.ensures)

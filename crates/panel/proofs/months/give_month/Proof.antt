@@ -1,8 +1,0 @@
-use borrow.Author.Rules.{rules}
-use Rattle.panel.proofs.months.give_month.Statement.{statement}
-use Rattle.panel.proofs.months.give_month.Tie as tie
-
-pub give-month-spec : {M : Type 1} → statement M
-give-month-spec =
-    tie.close (tie.spec (λ c. search rules) (λ c. search rules) (λ c κs. tt) (λ c. rw c.before.answer.given.1)
-    (λ c. rw (c.before.before.answer2.given.1, c.number.ensures)))

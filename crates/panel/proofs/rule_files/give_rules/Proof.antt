@@ -1,9 +1,0 @@
-use borrow.Author.Rules.{rules}
-use Rattle.panel.proofs.Handing.{between}
-use Rattle.panel.proofs.rule_files.give_rules.Statement.{statement}
-use Rattle.panel.proofs.rule_files.give_rules.Tie as tie
-
-pub give-rules-spec : {M : Type 1} → statement M
-give-rules-spec =
-    tie.close (tie.spec (λ c. search rules) (λ c. search rules) (λ c κs. tt) (λ c. rw c.before.answer.given.1)
-    (λ c. rw c.before.before.before.answer2.given.1 (between _ c.give-line.ensures)))

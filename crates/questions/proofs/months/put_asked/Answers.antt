@@ -1,0 +1,14 @@
+-- The month as it was given, and both buffers as they then stand. Assumes nothing.
+use Rattle.questions.proofs.months.put_asked.Goals as goal
+
+pub returns : goal.returns
+returns c =
+    rw (
+      ← c.date_of-today.ensures,
+      ← c.small.ensures,
+      ← c.small-2.ensures,
+      ← c.month_grid-a.ensures.0,
+      ← c.month_grid-a.ensures.1.0,
+      ← c.month_grid-a.ensures.1.1,
+    )
+    c.put_shown.ensures

@@ -1,0 +1,12 @@
+use lib.Ieee.{of_bits}
+use Rattle.paper.specs.Floats.{near}
+use Rattle.sky.specs.Search.{crosses}
+use Rattle.sky.proofs.search.is_crossing.Goals as goal
+
+pub returns-then-a : goal.returns-then-a
+unfolding crosses near of_bits
+returns-then-a c = simp c.if-a.true
+
+pub returns : goal.returns
+unfolding crosses near of_bits
+returns c = simp c.if-a.false

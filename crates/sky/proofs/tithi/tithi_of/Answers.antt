@@ -1,0 +1,31 @@
+use mathlib.Core.Path.{◌≡◌, refl}
+use mathlib.Core.Logic.{⊎_elim}
+use Prim.Native.Nat.{◌-◌}
+use native.Mathlib.Omega.{arith}
+use Rattle.sky.specs.Tithi.{twelves, tithi_of}
+use Rattle.sky.proofs.Twelves.{twelves_le, twelves_more, twelves_same}
+use Rattle.sky.proofs.tithi.tithi_of.Goals as goal
+
+pub loop-k-init : goal.loop-k-init
+unfolding twelves
+loop-k-init c = (omega arith, refl)
+
+pub int_to_float-k : goal.int_to_float-k
+int_to_float-k c = tt
+
+pub overflow_add-n : goal.overflow_add-n
+overflow_add-n c = omega (arith, twelves_le c.args.x c.loop-k.k)
+
+pub loop-k-preserved : goal.loop-k-preserved
+loop-k-preserved c =
+    let x = c.args.x in
+    let k = c.loop-k.k in (
+      omega arith,
+      ⊎_elim (λ w. omega (arith, w.1, twelves_more x k w.0.taken)) (λ w. omega (arith, w.1, twelves_same x k w.0.left)) c.if-k-x.branch,
+    )
+
+pub returns : goal.returns
+unfolding tithi_of
+returns c =
+    let e : c.loop-k.k ≡ 29 = omega arith in
+    rw e at c.loop-k.invariant.1

@@ -1,0 +1,10 @@
+-- `spring::answer_new` is proved. Assumes nothing.
+use mathlib.Core.Path.{sym, ◌∙◌}
+use borrow.Author.Tests.{not-false}
+use borrow.Author.Rules.{rules}
+use Rattle.spring.proofs.answer_new.Goals as goal
+
+pub answer_both-requires : goal.answer_both-requires
+answer_both-requires c =
+    let same = c.same_first in
+    ((search rules, sym c.accepts.ensures ∙ c.if-accepts.true), sym same.ensures ∙ not-false same.result c.if-not-same_first.false)

@@ -1,0 +1,63 @@
+-- `text::reading::Cursor::decimal` meets its contract. Assumes nothing.
+use mathlib.Core.Path.{sym, ap, ◌∙◌}
+use native.Mathlib.Omega.{arith}
+use lib.ListN.{drop}
+use lib.Seq.{drop-drop}
+use Rattle.text.specs.Digits.{starts_digit, got}
+use Rattle.text.proofs.Texts.{stands_inside, digit_inside}
+use Rattle.text.proofs.Decimals.{decimal_led, decimal_nought, decimal_scan, decimal_other}
+use borrow.Author.Rules.{rules}
+use Rattle.text.proofs.reading.Cursor.decimal.Goals as goal
+
+pub stands-requires : goal.stands-requires
+stands-requires c = search rules
+
+pub overflow_add-at : goal.overflow_add-at
+overflow_add-at c = let a = c.args in omega (arith, stands_inside 48 a.s.now a.self.at (sym c.stands.ensures ∙ c.if-stands.true))
+
+pub stands_digit-requires : goal.stands_digit-requires
+stands_digit-requires c = search rules
+
+pub returns-then-stands_digit : goal.returns-then-stands_digit
+returns-then-stands_digit c = let a = c.args in
+    let s = a.s.now in
+    let at = a.self.at in
+    record {
+      same = sym (decimal_led a.limit (drop at s) (sym c.stands.ensures ∙ c.if-stands.true) (ap starts_digit (drop-drop 1 at s) ∙ sym c.stands_digit.ensures ∙ c.if-stands_digit.true));
+      inside = omega arith;
+    }
+
+pub overflow_add-result : goal.overflow_add-result
+overflow_add-result c = let a = c.args in omega (arith, stands_inside 48 a.s.now a.self.at (sym c.stands.ensures ∙ c.if-stands.true))
+
+pub returns-then-stands : goal.returns-then-stands
+returns-then-stands c = let a = c.args in
+    let s = a.s.now in
+    let at = a.self.at in
+    let z = sym c.stands.ensures ∙ c.if-stands.true in
+    record {
+      same = ap (got 0) (sym (drop-drop 1 at s)) ∙ sym (decimal_nought a.limit (drop at s) z (ap starts_digit (drop-drop 1 at s) ∙ sym c.stands_digit.ensures ∙ c.if-stands_digit.false));
+      inside = omega (arith, stands_inside 48 s at z);
+    }
+
+pub stands_digit-requires-2 : goal.stands_digit-requires-2
+stands_digit-requires-2 c = search rules
+
+pub read_all-requires : goal.read_all-requires
+read_all-requires c = let a = c.args in omega (arith, digit_inside a.s.now a.self.at (sym c.stands_digit-2.ensures ∙ c.if-stands_digit-2.true))
+
+pub returns-then-stands_digit-2 : goal.returns-then-stands_digit-2
+returns-then-stands_digit-2 c = let a = c.args in
+    let s = a.s.now in
+    let at = a.self.at in
+    record {
+      same = c.read_all.ensures.same ∙ sym (decimal_scan a.limit (drop at s) (sym c.stands.ensures ∙ c.if-stands.false) (sym c.stands_digit-2.ensures ∙ c.if-stands_digit-2.true));
+      inside = c.read_all.ensures.inside;
+    }
+
+pub returns : goal.returns
+returns c = let a = c.args in
+    record {
+      same = sym (decimal_other a.limit (drop a.self.at a.s.now) (sym c.stands.ensures ∙ c.if-stands.false) (sym c.stands_digit-2.ensures ∙ c.if-stands_digit-2.false));
+      inside = omega arith;
+    }

@@ -1,0 +1,20 @@
+-- `text::writing::places` meets its contract: the places so far and those of what is left. Assumes nothing.
+use native.Mathlib.Omega.{arith}
+use Rattle.text.proofs.Decimals.{places_one, places_more}
+use borrow.Author.Rules.{rules}
+use Rattle.text.proofs.writing.places.Goals as goal
+
+pub loop-rest-init : goal.loop-rest-init
+loop-rest-init c = (omega arith, omega arith)
+
+pub overflow_add-k : goal.overflow_add-k
+overflow_add-k c = search rules
+
+pub loop-rest-smaller : goal.loop-rest-smaller
+loop-rest-smaller c = omega arith
+
+pub loop-rest-preserved : goal.loop-rest-preserved
+loop-rest-preserved c = (omega (arith, places_more c.loop-rest.rest c.loop-rest-test.true), omega arith)
+
+pub returns : goal.returns
+returns c = omega (arith, places_one c.loop-rest.rest c.loop-rest-test.false)
