@@ -12,9 +12,6 @@ loop-i-init c = (omega arith, refl)
 pub bounds-s-i : goal.bounds-s-i
 bounds-s-i c = omega arith
 
-pub control-requires : goal.control-requires
-control-requires c = search rules
-
 pub returns-then-control : goal.returns-then-control
 returns-then-control c = let a = c.args in
     let l = c.loop-i in
