@@ -1,10 +1,8 @@
 -- `utf8::sequences::is_utf8` meets its contract: what is left of the text decides. Assumes nothing.
-use Prim.Native.Nat.{◌-◌}
 use mathlib.Core.Path.{refl, ◌∙◌}
 use native.Mathlib.Omega.{arith}
 use Rattle.text.proofs.Texts.{cut, over}
 use Rattle.utf8.proofs.Turns.{comes_end, first_turn, first_not, tail_turn, tail_low, tail_high}
-use borrow.Author.Rules.{rules}
 use Rattle.utf8.proofs.sequences.is_utf8.Goals as goal
 
 pub loop-i-init : goal.loop-i-init
