@@ -28,10 +28,10 @@ pub returns-in_default-read_word : goal.returns-in_default-read_word
 returns-in_default-read_word c = let l = c.loop-at in
     c.out_of_form-in_default-read_word.ensures ∙ left-bad c.args.s.now l.values c.in-Number.tag l.form l.k l.at c.loop-at-test.true (below_most l.k l.invariant.0 c.if-k-eq4096.false)
     (passed_said c.pass.result c.pass.ensures c.in-To.is)
-    (word_unsaid c.read_word.result c.read_word.ensures.0 c.in_default-read_word.is) ∙ l.invariant.2
+    (word_unsaid c.read_word.result c.read_word.ensures.says c.in_default-read_word.is) ∙ l.invariant.2
 
 pub form_with-form-requires : goal.form_with-form-requires
-form_with-form-requires c = let w = c.read_word in word_kind w.result w.ensures.1 c.in-Word.is
+form_with-form-requires c = let w = c.read_word in word_kind w.result w.ensures.result_bound c.in-Word.is
 
 pub slice_bounds-set_at-end : goal.slice_bounds-set_at-end
 slice_bounds-set_at-end c = search rules
@@ -55,7 +55,7 @@ loop-at-preserved c =
           (left_turn c.args.s.now l.values c.in-Number.tag l.form l.k l.at c.loop-at-test.true h
           (record { kind = w.0.0; value = w.0.1.0 }) w.0.1.1.0.at
           (passed_said c.pass.result c.pass.ensures c.in-To.is)
-          (word_said c.read_word.result c.read_word.ensures.0 w.1) ∙ l.invariant.2),
+          (word_said c.read_word.result c.read_word.ensures.says w.1) ∙ l.invariant.2),
     )
 
 pub returns : goal.returns
