@@ -27,9 +27,11 @@ pub put_at-requires : goal.put_at-requires
 put_at-requires c = omega (arith, few_rules c.args.list.now (good-list c), length-replicate {A = ℕ} 2560 0)
 
 pub returns : goal.returns
-returns c = λ w.
+returns c =
+    let good-list : accepted_rules c.args.list.now ≡ true = sym c.accepts_rules.ensures ∙ not-false c.accepts_rules.result c.if-not-accepts_rules.false in
+    λ w.
     let a = c.args in
     let k = a.state in
     let list = a.list.now in
-    let g = good-list c.before.before.before in
+    let g = good-list in
     is_done _ _ _ (taken (held k) list g) (holds_rules k w list _ _ (good_rules (held k) w.good list g) (few_rules list g) c.put_at.ensures c.no_years-store.ensures)

@@ -26,7 +26,10 @@ pub day_of-number-requires : goal.day_of-number-requires
 day_of-number-requires c = (both c).0
 
 pub list_day-requires : goal.list_day-requires
-list_day-requires c = (both c.before.before.before.before.before, sym (said number_says c.in-Number.is c.day_of-number.ensures))
+list_day-requires c =
+    let both : let a = e.args in (accepted a.table a.rows.now ≡ true) × (accepted_rules a.rules.now ≡ true) = let a = e.args in
+    accepted_both (flat a.table a.rows.now) _ (said valid_says e.in-Valid.is e.accept-lent.ensures) in
+    (both, sym (said number_says c.in-Number.is c.day_of-number.ensures))
 
 pub returns-in-Refused : goal.returns-in-Refused
 returns-in-Refused c = λ g.
@@ -36,17 +39,23 @@ returns-in-Refused c = λ g.
     day_behind _ _ _ _ a.rows.now c.if-rows-eq0.false a.out.now (day_not _ _ _ _ _ _ a.out.now e)
 
 pub returns-in-Refused-number : goal.returns-in-Refused-number
-returns-in-Refused-number c = λ g.
+returns-in-Refused-number c =
+    let both : let a = e.args in (accepted a.table a.rows.now ≡ true) × (accepted_rules a.rules.now ≡ true) = let a = e.args in
+    accepted_both (flat a.table a.rows.now) _ (said valid_says e.in-Valid.is e.accept-lent.ensures) in
+    λ g.
     let a = c.args in
     let xs = a.rules.now in
-    let b = both c.before.before.before.before in
+    let b = both in
     let e = bs_refused kathmandu (flat a.table a.rows.now) (rules_of xs) (accepted_rules xs) a.bs.year a.bs.month a.bs.day b.0 b.1 _ (sym (said number_says c.in-Refused-number.is c.day_of-number.ensures)) in
     day_behind _ _ _ _ a.rows.now c.if-rows-eq0.false a.out.now (day_not _ _ _ _ _ _ a.out.now e)
 
 pub returns-in-Number : goal.returns-in-Number
-returns-in-Number c = λ g.
+returns-in-Number c =
+    let both : let a = e.args in (accepted a.table a.rows.now ≡ true) × (accepted_rules a.rules.now ≡ true) = let a = e.args in
+    accepted_both (flat a.table a.rows.now) _ (said valid_says e.in-Valid.is e.accept-lent.ensures) in
+    λ g.
     let a = c.args in
     let xs = a.rules.now in
-    let b = both c.before.before.before.before.before.before.before.before in
+    let b = both in
     let e = bs-list kathmandu (flat a.table a.rows.now) (rules_of xs) (accepted_rules xs) a.bs.year a.bs.month a.bs.day b.0 b.1 _ (sym (said number_says c.in-Number.is c.day_of-number.ensures)) in
     day_behind _ _ _ _ a.rows.now c.if-rows-eq0.false a.out.now (day_by_law a.out.now refl e (c.list_day.ensures g))

@@ -14,7 +14,6 @@ use Rattle.kept.specs.Inner.{Fresh}
 use Rattle.kept.proofs.Stores.{drawn-years}
 use Rattle.kept.proofs.Replies.{dated_in, day_refused, day_counted}
 use Rattle.kept.proofs.asking.list_day.Goals as goal
-use Rattle.kept.proofs.asking.list_day.Goals.{After-drawn_years-years}
 
 pub drawn_years-years-requires : goal.drawn_years-years-requires
 drawn_years-years-requires c = (c.requires.0, dated_in (flat c.args.table c.args.rows.now) _ _ _ _ c.requires.1)
@@ -24,24 +23,24 @@ list_from-answer-requires c =
     let a = c.args in
     (c.requires.0.1, to_numbered a.table a.rows.now a.bs.year a.bs.month a.bs.day a.number c.requires.0.0 c.requires.1)
 
--- the list from the drawn years is the day's list
-its-list : (y : After-drawn_years-years) →
-    let a = y.args in
-    let c = flat a.table a.rows.now in
-    Fresh c a.rules.now a.store → day_list_of c (rules_of a.rules.now) a.bs a.number ≡ list_by (rules_of a.rules.now) (day_numbered a.bs a.number) y.drawn_years-years.result.years
-its-list y g =
-    let a = y.args in
+pub returns-in-Refused : goal.returns-in-Refused
+returns-in-Refused c =
+    let its-list : let a = y.args in let c = flat a.table a.rows.now in Fresh c a.rules.now a.store → day_list_of c (rules_of a.rules.now) a.bs a.number ≡ list_by (rules_of a.rules.now) (day_numbered a.bs a.number) y.drawn_years-years.result.years = λ g. let a = y.args in
     let c = flat a.table a.rows.now in
     let h = to_numbered a.table a.rows.now a.bs.year a.bs.month a.bs.day a.number y.requires.0.0 y.requires.1 in
     let e = ap (λ (s : Store). s.years) (y.drawn_years-years.ensures g) ∙ drawn-years c a.rules.now a.bs.year a.bs.month (dated_in c _ _ _ _ y.requires.1) in
-    drawn_list a.table a.rows.now a.rules.now a.bs a.number y.requires.0.1 h _ e
-
-pub returns-in-Refused : goal.returns-in-Refused
-returns-in-Refused c = λ g.
-    let s = says_by (ap answered (its-list c.before.before.before.before.before.before.before g)) (record { answer = c.list_from-answer.ensures.0; buffer = c.list_from-answer.ensures.1 }) in
+    drawn_list a.table a.rows.now a.rules.now a.bs a.number y.requires.0.1 h _ e in
+    λ g.
+    let s = says_by (ap answered (its-list g)) (record { answer = c.list_from-answer.ensures.0; buffer = c.list_from-answer.ensures.1 }) in
     day_refused _ _ _ _ _ _ _ (said list_says c.in-Refused.is s.answer) s.buffer
 
 pub returns-in-Count : goal.returns-in-Count
-returns-in-Count c = λ g.
-    let s = says_by (ap answered (its-list c.before.before.before.before.before.before.before g)) (record { answer = c.list_from-answer.ensures.0; buffer = c.list_from-answer.ensures.1 }) in
+returns-in-Count c =
+    let its-list : let a = y.args in let c = flat a.table a.rows.now in Fresh c a.rules.now a.store → day_list_of c (rules_of a.rules.now) a.bs a.number ≡ list_by (rules_of a.rules.now) (day_numbered a.bs a.number) y.drawn_years-years.result.years = λ g. let a = y.args in
+    let c = flat a.table a.rows.now in
+    let h = to_numbered a.table a.rows.now a.bs.year a.bs.month a.bs.day a.number y.requires.0.0 y.requires.1 in
+    let e = ap (λ (s : Store). s.years) (y.drawn_years-years.ensures g) ∙ drawn-years c a.rules.now a.bs.year a.bs.month (dated_in c _ _ _ _ y.requires.1) in
+    drawn_list a.table a.rows.now a.rules.now a.bs a.number y.requires.0.1 h _ e in
+    λ g.
+    let s = says_by (ap answered (its-list g)) (record { answer = c.list_from-answer.ensures.0; buffer = c.list_from-answer.ensures.1 }) in
     day_counted _ _ _ _ _ _ _ _ (said list_says c.in-Count.is s.answer) s.buffer (c.drawn_years-years.ensures g)
