@@ -14,7 +14,7 @@ returns-in_default c = let a = c.args in
 
 pub returns-then-not-word_ends : goal.returns-then-not-word_ends
 returns-then-not-word_ends c = let a = c.args in
-    record { same = number-glued (drop a.at a.s.now) (number_said c.decimal.result c.decimal.ensures c.in-Number.is) (sym c.word_ends.ensures ∙ not-true _ c.if-not-word_ends.true); inside = omega arith }
+    record { same = number-glued (drop a.at a.s.now) (number_said c.decimal.result c.decimal.ensures c.in-Number.is) (sym c.word_ends.ensures ∙ c.if-not-word_ends.true); inside = omega arith }
 
 pub past_spaces-requires : goal.past_spaces-requires
 past_spaces-requires c = number_inside c.decimal.result c.decimal.ensures c.in-Number.is
@@ -22,4 +22,4 @@ past_spaces-requires c = number_inside c.decimal.result c.decimal.ensures c.in-N
 pub returns : goal.returns
 returns c = let a = c.args in
     let s = a.s.now in
-    record { same = ap (got c.in-Number.n) c.past_spaces.ensures.1 ∙ number-whole (drop a.at s) (number_said c.decimal.result c.decimal.ensures c.in-Number.is) (sym c.word_ends.ensures ∙ not-false _ c.if-not-word_ends.false); inside = c.past_spaces.ensures.0 }
+    record { same = ap (got c.in-Number.n) c.past_spaces.ensures.1 ∙ number-whole (drop a.at s) (number_said c.decimal.result c.decimal.ensures c.in-Number.is) (sym c.word_ends.ensures ∙ c.if-not-word_ends.false); inside = c.past_spaces.ensures.0 }

@@ -9,11 +9,11 @@ loop-input-init c = (refl, refl, refl, stood_first 50000 (omega arith) c.start-i
 
 pub returns-then-not-is_well : goal.returns-then-not-is_well
 returns-then-not-is_well c = let l = c.loop-input in
-    stood_fault l.invariant.3 l.invariant.4 l.invariant.2 c.next_line-input.ensures c.with_input-q.ensures (sym c.is_well.ensures ∙ not-true _ c.if-not-is_well.true)
+    stood_fault l.invariant.3 l.invariant.4 l.invariant.2 c.next_line-input.ensures c.with_input-q.ensures (sym c.is_well.ensures ∙ c.if-not-is_well.true)
 
 pub loop-input-preserved : goal.loop-input-preserved
 loop-input-preserved c = let l = c.loop-input in
-    let ok = sym c.is_well.ensures ∙ not-false _ c.if-not-is_well.false in
+    let ok = sym c.is_well.ensures ∙ c.if-not-is_well.false in
     (search rules, search rules, search rules, stood_turn l.invariant.3 l.invariant.4 l.invariant.2 c.next_line-input.ensures c.with_input-q.ensures ok, ok)
 
 pub returns : goal.returns

@@ -7,16 +7,16 @@ use Rattle.rulefile.proofs.writing.write_rules.Goals as goal
 pub returns-then-not-accepts_rules : goal.returns-then-not-accepts_rules
 returns-then-not-accepts_rules c =
     let a = c.args in
-    bad_rules a.rules.now a.out.now (sym c.accepts_rules.ensures ∙ not-true _ c.if-not-accepts_rules.true)
+    bad_rules a.rules.now a.out.now (sym c.accepts_rules.ensures ∙ c.if-not-accepts_rules.true)
 
 pub returns-then-not-has_room : goal.returns-then-not-has_room
 returns-then-not-has_room c =
     let a = c.args in
-    too_long a.rules.now a.out.now (sym c.accepts_rules.ensures ∙ not-false _ c.if-not-accepts_rules.false)
-    (sym c.has_room.ensures ∙ not-true _ c.if-not-has_room.true)
+    too_long a.rules.now a.out.now (sym c.accepts_rules.ensures ∙ c.if-not-accepts_rules.false)
+    (sym c.has_room.ensures ∙ c.if-not-has_room.true)
 
 pub returns : goal.returns
 returns c =
     let a = c.args in
-    all-written a.rules.now a.out.now (sym c.accepts_rules.ensures ∙ not-false _ c.if-not-accepts_rules.false)
-    (sym c.has_room.ensures ∙ not-false _ c.if-not-has_room.false) c.put_all_lem.ensures
+    all-written a.rules.now a.out.now (sym c.accepts_rules.ensures ∙ c.if-not-accepts_rules.false)
+    (sym c.has_room.ensures ∙ c.if-not-has_room.false) c.put_all_lem.ensures

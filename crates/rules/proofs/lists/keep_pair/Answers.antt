@@ -6,13 +6,13 @@ use Rattle.rules.proofs.Stores.{store_off, store_same, store_new}
 use Rattle.rules.proofs.lists.keep_pair.Goals as goal
 
 pub returns-then-not-on : goal.returns-then-not-on
-returns-then-not-on c = (store_off _ _ _ _ (not-true _ c.if-not-on.true), search rules)
+returns-then-not-on c = (store_off _ _ _ _ c.if-not-on.true, search rules)
 
 pub returns-then-is_repeat : goal.returns-then-is_repeat
 returns-then-is_repeat c =
-    (store_same _ _ _ _ (not-false _ c.if-not-on.false) (sym c.is_repeat.ensures ∙ c.if-is_repeat.true), search rules)
+    (store_same _ _ _ _ c.if-not-on.false (sym c.is_repeat.ensures ∙ c.if-is_repeat.true), search rules)
 
 pub returns : goal.returns
 returns c =
     let a = c.args in
-    (rw (c.set_at-2.ensures, c.set_at.ensures) (store_new a.on a.buf.now a.s a.name a.holiday (not-false _ c.if-not-on.false) (sym c.is_repeat.ensures ∙ c.if-is_repeat.false)), search rules)
+    (rw (c.set_at-2.ensures, c.set_at.ensures) (store_new a.on a.buf.now a.s a.name a.holiday c.if-not-on.false (sym c.is_repeat.ensures ∙ c.if-is_repeat.false)), search rules)

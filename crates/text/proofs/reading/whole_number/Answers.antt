@@ -30,7 +30,7 @@ at_end-requires c = search rules
 
 pub returns-then-not-at_end : goal.returns-then-not-at_end
 returns-then-not-at_end c = let d = c.decimal in
-    whole-more _ c.args.s.now c.start.result.at c.start.ensures (number_said d.result d.ensures c.in-Number.is) (sym c.at_end.ensures ∙ not-true _ c.if-not-at_end.true)
+    whole-more _ c.args.s.now c.start.result.at c.start.ensures (number_said d.result d.ensures c.in-Number.is) (sym c.at_end.ensures ∙ c.if-not-at_end.true)
 
 pub overflow_cast-result : goal.overflow_cast-result
 overflow_cast-result c = let d = c.decimal in
@@ -40,4 +40,4 @@ overflow_cast-result c = let d = c.decimal in
 
 pub returns : goal.returns
 returns c = let d = c.decimal in
-    whole-all _ c.args.s.now c.start.result.at c.start.ensures (number_said d.result d.ensures c.in-Number.is) (sym c.at_end.ensures ∙ not-false _ c.if-not-at_end.false)
+    whole-all _ c.args.s.now c.start.result.at c.start.ensures (number_said d.result d.ensures c.in-Number.is) (sym c.at_end.ensures ∙ c.if-not-at_end.false)
