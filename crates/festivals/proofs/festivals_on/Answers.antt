@@ -24,10 +24,8 @@ day_of-number-requires c = (both c).0
 
 pub list_day-requires : goal.list_day-requires
 list_day-requires c =
-    let both : let a = e.args in (accepted a.table a.rows.now ≡ true) × (accepted_rules a.rules.now ≡ true) = let a = e.args in
-    accepted_both (flat a.table a.rows.now) _ (said valid_says e.in-Valid.is e.accept-lent.ensures) in
     let a = c.args in
-    let g = both in
+    let g = both c.before.before.before.before.before in
     (g.0, g.1, to_numbered a.table a.rows.now a.year a.month a.day _ g.0 (sym (said number_says c.in-Number.is c.day_of-number.ensures)))
 
 pub returns-in-Refused : goal.returns-in-Refused
@@ -40,22 +38,18 @@ returns-in-Refused c =
 
 pub returns-in-Refused-number : goal.returns-in-Refused-number
 returns-in-Refused-number c =
-    let both : let a = e.args in (accepted a.table a.rows.now ≡ true) × (accepted_rules a.rules.now ≡ true) = let a = e.args in
-    accepted_both (flat a.table a.rows.now) _ (said valid_says e.in-Valid.is e.accept-lent.ensures) in
     let a = c.args in
     let xs = a.rules.now in
-    let g = both in
+    let g = both c.before.before.before.before in
     let e = bs_refused _ (flat a.table a.rows.now) (rules_of xs) (accepted_rules xs) a.year a.month a.day g.0 g.1 _ (sym (said number_says c.in-Refused-number.is c.day_of-number.ensures)) in
     let s = says_by e (says_refused _ a.out.now) in
     (s.answer, s.buffer)
 
 pub returns-in-Number : goal.returns-in-Number
 returns-in-Number c =
-    let both : let a = e.args in (accepted a.table a.rows.now ≡ true) × (accepted_rules a.rules.now ≡ true) = let a = e.args in
-    accepted_both (flat a.table a.rows.now) _ (said valid_says e.in-Valid.is e.accept-lent.ensures) in
     let a = c.args in
     let xs = a.rules.now in
-    let g = both in
+    let g = both c.before.before.before.before.before.before.before.before in
     let e = bs-list _ (flat a.table a.rows.now) (rules_of xs) (accepted_rules xs) a.year a.month a.day g.0 g.1 _ (sym (said number_says c.in-Number.is c.day_of-number.ensures)) in
     let s = says_by e (record { answer = c.list_day.ensures.0; buffer = c.list_day.ensures.1 }) in
     (s.answer, s.buffer)

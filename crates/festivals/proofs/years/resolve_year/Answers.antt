@@ -34,6 +34,15 @@ pub rule_day-requires : goal.rule_day-requires
 rule_day-requires c =
     (good_rule c.args.rules.now c.loop-i.i c.rule_at-r.result c.requires.1 c.loop-i-test.true c.rule_at-r.ensures, c.if-r-ne3.false)
 
+-- the day of the rule that a turn meets, by the lunar months of the year
+met-day : (d : After-rule_day) →
+    let a = d.args in
+    rule_day kathmandu (flat a.table a.rows.now) a.year d.rule_at-r.result ≡ day_is d.rule_day.result
+met-day d =
+    let a = d.args in
+    let good = good_rule a.rules.now d.loop-i.i d.rule_at-r.result d.requires.1 d.loop-i-test.true d.rule_at-r.ensures in
+    rule_day_at _ (flat a.table a.rows.now) a.year d.rule_at-r.result _ _ good d.if-r-ne3.false d.lunar_months-months.ensures d.rule_day.ensures
+
 -- the turn's end, by what it entered
 turned : (d : After-rule_day) (days : List ℕ) →
     let a = d.args in
@@ -45,35 +54,22 @@ turned d days e =
 
 pub loop-i-preserved-in_default : goal.loop-i-preserved-in_default
 loop-i-preserved-in_default c =
-    let met-day : let a = d.args in rule_day kathmandu (flat a.table a.rows.now) a.year d.rule_at-r.result ≡ day_is d.rule_day.result = let a = d.args in
-    let good = good_rule a.rules.now d.loop-i.i d.rule_at-r.result d.requires.1 d.loop-i-test.true d.rule_at-r.ensures in
-    rule_day_at _ (flat a.table a.rows.now) a.year d.rule_at-r.result _ _ good d.if-r-ne3.false d.lunar_months-months.ensures d.rule_day.ensures in
-    turned c.before.before _ (entry_nothing _ _ _ _ _ _ (met-day ∙ ap day_is c.in_default.is))
+    turned c.before.before _ (entry_nothing _ _ _ _ _ _ (met-day c.before.before ∙ ap day_is c.in_default.is))
 
 pub loop-i-preserved-in_default-place : goal.loop-i-preserved-in_default-place
 loop-i-preserved-in_default-place c =
-    let met-day : let a = d.args in rule_day kathmandu (flat a.table a.rows.now) a.year d.rule_at-r.result ≡ day_is d.rule_day.result = let a = d.args in
-    let good = good_rule a.rules.now d.loop-i.i d.rule_at-r.result d.requires.1 d.loop-i-test.true d.rule_at-r.ensures in
-    rule_day_at _ (flat a.table a.rows.now) a.year d.rule_at-r.result _ _ good d.if-r-ne3.false d.lunar_months-months.ensures d.rule_day.ensures in
     let r = not_inside _ c.requires.0 _ c.place.result c.place.ensures c.in_default-place.keys2 in
-    turned c.before.before.before.before.before _ (entry_outside _ _ _ _ _ _ _ r.0 (met-day ∙ ap day_is c.in-Day.is) r.1)
+    turned c.before.before.before.before.before _ (entry_outside _ _ _ _ _ _ _ r.0 (met-day c.before.before.before.before.before ∙ ap day_is c.in-Day.is) r.1)
 
 pub offset_bounds-out-at : goal.offset_bounds-out-at
-offset_bounds-out-at c =
-    let room : f.loop-i.j < 64 = place-left _ _ _ _ _ _ f.loop-i-test.true _ f.rule_at-r.ensures _ _ f.loop-i.invariant f.if-r-ne3.false (good_rules f.args.rules.now f.requires.1).counts.computed_few in
-    omega (arith, room)
+offset_bounds-out-at c = omega (arith, room c.before.before.before.before.before.before.before)
 
 pub bounds-out-at : goal.bounds-out-at
-bounds-out-at c =
-    let room : f.loop-i.j < 64 = place-left _ _ _ _ _ _ f.loop-i-test.true _ f.rule_at-r.ensures _ _ f.loop-i.invariant f.if-r-ne3.false (good_rules f.args.rules.now f.requires.1).counts.computed_few in
-    omega (arith, room)
+bounds-out-at c = omega (arith, room c.before.before.before.before.before.before.before)
 
 pub loop-i-preserved : goal.loop-i-preserved
 loop-i-preserved c =
-    let met-day : let a = d.args in rule_day kathmandu (flat a.table a.rows.now) a.year d.rule_at-r.result ≡ day_is d.rule_day.result = let a = d.args in
-    let good = good_rule a.rules.now d.loop-i.i d.rule_at-r.result d.requires.1 d.loop-i-test.true d.rule_at-r.ensures in
-    rule_day_at _ (flat a.table a.rows.now) a.year d.rule_at-r.result _ _ good d.if-r-ne3.false d.lunar_months-months.ensures d.rule_day.ensures in
-    turned c.before.before.before.before.before.before _ (entry_here _ _ _ _ _ _ _ _ (met-day ∙ ap day_is c.in-Day.is) (inside _ c.requires.0 _ c.place.result c.place.ensures _ c.in-Inside.is))
+    turned c.before.before.before.before.before.before _ (entry_here _ _ _ _ _ _ _ _ (met-day c.before.before.before.before.before.before ∙ ap day_is c.in-Day.is) (inside _ c.requires.0 _ c.place.result c.place.ensures _ c.in-Inside.is))
 
 pub returns : goal.returns
 returns c = let l = c.loop-i in entered_all _ _ _ _ _ l.i l.out.days l.j c.loop-i-test.false l.invariant
