@@ -80,7 +80,7 @@ module _ (key s : List ℕ) where
       module _ {n : ℕ} {v : List ℕ} (numbered : decimal 65535 u ≡ got n v) where
         pub no_feed : past feed v ≡ no → no ≡ line key s
         unfolding line
-        no-feed e = rw (keyed, signed, numbered, e)
+        no_feed e = rw (keyed, signed, numbered, e)
 
         pub is-line : {w : List ℕ} → past feed v ≡ got tt w → got n w ≡ line key s
         unfolding line

@@ -1,7 +1,7 @@
 -- Digits as bytes, both ways. Assumes nothing.
 use Prim.Native.Nat.{ℕ, ◌-◌, ◌≤◌, ◌<◌}
 use mathlib.Core.Path.{◌≡◌, sym, ap, ◌∙◌, subst}
-use mathlib.Core.Bool.{Bool, true, cond, and_false}
+use mathlib.Core.Bool.{Bool, true, cond, and-false}
 use mathlib.Core.Logic.{⊎_elim}
 use native.Mathlib.Omega.{arith}
 use lib.Dec.{T, ltb, eqb, eqb→eq}
@@ -31,18 +31,18 @@ worth_decimal b h l = rw (le-leb 48 b h, le-leb b 57 l)
 
 pub worth_between : (b : ℕ) → 57 < b → b < 97 → worth b ≡ 16
 unfolding worth
-worth_between b h l = rw (lt-leb b 57 h, and_false, lt-leb 97 b l)
+worth_between b h l = rw (lt-leb b 57 h, and-false, lt-leb 97 b l)
 
 pub worth_letter : (b : ℕ) → 97 ≤ b → b ≤ 102 → worth b ≡ b - 87
 unfolding worth
-worth_letter b h l = rw (lt-leb b 57 (omega arith), and_false, le-leb 97 b h, le-leb b 102 l)
+worth_letter b h l = rw (lt-leb b 57 (omega arith), and-false, le-leb 97 b h, le-leb b 102 l)
 
 pub worth_past : (b : ℕ) → 103 ≤ b → worth b ≡ 16
 unfolding worth
 worth_past b h =
     let p = lt-leb b 57 (omega arith) in
     let q = lt-leb b 102 (omega arith) in
-    rw (p, q, and_false, and_false)
+    rw (p, q, and-false, and-false)
 
 -- a byte that is worth a digit is the byte of that digit
 abbrev right_byte : ℕ → Bool

@@ -11,12 +11,16 @@ use Rattle.festivals.proofs.Numbered.{its_number}
 use Rattle.grid.proofs.Grids.{says_refused, says_by}
 use Rattle.grid.proofs.Asked.{not_lent, no_today, by_length}
 use Rattle.grid.proofs.month_grid.Goals as goal
+use Rattle.grid.proofs.month_grid.Goals.{In-Valid}
+
+-- what is lent was accepted
+both : (e : In-Valid) → let a = e.args in (accepted a.table a.rows.now ≡ true) × (accepted_rules a.rules.now ≡ true)
+both e =
+    let a = e.args in
+    accepted_both (flat a.table a.rows.now) _ (said valid_says e.in-Valid.is e.accept-lent.ensures)
 
 pub lay_month-requires : goal.lay_month-requires
-lay_month-requires c =
-    let both : let a = e.args in (accepted a.table a.rows.now ≡ true) × (accepted_rules a.rules.now ≡ true) = let a = e.args in
-    accepted_both (flat a.table a.rows.now) _ (said valid_says e.in-Valid.is e.accept-lent.ensures) in
-    both
+lay_month-requires c = both c.before.before.before.before.before
 
 pub returns-in-Refused : goal.returns-in-Refused
 returns-in-Refused c =
@@ -27,20 +31,16 @@ returns-in-Refused c =
 
 pub returns-in-Refused-number : goal.returns-in-Refused-number
 returns-in-Refused-number c =
-    let both : let a = e.args in (accepted a.table a.rows.now ≡ true) × (accepted_rules a.rules.now ≡ true) = let a = e.args in
-    accepted_both (flat a.table a.rows.now) _ (said valid_says e.in-Valid.is e.accept-lent.ensures) in
     let a = c.args in
-    let g = both in
+    let g = both c.before.before.before.before in
     let e = no_today (flat a.table a.rows.now) _ _ _ _ _ _ _ _ g.0 g.1 _ (said number_says c.in-Refused-number.is c.day_number-number.ensures) in
     let r = says_refused _ _ a.cells.now a.festivals.now e in
     (r.answer, (r.first, r.second))
 
 pub returns-in-Number : goal.returns-in-Number
 returns-in-Number c =
-    let both : let a = e.args in (accepted a.table a.rows.now ≡ true) × (accepted_rules a.rules.now ≡ true) = let a = e.args in
-    accepted_both (flat a.table a.rows.now) _ (said valid_says e.in-Valid.is e.accept-lent.ensures) in
     let a = c.args in
     let q = its_number _ _ (said number_says c.in-Number.is c.day_number-number.ensures) in
-    let e = by_length (flat a.table a.rows.now) _ _ _ _ _ _ _ _ both.1 q.0 in
+    let e = by_length (flat a.table a.rows.now) _ _ _ _ _ _ _ _ (both c.before.before.before.before.before.before.before.before.before.before).1 q.0 in
     let r = says_by e (record { answer = c.lay_month.ensures.0; first = c.lay_month.ensures.1.0; second = c.lay_month.ensures.1.1 }) in
     (r.answer, (r.first, r.second))

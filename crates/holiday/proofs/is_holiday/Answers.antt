@@ -23,10 +23,8 @@ day_of-number-requires c = (both c).0
 
 pub is_free-requires : goal.is_free-requires
 is_free-requires c =
-    let both : let a = e.args in (accepted a.table a.rows.now ≡ true) × (accepted_rules a.rules.now ≡ true) = let a = e.args in
-    accepted_both (flat a.table a.rows.now) _ (said valid_says e.in-Valid.is e.accept-lent.ensures) in
     let a = c.args in
-    let g = both in
+    let g = both c.before.before.before.before in
     (g.0, g.1, to_numbered a.table a.rows.now a.year a.month a.day _ g.0 (sym (said number_says c.in-Number.is c.day_of-number.ensures)))
 
 pub returns-in-Refused : goal.returns-in-Refused
@@ -37,18 +35,14 @@ returns-in-Refused c =
 
 pub returns-in-Refused-number : goal.returns-in-Refused-number
 returns-in-Refused-number c =
-    let both : let a = e.args in (accepted a.table a.rows.now ≡ true) × (accepted_rules a.rules.now ≡ true) = let a = e.args in
-    accepted_both (flat a.table a.rows.now) _ (said valid_says e.in-Valid.is e.accept-lent.ensures) in
     let a = c.args in
     let xs = a.rules.now in
-    let g = both in
+    let g = both c.before.before.before.before in
     sym (no_day_law _ (flat a.table a.rows.now) (rules_of xs) (accepted_rules xs) a.year a.month a.day g.0 g.1 _ (sym (said number_says c.in-Refused-number.is c.day_of-number.ensures)))
 
 pub returns-in-Number : goal.returns-in-Number
 returns-in-Number c =
-    let both : let a = e.args in (accepted a.table a.rows.now ≡ true) × (accepted_rules a.rules.now ≡ true) = let a = e.args in
-    accepted_both (flat a.table a.rows.now) _ (said valid_says e.in-Valid.is e.accept-lent.ensures) in
     let a = c.args in
     let xs = a.rules.now in
-    let g = both in
+    let g = both c.before.before.before.before.before in
     told-on _ (flat a.table a.rows.now) (rules_of xs) (accepted_rules xs) a.year a.month a.day g.0 g.1 _ _ (sym (said number_says c.in-Number.is c.day_of-number.ensures)) c.is_free.ensures

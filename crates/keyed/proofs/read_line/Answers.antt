@@ -2,7 +2,7 @@
 use native.Mathlib.Omega.{arith}
 use Rattle.text.proofs.Said.{passed_said, passed_unsaid, passed_inside, number_said, number_unsaid}
 use Rattle.text.proofs.Decimals.{digits_decimal}
-use Rattle.keyed.proofs.Lines.{no_key, no-equals, no_number, no-feed, is-line}
+use Rattle.keyed.proofs.Lines.{no_key, no-equals, no_number, no_feed, is-line}
 use Rattle.keyed.proofs.read_line.Goals as goal
 
 pub returns-in_default : goal.returns-in_default
@@ -33,7 +33,7 @@ pub returns-in_default-pass-2 : goal.returns-in_default-pass-2
 returns-in_default-pass-2 c =
     let keyed = c.pass in
     record {
-      same = no-feed _ _ (passed_said keyed.result keyed.ensures c.in-To.is)
+      same = no_feed _ _ (passed_said keyed.result keyed.ensures c.in-To.is)
           (passed_said c.pass-2.result c.pass-2.ensures c.in-To-pass.is)
           (number_said c.decimal.result c.decimal.ensures c.in-Number.is)
           (passed_unsaid c.pass-3.result c.pass-3.ensures c.in_default-pass-2.is);

@@ -1,5 +1,4 @@
 -- `rules::accept` meets its contract. Assumes nothing.
-use borrow.Author.Tests.{not-true, not-false}
 use mathlib.Core.Path.{sym, ◌∙◌}
 use Rattle.rules.proofs.Lent.{bad_table, bad_rules, all_good_law}
 use Rattle.rules.proofs.accept.Goals as goal

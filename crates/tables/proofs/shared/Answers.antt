@@ -1,5 +1,5 @@
 -- `tables::shared` meets its contract: the numbers in common so far, and those to come. Assumes nothing.
-use Rattle.std.proofs.Common.{◌-◌, ◌∙◌, zero-add, arith}
+use Rattle.std.proofs.Common.{◌∙◌, zero-add, arith}
 use Rattle.tables.proofs.Turns.{shared_over, shared-short, shared-differs, shared-turn}
 use Rattle.tables.proofs.shared.Goals as goal
 

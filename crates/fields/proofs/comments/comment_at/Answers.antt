@@ -1,6 +1,5 @@
 -- `fields::comments::comment_at` meets its contract: the comment is still to come. Assumes nothing.
 use native.Mathlib.Omega.{arith}
-use Prim.Native.Nat.{◌-◌}
 use mathlib.Core.Path.{refl, ◌∙◌}
 use Rattle.fields.proofs.Said.{comment_over, comment-here, comment-turn}
 use Rattle.fields.proofs.comments.comment_at.Goals as goal

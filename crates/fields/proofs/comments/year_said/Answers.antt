@@ -15,16 +15,13 @@ past_spaces-end-requires c = let w = c.wide in number_inside w.result w.ensures 
 
 pub returns-then-end-s : goal.returns-then-end-s
 returns-then-end-s c = let w = c.wide in
-    let n = c.n-1.given in
-    year-more c.args.s.now c.comment_at-from.ensures.1 n.0.0 n.0.1.0.at c.past_spaces-end.result (number_said w.result w.ensures n.1) c.past_spaces-end.ensures.1 c.if-end-s.true
+    year-more c.args.s.now c.comment_at-from.ensures.1 c.in-Number.n c.in-Number.next.at c.past_spaces-end.result (number_said w.result w.ensures c.in-Number.is) c.past_spaces-end.ensures.1 c.if-end-s.true
 
 pub overflow_cast-result : goal.overflow_cast-result
 overflow_cast-result c = let w = c.wide in
-    let n = c.n-1.given in
     let s = c.args.s.now in
-    omega (arith, (wide_only 4 (omega arith) (drop c.comment_at-from.result s) n.0.0 (drop n.0.1.0.at s) (number_said w.result w.ensures n.1)).0)
+    omega (arith, (wide_only 4 (omega arith) (drop c.comment_at-from.result s) c.in-Number.n (drop c.in-Number.next.at s) (number_said w.result w.ensures c.in-Number.is)).0)
 
 pub returns : goal.returns
 returns c = let w = c.wide in
-    let n = c.n-1.given in
-    year-all c.args.s.now c.comment_at-from.ensures.1 n.0.0 n.0.1.0.at c.past_spaces-end.result (number_said w.result w.ensures n.1) c.past_spaces-end.ensures.1 c.if-end-s.false
+    year-all c.args.s.now c.comment_at-from.ensures.1 c.in-Number.n c.in-Number.next.at c.past_spaces-end.result (number_said w.result w.ensures c.in-Number.is) c.past_spaces-end.ensures.1 c.if-end-s.false

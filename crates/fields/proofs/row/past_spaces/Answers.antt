@@ -1,6 +1,5 @@
 -- `fields::row::past_spaces` meets its contract: what is left to skip. Assumes nothing.
 use native.Mathlib.Omega.{arith}
-use Prim.Native.Nat.{◌-◌}
 use mathlib.Core.Path.{refl, ◌∙◌}
 use Rattle.fields.proofs.Rows.{skip_over, skip_stop, skip-turn}
 use Rattle.fields.proofs.row.past_spaces.Goals as goal

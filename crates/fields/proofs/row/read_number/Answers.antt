@@ -5,7 +5,6 @@ use lib.ListN.{drop}
 use Rattle.text.specs.Digits.{got}
 use Rattle.text.proofs.Said.{number_said, number_inside, number_unsaid}
 use Rattle.fields.proofs.Rows.{number_none, number-glued, number-whole}
-use borrow.Author.Tests.{not-true, not-false}
 use Rattle.fields.proofs.row.read_number.Goals as goal
 
 pub returns-in_default : goal.returns-in_default

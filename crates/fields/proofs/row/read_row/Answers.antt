@@ -1,11 +1,9 @@
 -- `fields::row::read_row` meets its contract: the numbers so far, and those to come. Assumes nothing.
 use native.Mathlib.Omega.{arith}
-use Prim.Native.Nat.{◌-◌}
 use mathlib.Core.Path.{refl, sym, ◌∙◌}
 use lib.ListN.{length-set, drop}
 use Rattle.text.proofs.Said.{number_said, number_unsaid}
 use Rattle.fields.proofs.Rows.{left_first, left_over, left-full, left-bad, left_turn, number_small, below_thirteen}
-use borrow.Author.Tests.{not-true, not-false}
 use Rattle.fields.proofs.row.read_row.Goals as goal
 
 pub past_spaces-at-requires : goal.past_spaces-at-requires
@@ -16,11 +14,11 @@ loop-values-init c = (omega arith, refl, left_first c.args.s.now c.past_spaces-a
 
 pub returns-then-k-eq13 : goal.returns-then-k-eq13
 returns-then-k-eq13 c = let l = c.loop-values in
-    c.faulty.ensures ∙ left-full c.args.s.now l.values l.k l.at (sym c.ends.ensures ∙ not-true _ c.loop-values-test.true) c.if-k-eq13.true ∙ l.invariant.2
+    c.faulty.ensures ∙ left-full c.args.s.now l.values l.k l.at (sym c.ends.ensures ∙ c.loop-values-test.true) c.if-k-eq13.true ∙ l.invariant.2
 
 pub returns-in_default : goal.returns-in_default
 returns-in_default c = let l = c.loop-values in
-    c.faulty-in_default.ensures ∙ left-bad c.args.s.now l.values l.k l.at (sym c.ends.ensures ∙ not-true _ c.loop-values-test.true) (below_thirteen l.k l.invariant.0 c.if-k-eq13.false) (number_unsaid c.read_number.result c.read_number.ensures c.in_default.is) ∙ l.invariant.2
+    c.faulty-in_default.ensures ∙ left-bad c.args.s.now l.values l.k l.at (sym c.ends.ensures ∙ c.loop-values-test.true) (below_thirteen l.k l.invariant.0 c.if-k-eq13.false) (number_unsaid c.read_number.result c.read_number.ensures c.in_default.is) ∙ l.invariant.2
 
 pub overflow_cast-values : goal.overflow_cast-values
 overflow_cast-values c = let l = c.loop-values in
@@ -41,7 +39,7 @@ loop-values-smaller c = let l = c.loop-values in omega (arith, below_thirteen l.
 pub loop-values-preserved : goal.loop-values-preserved
 loop-values-preserved c = let l = c.loop-values in
     let h = below_thirteen l.k l.invariant.0 c.if-k-eq13.false in
-    (omega arith, simp length-set l.invariant.1, left_turn c.args.s.now l.values l.k l.at (sym c.ends.ensures ∙ not-true _ c.loop-values-test.true) h c.in-Number.n c.in-Number.next.at (number_said c.read_number.result c.read_number.ensures c.in-Number.is) ∙ l.invariant.2)
+    (omega arith, simp length-set l.invariant.1, left_turn c.args.s.now l.values l.k l.at (sym c.ends.ensures ∙ c.loop-values-test.true) h c.in-Number.n c.in-Number.next.at (number_said c.read_number.result c.read_number.ensures c.in-Number.is) ∙ l.invariant.2)
 
 pub returns : goal.returns
-returns c = let l = c.loop-values in left_over c.args.s.now l.values l.k l.at (sym c.ends.ensures ∙ not-false _ c.loop-values-test.false) ∙ l.invariant.2
+returns c = let l = c.loop-values in left_over c.args.s.now l.values l.k l.at (sym c.ends.ensures ∙ c.loop-values-test.false) ∙ l.invariant.2

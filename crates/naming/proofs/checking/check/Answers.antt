@@ -1,6 +1,5 @@
 -- `naming::checking::check` meets its contract: what is told of the lines to come. Assumes nothing.
 use native.Mathlib.Omega.{arith}
-use Prim.Native.Nat.{◌-◌}
 use mathlib.Core.Path.{sym, ◌∙◌}
 use Rattle.naming.proofs.Splits.{line_at_law}
 use Rattle.naming.proofs.Checks.{check_marked, check_first, check_over, check_wrong, check-unfed, check-turn}
@@ -33,15 +32,13 @@ slice_bounds-judge-end c = let l = c.loop-at in
 pub returns-in-Wrong : goal.returns-in-Wrong
 returns-in-Wrong c = let l = c.loop-at in
     let e = c.line_end-end in
-    let f = c.fault-1.given in
-    check_wrong c.args.file.now l.at e.result l.line l.least c.loop-at-test.true e.ensures f.0.0 (sym f.1 ∙ c.judge.ensures) ∙ l.invariant.2
+    check_wrong c.args.file.now l.at e.result l.line l.least c.loop-at-test.true e.ensures c.in-Wrong.fault (sym c.in-Wrong.is ∙ c.judge.ensures) ∙ l.invariant.2
 
 pub returns-then-end-file : goal.returns-then-end-file
-returns-then-end-file c = let n = c.number-1.given in
-    let l = c.loop-at in
+returns-then-end-file c = let l = c.loop-at in
     let e = c.line_end-end in
     let r = line_at_law c.args.file.now l.at e.result (omega arith) e.ensures in
-    check-unfed c.args.file.now l.at e.result l.line l.least c.loop-at-test.true e.ensures n.0.0 (sym n.1 ∙ c.judge.ensures) (omega arith) ∙ l.invariant.2
+    check-unfed c.args.file.now l.at e.result l.line l.least c.loop-at-test.true e.ensures c.in-Name.number (sym c.in-Name.is ∙ c.judge.ensures) (omega arith) ∙ l.invariant.2
 
 pub overflow_add-at : goal.overflow_add-at
 overflow_add-at c = let l = c.loop-at in
@@ -56,12 +53,11 @@ loop-at-smaller c = let l = c.loop-at in
     omega arith
 
 pub loop-at-preserved : goal.loop-at-preserved
-loop-at-preserved c = let n = c.number-1.given in
-    let u = c.if-end-file.false in
+loop-at-preserved c = let u = c.if-end-file.false in
     let l = c.loop-at in
     let e = c.line_end-end in
     let r = line_at_law c.args.file.now l.at e.result (omega arith) e.ensures in
-    (omega arith, omega arith, check-turn c.args.file.now l.at e.result l.line l.least c.loop-at-test.true e.ensures n.0.0 (sym n.1 ∙ c.judge.ensures) (omega arith) ∙ l.invariant.2)
+    (omega arith, omega arith, check-turn c.args.file.now l.at e.result l.line l.least c.loop-at-test.true e.ensures c.in-Name.number (sym c.in-Name.is ∙ c.judge.ensures) (omega arith) ∙ l.invariant.2)
 
 pub returns : goal.returns
 returns c = let l = c.loop-at in check_over c.args.file.now l.at l.line l.least c.loop-at-test.false ∙ l.invariant.2

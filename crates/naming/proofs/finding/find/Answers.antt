@@ -55,15 +55,14 @@ overflow_add-result c = let t = c.text_in in
 
 pub returns-in-loop-at : goal.returns-in-loop-at
 returns-in-loop-at c = let a = c.args in
-    let k = c.k-1.given in
     let t = c.text_in in
-    let i = begins_inside t.result t.ensures k.1 in
+    let i = begins_inside t.result t.ensures c.in-At.is in
     let l = c.loop-at in
     let e = c.line_end-end in
     let r = line_at_law c.args.file.now l.at e.result (omega arith) e.ensures in
     record {
-      same = ap some (find_place a.file.now a.number l.at e.result (omega arith) e.ensures k.0.0 i)
-          ∙ find_here a.file.now a.number l.at e.result (omega arith) e.ensures (drop k.0.0 (line_at a.file.now l.at e.result)) (begins_at t.result t.ensures k.1) ∙ l.invariant;
+      same = ap some (find_place a.file.now a.number l.at e.result (omega arith) e.ensures c.in-At.k i)
+          ∙ find_here a.file.now a.number l.at e.result (omega arith) e.ensures (drop c.in-At.k (line_at a.file.now l.at e.result)) (begins_at t.result t.ensures c.in-At.is) ∙ l.invariant;
       inside = (omega (arith, length-take (e.result - l.at) (drop l.at a.file.now)), omega arith);
     }
 

@@ -24,8 +24,7 @@ slice_bounds-s-end c = let f = c.find in omega (arith, (finds_inside f.result f.
 
 pub slice_bounds-put-end : goal.slice_bounds-put-end
 slice_bounds-put-end c = let n = c.front_length-n in
-    let p = c.from-1.given.0 in
-    let s = take (p.1.0 - p.0) (drop p.0 c.args.file.now) in
+    let s = take (c.in-Text.to - c.in-Text.from) (drop c.in-Text.from c.args.file.now) in
     let h : n.result ≤ length s = omega (arith, front_inside 120 s) in
     sym (length-take-le n.result s h)
 

@@ -14,14 +14,12 @@ returns-in_default c = let a = c.args in
 pub returns-then-n-number : goal.returns-then-n-number
 returns-then-n-number c = let a = c.args in
     let h = c.headed in
-    let n = c.n-1.given in
     record {
-      same = sym (text_here a.number a.s.now none (number_said h.result h.ensures n.1) (eq-eqb n.0.0 a.number c.if-n-number.true));
-      inside = number_inside h.result h.ensures n.1;
+      same = sym (text_here a.number a.s.now none (number_said h.result h.ensures c.in-Number.is) (eq-eqb c.in-Number.n a.number c.if-n-number.true));
+      inside = number_inside h.result h.ensures c.in-Number.is;
     }
 
 pub returns : goal.returns
 returns c = let a = c.args in
     let h = c.headed in
-    let n = c.n-1.given in
-    record { same = sym (text_differs a.number a.s.now none (number_said h.result h.ensures n.1) (ne_eqb n.0.0 a.number c.if-n-number.false)); inside = tt }
+    record { same = sym (text_differs a.number a.s.now none (number_said h.result h.ensures c.in-Number.is) (ne_eqb c.in-Number.n a.number c.if-n-number.false)); inside = tt }

@@ -21,8 +21,7 @@ returns-then-n-least c = let a = c.args in
 pub overflow_cast-n : goal.overflow_cast-n
 overflow_cast-n c = let s = c.args.s.now in
     let h = c.headed in
-    let n = c.n-1.given in
-    omega (arith, (headed_only s n.0.0 (drop n.0.1.0.at s) (number_said h.result h.ensures n.1)).most)
+    omega (arith, (headed_only s c.in-Number.n (drop c.in-Number.next.at s) (number_said h.result h.ensures c.in-Number.is)).most)
 
 pub slice_bounds-judge_text-count : goal.slice_bounds-judge_text-count
 slice_bounds-judge_text-count c = let h = c.headed in omega (arith, number_inside h.result h.ensures c.in-Number.is)
@@ -33,5 +32,4 @@ slice_bounds-judge_text-start c = let h = c.headed in omega (arith, number_insid
 pub returns : goal.returns
 returns c = let a = c.args in
     let h = c.headed in
-    let n = c.n-1.given in
-    c.judge_text.ensures ∙ line_part a.least a.s.now n.0.0 n.0.1.0.at (number_said h.result h.ensures n.1) c.if-n-least.false
+    c.judge_text.ensures ∙ line_part a.least a.s.now c.in-Number.n c.in-Number.next.at (number_said h.result h.ensures c.in-Number.is) c.if-n-least.false

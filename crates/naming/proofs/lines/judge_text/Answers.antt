@@ -5,7 +5,6 @@ use mathlib.Core.Option.{Option}
 use Rattle.utf8.specs.Controls.{found_says}
 use Rattle.naming.specs.Names.{cleared, line_of}
 use Rattle.naming.proofs.Judges.{ends_empty, ends_filled, text_empty, text_other, text_cleared}
-use borrow.Author.Tests.{not-true, not-false}
 use Rattle.naming.proofs.lines.judge_text.Goals as goal
 
 pub returns-then-s-eq0 : goal.returns-then-s-eq0

@@ -1,5 +1,4 @@
 -- `naming::lines::line_end` meets its contract: what is left of the line follows the place reached. Assumes nothing.
-use Prim.Native.Nat.{◌-◌}
 use mathlib.Core.Path.{refl}
 use native.Mathlib.Omega.{arith}
 use Rattle.naming.proofs.Splits.{line_over, line_feed, line_turn}

@@ -1,21 +1,14 @@
 -- `text::keeping::fill` meets its contract: what is left of the line and the piece is what there was at first. Assumes nothing.
-use Prim.Native.Nat.{◌+◌, ◌-◌}
+use Prim.Native.Nat.{◌+◌}
 use mathlib.Core.Path.{refl, ap, ◌∙◌}
 use native.Mathlib.Omega.{arith}
 use lib.ListN.{length, get_or, drop}
 use Rattle.text.specs.Kept.{Current, holds, line}
 use Rattle.text.proofs.Lines.{line_over, line_feed, line_turn}
-use borrow.Author.Rules.{rules}
 use Rattle.text.proofs.keeping.fill.Goals as goal
 
 pub loop-i-init : goal.loop-i-init
 loop-i-init c = (refl, λ h. h, refl)
-
-pub bounds-piece-i : goal.bounds-piece-i
-bounds-piece-i c = search rules
-
-pub overflow_add-result : goal.overflow_add-result
-overflow_add-result c = search rules
 
 pub shape_of-buffer-then-b-eq10 : goal.shape_of-buffer-then-b-eq10
 shape_of-buffer-then-b-eq10 c = c.loop-i.invariant.0
@@ -28,15 +21,6 @@ returns-then-b-eq10 c = let a = c.args in
       inside = l.invariant.1;
       next = omega arith;
     }
-
-pub push-held-requires : goal.push-held-requires
-push-held-requires c = search rules
-
-pub overflow_add-i : goal.overflow_add-i
-overflow_add-i c = search rules
-
-pub loop-i-smaller : goal.loop-i-smaller
-loop-i-smaller c = search rules
 
 pub loop-i-preserved : goal.loop-i-preserved
 loop-i-preserved c = let a = c.args in

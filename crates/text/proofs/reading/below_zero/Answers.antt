@@ -3,11 +3,7 @@ use lib.IntN.{negsuc}
 use mir.Syntax.{w32}
 use mir.ValLaws.{to_z-of_z}
 use Rattle.text.proofs.Signs.{word_fits, below_zero_is}
-use borrow.Author.Rules.{rules}
 use Rattle.text.proofs.reading.below_zero.Goals as goal
-
-pub overflow_cast-result : goal.overflow_cast-result
-overflow_cast-result c = search rules
 
 pub overflow_sub-result : goal.overflow_sub-result
 overflow_sub-result c = rw (below_zero_is c.args.n c.requires) (word_fits (negsuc c.args.n) c.requires)

@@ -1,21 +1,14 @@
 -- `text::reading::read_all` meets its contract: the number so far and what is left of the text. Assumes nothing.
-use Prim.Native.Nat.{◌+◌, ◌-◌, ◌*◌, ◌≤◌, ◌<◌}
+use Prim.Native.Nat.{◌+◌, ◌*◌, ◌≤◌, ◌<◌}
 use mathlib.Core.Path.{refl, ◌∙◌}
 use native.Mathlib.Omega.{arith}
 use lib.ListN.{get_or}
 use Rattle.text.specs.Digits.{worth}
 use Rattle.text.proofs.Turns.{scan_over, scan_stop, scan_large, scan_turn}
-use borrow.Author.Rules.{rules}
 use Rattle.text.proofs.reading.read_all.Goals as goal
 
 pub loop-i-init : goal.loop-i-init
 loop-i-init c = (omega arith, omega arith, refl)
-
-pub bounds-s-i : goal.bounds-s-i
-bounds-s-i c = search rules
-
-pub worth-d-requires : goal.worth-d-requires
-worth-d-requires c = search rules
 
 pub returns-then-d-ge10 : goal.returns-then-d-ge10
 returns-then-d-ge10 c = let a = c.args in
@@ -57,12 +50,6 @@ overflow_mul-v-in-loop-i c = omega arith
 
 pub overflow_add-v : goal.overflow_add-v
 overflow_add-v c = omega arith
-
-pub overflow_add-i : goal.overflow_add-i
-overflow_add-i c = search rules
-
-pub loop-i-smaller : goal.loop-i-smaller
-loop-i-smaller c = search rules
 
 pub loop-i-preserved : goal.loop-i-preserved
 loop-i-preserved c = let a = c.args in

@@ -4,11 +4,7 @@ use mathlib.Core.Path.{ap, ◌∙◌}
 use native.Mathlib.Omega.{arith}
 use Rattle.text.specs.Digits.{fixed}
 use Rattle.text.proofs.Turns.{fixed_over, fixed_stop, fixed_turn, fixed_done, room_turn, room_small}
-use borrow.Author.Rules.{rules}
 use Rattle.text.proofs.reading.read_fixed.Goals as goal
-
-pub within-i-requires : goal.within-i-requires
-within-i-requires c = search rules
 
 pub loop-left-init : goal.loop-left-init
 loop-left-init c = let a = c.args in (c.within-i.ensures.0, omega arith, ap (fixed a.base a.k 0) c.within-i.ensures.1)
@@ -20,12 +16,6 @@ returns-then-s-i c = let a = c.args in
       same = fixed_over a.s.now a.base l.i l.v l.left c.if-s-i.true c.loop-left-test.true ∙ l.invariant.2;
       inside = omega arith;
     }
-
-pub bounds-s-i : goal.bounds-s-i
-bounds-s-i c = search rules
-
-pub worth-d-requires : goal.worth-d-requires
-worth-d-requires c = search rules
 
 pub returns-then-base-d : goal.returns-then-base-d
 returns-then-base-d c = let a = c.args in
@@ -47,15 +37,6 @@ overflow_add-v c = let a = c.args in
     let l = c.loop-left in
     let r = room_turn l.v c.worth-d.result a.base l.left (2 ^ 64) c.if-base-d.false c.loop-left-test.true l.invariant.1 in
     omega (arith, room_small (l.v * a.base + c.worth-d.result) a.base (l.left - 1) (2 ^ 64) c.requires.0 r)
-
-pub overflow_add-i : goal.overflow_add-i
-overflow_add-i c = search rules
-
-pub overflow_sub-left : goal.overflow_sub-left
-overflow_sub-left c = search rules
-
-pub loop-left-smaller : goal.loop-left-smaller
-loop-left-smaller c = search rules
 
 pub loop-left-preserved : goal.loop-left-preserved
 loop-left-preserved c = let a = c.args in

@@ -1,10 +1,6 @@
 -- `text::reading::stands` meets its contract. Assumes nothing.
 use Rattle.text.proofs.Texts.{cut, over}
-use borrow.Author.Rules.{rules}
 use Rattle.text.proofs.reading.stands.Goals as goal
-
-pub bounds-s-at : goal.bounds-s-at
-bounds-s-at c = search rules
 
 pub returns-then-at-s : goal.returns-then-at-s
 returns-then-at-s c = let a = c.args in rw (cut a.s.now a.at c.if-at-s.true)

@@ -4,52 +4,21 @@ use native.Mathlib.Omega.{arith}
 use lib.ListN.{drop}
 use Rattle.text.proofs.Said.{number_said, number_unsaid}
 use Rattle.text.proofs.Dashes.{no_first, no_second, no_third, all_three, more-after, number_small, next_small}
-use borrow.Author.Rules.{rules}
 use Rattle.text.proofs.triples.dashed.Goals as goal
-
-pub read_number-requires : goal.read_number-requires
-read_number-requires c = search rules
-
-pub enum_known-y : goal.enum_known-y
-enum_known-y c = search rules
-
-pub enum_told-1 : goal.enum_told-1
-enum_told-1 c = search rules
 
 pub returns-in_default : goal.returns-in_default
 returns-in_default c = let a = c.args in
     no_first a.«first» a.others (drop a.c.at a.s.now) (number_unsaid c.read_number.result c.read_number.ensures c.in_default.is)
-
-pub read_next-requires : goal.read_next-requires
-read_next-requires c = search rules
-
-pub enum_known-m : goal.enum_known-m
-enum_known-m c = search rules
-
-pub enum_told-in_default-read_next : goal.enum_told-in_default-read_next
-enum_told-in_default-read_next c = search rules
 
 pub returns-in_default-read_next : goal.returns-in_default-read_next
 returns-in_default-read_next c = let a = c.args in
     no_second a.«first» a.others (drop a.c.at a.s.now) (number_said c.read_number.result c.read_number.ensures c.in-Number.is)
     (number_unsaid c.read_next.result c.read_next.ensures c.in_default-read_next.is)
 
-pub read_next-requires-2 : goal.read_next-requires-2
-read_next-requires-2 c = search rules
-
-pub enum_known-d : goal.enum_known-d
-enum_known-d c = search rules
-
-pub enum_told-in_default-read_next-2 : goal.enum_told-in_default-read_next-2
-enum_told-in_default-read_next-2 c = search rules
-
 pub returns-in_default-read_next-2 : goal.returns-in_default-read_next-2
 returns-in_default-read_next-2 c = let a = c.args in
     no_third a.«first» a.others (drop a.c.at a.s.now) (number_said c.read_number.result c.read_number.ensures c.in-Number.is)
     (number_said c.read_next.result c.read_next.ensures c.in-Number-read_next.is) (number_unsaid c.read_next-2.result c.read_next-2.ensures c.in_default-read_next-2.is)
-
-pub at_end-requires : goal.at_end-requires
-at_end-requires c = search rules
 
 pub overflow_cast-result : goal.overflow_cast-result
 overflow_cast-result c = let a = c.args in omega (arith, number_small a.«first» _ _ _ (number_said c.read_number.result c.read_number.ensures c.in-Number.is))

@@ -4,27 +4,11 @@ use native.Mathlib.Omega.{arith}
 use lib.ListN.{drop}
 use Rattle.text.proofs.Said.{passed_said, passed_unsaid}
 use Rattle.text.proofs.Dashes.{next_said, next_none}
-use borrow.Author.Rules.{rules}
 use Rattle.text.proofs.triples.read_next.Goals as goal
-
-slice-aggregate-pass : tie.Need-slice-aggregate-pass
-slice-aggregate-pass c = search rules
-
-pub pass-requires : goal.pass-requires
-pass-requires c = search rules
-
-pub enum_known-d : goal.enum_known-d
-enum_known-d c = search rules
-
-pub enum_told-1 : goal.enum_told-1
-enum_told-1 c = search rules
 
 pub returns-in_default : goal.returns-in_default
 returns-in_default c = let a = c.args in
     record { same = next_none a.width (drop a.c.at a.s.now) (passed_unsaid c.pass.result c.pass.ensures c.in_default.is); inside = omega arith }
-
-pub read_number-requires : goal.read_number-requires
-read_number-requires c = search rules
 
 pub returns : goal.returns
 returns c = let a = c.args in

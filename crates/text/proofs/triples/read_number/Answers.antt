@@ -3,18 +3,11 @@ use mathlib.Core.Path.{sym, ◌∙◌}
 use native.Mathlib.Omega.{arith}
 use lib.ListN.{drop}
 use Rattle.text.proofs.Dashes.{number_decimal, number_wide, number_none}
-use borrow.Author.Rules.{rules}
 use Rattle.text.proofs.triples.read_number.Goals as goal
-
-pub decimal-requires : goal.decimal-requires
-decimal-requires c = search rules
 
 pub returns-then-width-eq0 : goal.returns-then-width-eq0
 returns-then-width-eq0 c = let a = c.args in
     record { same = c.decimal.ensures.same ∙ sym (number_decimal a.width (drop a.c.at a.s.now) c.if-width-eq0.true); inside = c.decimal.ensures.inside }
-
-pub wide-requires : goal.wide-requires
-wide-requires c = search rules
 
 pub returns-then-width-le4 : goal.returns-then-width-le4
 returns-then-width-le4 c = let a = c.args in

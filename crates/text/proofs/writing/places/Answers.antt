@@ -1,14 +1,10 @@
 -- `text::writing::places` meets its contract: the places so far and those of what is left. Assumes nothing.
 use native.Mathlib.Omega.{arith}
 use Rattle.text.proofs.Decimals.{places_one, places_more}
-use borrow.Author.Rules.{rules}
 use Rattle.text.proofs.writing.places.Goals as goal
 
 pub loop-rest-init : goal.loop-rest-init
 loop-rest-init c = (omega arith, omega arith)
-
-pub overflow_add-k : goal.overflow_add-k
-overflow_add-k c = search rules
 
 pub loop-rest-smaller : goal.loop-rest-smaller
 loop-rest-smaller c = omega arith

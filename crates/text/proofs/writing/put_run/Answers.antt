@@ -7,7 +7,6 @@ use Rattle.paper.proofs.Stores.{sets_past}
 use Rattle.text.specs.Digits.{run}
 use Rattle.text.proofs.Runs.{length_run}
 use Rattle.text.proofs.Turns.{run_turn, run_done}
-use borrow.Author.Rules.{rules}
 use Rattle.text.proofs.writing.put_run.Goals as goal
 
 pub returns-then-out-at : goal.returns-then-out-at
@@ -28,9 +27,6 @@ nonzero_rem-rest c = omega arith
 
 pub mark-requires : goal.mark-requires
 mark-requires c = omega (arith, mod-lt c.loop-left.rest c.requires.0)
-
-pub store-requires : goal.store-requires
-store-requires c = search rules
 
 pub nonzero_div-rest : goal.nonzero_div-rest
 nonzero_div-rest c = omega arith

@@ -1,9 +1,7 @@
 -- `utf8::controls::first_control` meets its contract: what is left of the text decides. Assumes nothing.
-use Prim.Native.Nat.{◌-◌}
 use mathlib.Core.Path.{refl, sym, ◌∙◌}
 use native.Mathlib.Omega.{arith}
 use Rattle.utf8.proofs.Turns.{control_none, control_here, control_turn}
-use borrow.Author.Rules.{rules}
 use Rattle.utf8.proofs.controls.first_control.Goals as goal
 
 pub loop-i-init : goal.loop-i-init
@@ -11,9 +9,6 @@ loop-i-init c = (omega arith, refl)
 
 pub bounds-s-i : goal.bounds-s-i
 bounds-s-i c = omega arith
-
-pub control-requires : goal.control-requires
-control-requires c = search rules
 
 pub returns-then-control : goal.returns-then-control
 returns-then-control c = let a = c.args in

@@ -1,5 +1,4 @@
 -- `utf8::fronts::front_length` meets its contract: what is left of the front follows the place reached. Assumes nothing.
-use Prim.Native.Nat.{◌-◌}
 use mathlib.Core.Path.{sym, ◌∙◌}
 use native.Mathlib.Omega.{arith}
 use Rattle.utf8.proofs.Cuts.{front_over, front-on, front-stop, front-first}

@@ -1,10 +1,8 @@
 -- `utf8::sequences::is_utf8` meets its contract: what is left of the text decides. Assumes nothing.
-use Prim.Native.Nat.{◌-◌}
 use mathlib.Core.Path.{refl, ◌∙◌}
 use native.Mathlib.Omega.{arith}
 use Rattle.text.proofs.Texts.{cut, over}
 use Rattle.utf8.proofs.Turns.{comes_end, first_turn, first_not, tail_turn, tail_low, tail_high}
-use borrow.Author.Rules.{rules}
 use Rattle.utf8.proofs.sequences.is_utf8.Goals as goal
 
 pub loop-i-init : goal.loop-i-init
@@ -16,19 +14,10 @@ bounds-s-i c = omega arith
 pub overflow_add-i : goal.overflow_add-i
 overflow_add-i c = omega arith
 
-pub follow-left-requires : goal.follow-left-requires
-follow-left-requires c = search rules
-
 pub returns-then-left-gt3 : goal.returns-then-left-gt3
 returns-then-left-gt3 c = let l = c.loop-i in
     let e = c.follow-left.ensures in
     first_not _ _ l.left l.least l.most _ (cut c.args.s.now l.i c.loop-i-test.true) c.if-left-eq0.true (omega arith) ∙ l.invariant.1
-
-pub low-least-requires : goal.low-least-requires
-low-least-requires c = search rules
-
-pub high-most-requires : goal.high-most-requires
-high-most-requires c = search rules
 
 pub loop-i-smaller-then-left-eq0 : goal.loop-i-smaller-then-left-eq0
 loop-i-smaller-then-left-eq0 c = omega arith

@@ -6,17 +6,10 @@ use lib.Seq.{drop-drop}
 use Rattle.text.specs.Digits.{starts_digit, got}
 use Rattle.text.proofs.Texts.{stands_inside, digit_inside}
 use Rattle.text.proofs.Decimals.{decimal_led, decimal_nought, decimal_scan, decimal_other}
-use borrow.Author.Rules.{rules}
 use Rattle.text.proofs.reading.Cursor.decimal.Goals as goal
-
-pub stands-requires : goal.stands-requires
-stands-requires c = search rules
 
 pub overflow_add-at : goal.overflow_add-at
 overflow_add-at c = let a = c.args in omega (arith, stands_inside 48 a.s.now a.self.at (sym c.stands.ensures ∙ c.if-stands.true))
-
-pub stands_digit-requires : goal.stands_digit-requires
-stands_digit-requires c = search rules
 
 pub returns-then-stands_digit : goal.returns-then-stands_digit
 returns-then-stands_digit c = let a = c.args in
@@ -39,9 +32,6 @@ returns-then-stands c = let a = c.args in
       same = ap (got 0) (sym (drop-drop 1 at s)) ∙ sym (decimal_nought a.limit (drop at s) z (ap starts_digit (drop-drop 1 at s) ∙ sym c.stands_digit.ensures ∙ c.if-stands_digit.false));
       inside = omega (arith, stands_inside 48 s at z);
     }
-
-pub stands_digit-requires-2 : goal.stands_digit-requires-2
-stands_digit-requires-2 c = search rules
 
 pub read_all-requires : goal.read_all-requires
 read_all-requires c = let a = c.args in omega (arith, digit_inside a.s.now a.self.at (sym c.stands_digit-2.ensures ∙ c.if-stands_digit-2.true))

@@ -1,14 +1,9 @@
 -- `text::reading::Cursor::pass` meets its contract: what is left of the text is to stand at the place reached. Assumes nothing.
-use Prim.Native.Nat.{◌-◌}
 use mathlib.Core.Path.{refl, ap, ◌∙◌}
 use native.Mathlib.Omega.{arith}
 use Rattle.text.specs.Digits.{past}
 use Rattle.text.proofs.Texts.{over, past_over, past_differs, past_turn}
-use borrow.Author.Rules.{rules}
 use Rattle.text.proofs.reading.Cursor.pass.Goals as goal
-
-pub within-i-requires : goal.within-i-requires
-within-i-requires c = search rules
 
 pub loop-k-init : goal.loop-k-init
 loop-k-init c = (omega arith, c.within-i.ensures.0, refl)
@@ -21,12 +16,6 @@ returns-then-s-i c = let a = c.args in
       inside = omega arith;
     }
 
-pub bounds-text-k : goal.bounds-text-k
-bounds-text-k c = search rules
-
-pub bounds-s-i : goal.bounds-s-i
-bounds-s-i c = search rules
-
 pub returns-then-text-k : goal.returns-then-text-k
 returns-then-text-k c = let a = c.args in
     let l = c.loop-k in
@@ -34,15 +23,6 @@ returns-then-text-k c = let a = c.args in
       same = past_differs a.text.now a.s.now l.k l.i c.loop-k-test.true c.if-s-i.false c.if-text-k.true ∙ l.invariant.2 ∙ ap (past a.text.now) c.within-i.ensures.1;
       inside = omega arith;
     }
-
-pub overflow_add-i : goal.overflow_add-i
-overflow_add-i c = search rules
-
-pub overflow_add-k : goal.overflow_add-k
-overflow_add-k c = search rules
-
-pub loop-k-smaller : goal.loop-k-smaller
-loop-k-smaller c = search rules
 
 pub loop-k-preserved : goal.loop-k-preserved
 loop-k-preserved c = let a = c.args in

@@ -13,23 +13,10 @@ use Rattle.text.proofs.Said.{number_said, number_inside, number_unsaid}
 use Rattle.text.proofs.Texts.{stands_inside}
 use Rattle.text.proofs.Decimals.{digits_decimal}
 use Rattle.text.proofs.Signs.{signed_plain, signed_minus, above_said, below_said, below_nought, no_number, word_fits}
-use borrow.Author.Rules.{rules}
 use Rattle.text.proofs.reading.Cursor.signed.Goals as goal
-
-pub stands-requires : goal.stands-requires
-stands-requires c = search rules
 
 pub overflow_add-at : goal.overflow_add-at
 overflow_add-at c = let a = c.args in omega (arith, stands_inside 45 a.s.now a.self.at (sym c.stands.ensures ∙ c.if-stands.true))
-
-pub decimal-requires : goal.decimal-requires
-decimal-requires c = search rules
-
-pub enum_known-n : goal.enum_known-n
-enum_known-n c = search rules
-
-pub enum_told-1 : goal.enum_told-1
-enum_told-1 c = search rules
 
 pub returns-in_default : goal.returns-in_default
 returns-in_default c = let a = c.args in
@@ -49,9 +36,6 @@ returns-then-n-eq0 c = let a = c.args in
       inside = omega arith;
     }
 
-pub overflow_sub-n : goal.overflow_sub-n
-overflow_sub-n c = search rules
-
 pub below_zero-requires : goal.below_zero-requires
 below_zero-requires c = let a = c.args in
     let e = number_said c.decimal.result c.decimal.ensures c.in-Number.is in
@@ -69,15 +53,6 @@ returns-then-stands c = let a = c.args in
           (below_said e c.if-n-eq0.false ∙ ap (λ (y : List ℕ). below (decimal 2147483648 y)) (sym (drop-drop 1 a.self.at a.s.now)) ∙ sym (signed_minus x (sym c.stands.ensures ∙ c.if-stands.true)));
       inside = number_inside c.decimal.result c.decimal.ensures c.in-Number.is;
     }
-
-pub decimal-requires-2 : goal.decimal-requires-2
-decimal-requires-2 c = search rules
-
-pub enum_known-n-in-Number-decimal-2 : goal.enum_known-n-in-Number-decimal-2
-enum_known-n-in-Number-decimal-2 c = search rules
-
-pub enum_told-in_default-decimal : goal.enum_told-in_default-decimal
-enum_told-in_default-decimal c = search rules
 
 pub returns-in_default-decimal : goal.returns-in_default-decimal
 returns-in_default-decimal c = let a = c.args in
