@@ -1,4 +1,4 @@
-//! Links the static library that `rt staticlib panel` wrote.
+//! Links the static library that `scripts/build panel` wrote.
 fn main() {
     let here = std::env::var("CARGO_MANIFEST_DIR").unwrap();
     let folder = format!("{here}/../../target/staticlib");

@@ -1,5 +1,5 @@
 pub mod Splits
 pub mod Patterns
-pub mod Octets
+pub mod HeldOctets
 pub mod Turns
 pub mod Runs

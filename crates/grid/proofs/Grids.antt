@@ -1,7 +1,7 @@
 -- A month's answer and its two buffers: how long what is written is, and what fits. Assumes nothing.
 use Prim.Native.Nat.{ℕ, ◌*◌, ◌≤◌, ◌<◌}
 use mathlib.Core.Path.{◌≡◌, refl, sym, ap, ◌∙◌}
-use mathlib.Core.Bool.{and_false}
+use mathlib.Core.Bool.{and-false}
 use mathlib.Core.List.{List}
 use borrow.Author.Tests.{le-leb, lt-leb}
 use lib.Dec.{leb}
@@ -32,7 +32,7 @@ module _ (g : Grid) (a b : ℕ) where
 
   pub no_festivals : b < length (festival_numbers g) → fitted g a b ≡ refused NoRoom
   unfolding fitted given
-  no_festivals h = rw (lt-leb (length (festival_numbers g)) b h, and_false (leb (length (cell_numbers g)) a))
+  no_festivals h = rw (lt-leb (length (festival_numbers g)) b h, and-false (leb (length (cell_numbers g)) a))
 
   pub fits : length (cell_numbers g) ≤ a → length (festival_numbers g) ≤ b → fitted g a b ≡ answered g
   unfolding fitted given

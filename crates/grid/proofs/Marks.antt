@@ -1,7 +1,7 @@
 -- Holidays among the pairs that stand in a buffer. Assumes nothing.
 use Prim.Native.Nat.{ℕ, suc, ◌+◌, ◌-◌, ◌*◌, ◌≤◌, ◌<◌}
 use mathlib.Core.Path.{◌≡◌, refl, sym, ap, ◌∙◌}
-use mathlib.Core.Bool.{Bool, ◌||◌, or_assoc, or_false}
+use mathlib.Core.Bool.{Bool, ◌||◌, or_assoc, or-false}
 use mathlib.Core.List.{List, [], ◌∷◌, ◌++◌, append_assoc}
 use native.Mathlib.Omega.{arith}
 use lib.Dec.{eqb}
@@ -22,7 +22,7 @@ mark_suc xs i k = refl
 -- no pair is left
 pub mark_end : (found : Bool) (xs : List ℕ) (i k : ℕ) → k ≡ 0 → found ≡ (found || any_mark xs i k)
 unfolding any_mark
-mark_end found xs i k e = rw e (sym (or_false found))
+mark_end found xs i k e = rw e (sym (or-false found))
 
 -- a turn of the loop: pair i is looked at
 pub mark_turn : (found : Bool) (xs : List ℕ) (i n : ℕ) → i < n

@@ -1,7 +1,7 @@
 -- A month stepped: which month a count of months leads to, and what each answer stands for. Assumes nothing.
 use Prim.Native.Nat.{ℕ, suc, ◌+◌, ◌-◌, ◌*◌, ◌/◌, ◌%◌, ◌≤◌, ◌<◌}
 use mathlib.Core.Path.{◌≡◌, refl, ap}
-use mathlib.Core.Bool.{true, false, and_false}
+use mathlib.Core.Bool.{true, false, and-false}
 use native.Mathlib.Omega.{arith}
 use borrow.Author.Tests.{ltb-true, lt-ltb, le-ltb, le-leb, lt-leb}
 use lib.IntN.{ℤ, pos, negsuc, ◌+ℤ◌, ◌*ℤ◌}
@@ -38,7 +38,7 @@ module _ (first years : ℕ) where
 
   pub too_late : (n : ℕ) → first + years ≤ n / 12 → month_at first years (pos n) ≡ refused OffTable
   unfolding month_at given whole_years
-  too_late n h = simp (le-ltb (n / 12) (first + years) h, and_false)
+  too_late n h = simp (le-ltb (n / 12) (first + years) h, and-false)
 
   pub in_time : (n : ℕ) → first ≤ n / 12 → n / 12 < first + years → month_at first years (pos n) ≡ answered (record { year = n / 12; month = n % 12 + 1 })
   unfolding month_at given whole_years months_left

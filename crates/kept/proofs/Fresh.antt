@@ -1,7 +1,7 @@
 -- Laws of the years that are stored: which they are, and what they are worked out to. Assumes nothing.
 use Prim.Native.Nat.{ℕ, ◌+◌, ◌-◌, ◌≤◌, ◌<◌}
 use mathlib.Core.Path.{◌≡◌, refl, sym, ap}
-use mathlib.Core.Bool.{Bool, true, false, cond, and_false}
+use mathlib.Core.Bool.{Bool, true, false, cond, and-false}
 use mathlib.Core.List.{List, [], ◌∷◌}
 use mathlib.Core.Option.{none}
 use native.Mathlib.Omega.{arith}
@@ -95,7 +95,7 @@ module _ (c e : Calendar) (p : c.first ≡ e.first) (q : c.years ≤ e.years) wh
 module _ {I : Type 0} (s : Sky I) (c : Calendar) (y : ℕ) (h : year_ok c y ≡ false) where
   no_entry : (r : Rule) → entry s c y r ≡ none
   unfolding entry rule_day opening moons last_of next
-  no_entry r = rw (h, and_false c.good)
+  no_entry r = rw (h, and-false c.good)
 
   nothing_filled : (d : List ℕ) (j : ℕ) (rs : List Rule) → filled s c y d j rs ≡ d
   unfolding filled put_entry

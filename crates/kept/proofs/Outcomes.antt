@@ -1,7 +1,7 @@
 -- Starting, taking rules and appending a row, case by case. Assumes nothing.
 use Prim.Native.Nat.{ℕ, ◌≤◌, ◌<◌}
 use mathlib.Core.Path.{◌≡◌, refl, sym, ap, ◌∙◌}
-use mathlib.Core.Bool.{Bool, true, false, cond, ◌&&◌, and_false}
+use mathlib.Core.Bool.{Bool, true, false, cond, ◌&&◌, and-false}
 use mathlib.Core.List.{List, [], ◌++◌}
 use native.Mathlib.Nat.{sub-zero}
 use native.Mathlib.Omega.{arith}
@@ -90,7 +90,7 @@ module _ (σ : State) (row : List ℕ) where
 
   not_accepted : accepted σ.table (σ.rows ++ row) ≡ false → append_row σ row ≡ undone σ BadTable
   unfolding given
-  not_accepted g = append_test false (simp (g, and_false))
+  not_accepted g = append_test false (simp (g, and-false))
 
   -- a row of other than thirteen numbers
   pub other_length : (length row ≡ 13 → ⊥) → append_row σ row ≡ undone σ BadTable

@@ -1,7 +1,7 @@
 -- What a good list of rules says: of each rule, and of how many there are. Assumes nothing.
 use Prim.Native.Nat.{ℕ, zero, suc, ◌+◌, ◌/◌, ◌%◌, ◌≤◌, ◌<◌}
 use mathlib.Core.Path.{◌≡◌}
-use mathlib.Core.Bool.{true, false, ◌&&◌, ◌||◌, or_false}
+use mathlib.Core.Bool.{true, false, ◌&&◌, ◌||◌, or-false}
 use mathlib.Core.List.{List}
 use native.Mathlib.Omega.{arith}
 use borrow.Author.Tests.{leb-true, eqb-true}
@@ -85,7 +85,7 @@ computed_of r e q =
     let p = leb r.half 1 in
     let k = leb r.kala 5 in
     let f : (leb r.holiday 1 && (y && w && p && k || false)) ≡ true = rw q at e in
-    let b = rw or_false at (and_right (leb r.holiday 1) (y && w && p && k || false) f) in
+    let b = rw or-false at (and_right (leb r.holiday 1) (y && w && p && k || false) f) in
     let b₂ = and_left (y && w && p) k b in
     let a₄ = and_right y w (and_left (y && w) p b₂) in
     let a₃ = and_left (m₁ && m₂ && d₁) d₂ a₄ in

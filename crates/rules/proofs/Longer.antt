@@ -2,7 +2,7 @@
 -- those of the longer. Assumes nothing.
 use Prim.Native.Nat.{ℕ, ◌+◌, ◌-◌, ◌≤◌, ◌<◌}
 use mathlib.Core.Path.{◌≡◌, refl, sym, ap, ◌∙◌, fun_ext}
-use mathlib.Core.Bool.{Bool, true, false, cond, ◌&&◌, and_false}
+use mathlib.Core.Bool.{Bool, true, false, cond, ◌&&◌, and-false}
 use mathlib.Core.Logic.{◌⊎◌, inl, inr, ⊎_elim}
 use mathlib.Core.List.{List, []}
 use mathlib.Core.Option.{Option, some, none}
@@ -60,7 +60,7 @@ moons_in s c y g l h = simp (g, le-leb _ _ l, lt-ltb _ _ h)
 
 moons_out : {I : Type 0} (s : Sky I) (c : Calendar) (y : ℕ) → y < c.first → moons s c y ≡ []
 unfolding moons
-moons_out s c y l = simp (lt-leb _ _ l, and_false)
+moons_out s c y l = simp (lt-leb _ _ l, and-false)
 
 in_table_answered : (c : Calendar) (n : ℕ) (t : BsDate) → from_day c n ≡ answered t → in_table c n ≡ some n
 unfolding in_table dated

@@ -43,10 +43,10 @@ module _ {I : Type 0} (s : Sky I) (c : Calendar) (rs : List Rule) (ok : Bool) (y
     on_bs_law = lent_on c ok _ g o
 
     pub bs_refused : (k : Refusal) → to_day c y m d ≡ refused k → listOnBs s c rs ok y m d ≡ refused k
-    bs_refused k e = on-bs ∙ then_not (to_day c y m d) _ k e
+    bs_refused k e = on_bs_law ∙ then_not (to_day c y m d) _ k e
 
     pub bs-list : (n : ℕ) → to_day c y m d ≡ answered n → listOnBs s c rs ok y m d ≡ answered (day_list s c rs (bs y m d) n)
-    bs-list n e = on-bs ∙ then_by (to_day c y m d) _ n e
+    bs-list n e = on_bs_law ∙ then_by (to_day c y m d) _ n e
 
     -- its date has no number
     pub ad-no-date : (k : Refusal) → refused k ≡ number_answer (date y m d) → listOnAd s c rs ok y m d ≡ refused k
@@ -60,7 +60,7 @@ module _ {I : Type 0} (s : Sky I) (c : Calendar) (rs : List Rule) (ok : Bool) (y
 
       -- the list of a day by its number
       pub ad-list : (n : ℕ) → n ≡ day_number (date y m d) → listOnAd s c rs ok y m d ≡ then (from_day c n) (λ t. answered (day_list s c rs t n))
-      ad-list n q = on-ad ∙ rw q
+      ad-list n q = on_ad_law ∙ rw q
 
 -- a test that passes, or the refusal behind it
 given_past : {A : Type 0} (b : Bool) (j k : Refusal) (a : Answer A) → (number j ≡ number k → ⊥) → given b j a ≡ refused k → (b ≡ true) × (a ≡ refused k)

@@ -1,7 +1,7 @@
 -- Laws of the loops that store pairs: what a turn does, and what the stores come to. Assumes nothing.
 use Prim.Native.Nat.{ℕ, suc, ◌+◌, ◌-◌, ◌*◌, ◌<◌}
 use mathlib.Core.Path.{◌≡◌, refl, sym, ap, subst, ◌∙◌}
-use mathlib.Core.Bool.{Bool, true, false, cond, ◌&&◌, ◌||◌, or_assoc, or_false}
+use mathlib.Core.Bool.{Bool, true, false, cond, ◌&&◌, ◌||◌, or_assoc, or-false}
 use mathlib.Core.List.{List, [], ◌∷◌, ◌++◌}
 use native.Mathlib.Numerals.{add-one}
 use native.Mathlib.Omega.{arith}
@@ -65,7 +65,7 @@ module _ (rules : List Rule) (y : ℕ) (d : List ℕ) (n j : ℕ) (r : Rule) (rs
 
 pub none_silenced : (a : Bool) (y name : ℕ) → a ≡ (a || silenced [] y name)
 unfolding silenced any
-none_silenced a y name = sym (or_false a)
+none_silenced a y name = sym (or-false a)
 
 pub none_picked : (σ : State) (f : Rule → Bool) → σ ≡ store_pairs σ (picked f [])
 unfolding picked store_pairs

@@ -27,7 +27,7 @@ use Rattle.rules.specs.Sky.{Sky}
 use Rattle.rules.specs.Festivals.{Pair, listed, listOnBs, listOnAd}
 use Rattle.rules.specs.Longer.{AddedDay, SameList, ListsStay}
 use Rattle.rules.proofs.Lent.{lent_told}
-use Rattle.rules.proofs.Questions.{then_by, then_not, on-bs, on-ad, ad_outside}
+use Rattle.rules.proofs.Questions.{then_by, then_not, on_bs_law, on_ad_law, ad_outside}
 use Rattle.rules.proofs.Following.{then_told, then_longer, then_added}
 use Rattle.rules.proofs.Longer.{Filled, day_refused, opening-same, entry-same, list_same}
 
@@ -65,31 +65,31 @@ module _ {I : Type 0} (s : Sky I) (rs : List Rule) (ok : Bool) (c e : Calendar) 
   bs_longer : listOnBs s c rs ok y m d ≡ answered l → listOnBs s e rs ok y m d ≡ answered l
   bs_longer h =
       let o = bs_rules s c rs ok y m d h in
-      on-bs s e rs ok y m d x.good_too o
-      ∙ then_longer (to_day c y m d) (to_day e y m d) _ _ (day_longer c e x y m d) (λ n q. ap answered (list_same s c e x w rs n (bs y m d) (from_to c y m d n q))) l (sym (on-bs s c rs ok y m d x.good o) ∙ h)
+      on_bs_law s e rs ok y m d x.good_too o
+      ∙ then_longer (to_day c y m d) (to_day e y m d) _ _ (day_longer c e x y m d) (λ n q. ap answered (list_same s c e x w rs n (bs y m d) (from_to c y m d n q))) l (sym (on_bs_law s c rs ok y m d x.good o) ∙ h)
 
   bs_added : listOnBs s e rs ok y m d ≡ answered l → RefusedIf (listOnBs s c rs ok y m d) NoYear (Added c y)
   bs_added h =
       let o = bs_rules s e rs ok y m d h in
-      let q = sym (on-bs s e rs ok y m d x.good_too o) ∙ h in
+      let q = sym (on_bs_law s e rs ok y m d x.good_too o) ∙ h in
       let t = then_told (to_day e y m d) _ q in
-      rw (on-bs s c rs ok y m d x.good o)
+      rw (on_bs_law s c rs ok y m d x.good o)
       (then_added (to_day c y m d) (to_day e y m d) _ _ (day_longer c e x y m d) (λ n q. ap answered (list_same s c e x w rs n (bs y m d) (from_to c y m d n q))) NoYear (Added c y) t.0 l t.1.0 (day_added c e x y m d t.0 t.1.0) q)
 
   ad_longer : listOnAd s c rs ok y m d ≡ answered l → listOnAd s e rs ok y m d ≡ answered l
   ad_longer h =
       let o = ad_rules s c rs ok y m d h in
       let n = day_number (date y m d) in
-      on-ad s e rs ok y m d x.good_too o.0 o.1
-      ∙ then_longer (from_day c n) (from_day e n) _ _ (from_day_longer c e x n) (λ t q. ap answered (list_same s c e x w rs n t q)) l (sym (on-ad s c rs ok y m d x.good o.0 o.1) ∙ h)
+      on_ad_law s e rs ok y m d x.good_too o.0 o.1
+      ∙ then_longer (from_day c n) (from_day e n) _ _ (from_day_longer c e x n) (λ t q. ap answered (list_same s c e x w rs n t q)) l (sym (on_ad_law s c rs ok y m d x.good o.0 o.1) ∙ h)
 
   ad_added : listOnAd s e rs ok y m d ≡ answered l → RefusedIf (listOnAd s c rs ok y m d) (outside c (day_number (date y m d))) (AddedDay c e (day_number (date y m d)))
   ad_added h =
       let o = ad_rules s e rs ok y m d h in
       let n = day_number (date y m d) in
-      let q = sym (on-ad s e rs ok y m d x.good_too o.0 o.1) ∙ h in
+      let q = sym (on_ad_law s e rs ok y m d x.good_too o.0 o.1) ∙ h in
       let t = then_told (from_day e n) _ q in
-      rw (on-ad s c rs ok y m d x.good o.0 o.1)
+      rw (on_ad_law s c rs ok y m d x.good o.0 o.1)
       (then_added (from_day c n) (from_day e n) _ _ (from_day_longer c e x n) (λ t q. ap answered (list_same s c e x w rs n t q)) (outside c n) (AddedDay c e n) t.0 l t.1.0 (day_refused c e x n t.0 t.1.0) q)
 
 -- a day outside
@@ -97,19 +97,19 @@ module _ {I : Type 0} (s : Sky I) (rs : List Rule) (ok : Bool) (c e : Calendar) 
   ad_before : listOnAd s c rs ok y m d ≡ refused (Before k) → listOnAd s e rs ok y m d ≡ refused (Before k)
   ad_before h =
       let o = ad_outside s c rs ok y m d (Before k) x.good refl h in
-      on-ad s e rs ok y m d x.good_too o.0 o.1 ∙ then_not _ _ (Before k) (day_before c e x _ k o.2)
+      on_ad_law s e rs ok y m d x.good_too o.0 o.1 ∙ then_not _ _ (Before k) (day_before c e x _ k o.2)
 
   ad_reached : listOnAd s c rs ok y m d ≡ refused (After k) → k ≤ added_days c e
       → (l : List Pair) × ((listOnAd s e rs ok y m d ≡ answered l) × AddedDay c e (day_number (date y m d)))
   ad_reached h l =
       let o = ad_outside s c rs ok y m d (After k) x.good refl h in
       let r = day_reached c e x _ k o.2 l in
-      (_, (on-ad s e rs ok y m d x.good_too o.0 o.1 ∙ then_by _ _ r.0 r.1.0, record { date = r.0; is = r.1.0; added = r.1.1 }))
+      (_, (on_ad_law s e rs ok y m d x.good_too o.0 o.1 ∙ then_by _ _ r.0 r.1.0, record { date = r.0; is = r.1.0; added = r.1.1 }))
 
   ad_after : listOnAd s c rs ok y m d ≡ refused (After k) → added_days c e < k → listOnAd s e rs ok y m d ≡ refused (After (k - added_days c e))
   ad_after h l =
       let o = ad_outside s c rs ok y m d (After k) x.good refl h in
-      on-ad s e rs ok y m d x.good_too o.0 o.1 ∙ then_not _ _ _ (day_after_law c e x _ k o.2 l)
+      on_ad_law s e rs ok y m d x.good_too o.0 o.1 ∙ then_not _ _ _ (day_after_law c e x _ k o.2 l)
 
 pub steady_by : {I : Type 0} (s : Sky I) (rs : List Rule) (ok : Bool) (out : List ℕ) (c e : Calendar) → Extends c e → Filled c → ListsStay s rs ok out c e
 steady_by s rs ok out c e x w =

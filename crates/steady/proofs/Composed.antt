@@ -28,7 +28,7 @@ use Rattle.grid.proofs.month_grid.Reads as MonthGrid
 use Rattle.holiday.specs.Holiday.{holiday_says}
 use Rattle.holiday.proofs.is_holiday.Reads as IsHoliday
 use Rattle.steady.specs.Steady.{Stays, AnswerStays, Steady}
-use Rattle.steady.specs.Composed.{Place, ref, AnswerCarries, Carries}
+use Rattle.steady.specs.Composed.{Place, ref, mut_ref, AnswerCarries, Carries}
 use Rattle.steady.proofs.Steady.{steady}
 use Rattle.steady.proofs.Once.{both}
 
@@ -84,14 +84,14 @@ module _ (t : Table) (rows more : List ℕ) (good : accepted t rows ≡ true) (l
   module _ (rules : List ℕ) (a b : Place) where
     -- the buffer is the seventh parameter
     pub festivals_on : (y m n : ℕ) (out : List ℕ) (e f : Place) → Carries FestivalsOn.Learnt (λ k x. list_says x) (λ k s. s.1.1.1.1.1.1.0.now)
-        (λ k. (t, (ref p rows, (ref a rules, (y, (m, (n, (ref e out, tt))))))))
-        (λ k. (t, (ref q (rows ++ more), (ref b rules, (y, (m, (n, (ref f out, tt))))))))
+        (λ k. (t, (ref p rows, (ref a rules, (y, (m, (n, (mut_ref e out, tt))))))))
+        (λ k. (t, (ref q (rows ++ more), (ref b rules, (y, (m, (n, (mut_ref f out, tt))))))))
     festivals_on y m n out e f k l x z s u v c d h =
         carried {W = Listed} (λ w. w.answer) (λ w. w.buffer) ((steady t rows more rules any good longer).list y m n out) v c.0 d.0 c.1 d.1 h
 
     pub festivals_on_ad : (y m n : ℕ) (out : List ℕ) (e f : Place) → Carries FestivalsOnAd.Learnt (λ k x. list_says x) (λ k s. s.1.1.1.1.1.1.0.now)
-        (λ k. (t, (ref p rows, (ref a rules, (y, (m, (n, (ref e out, tt))))))))
-        (λ k. (t, (ref q (rows ++ more), (ref b rules, (y, (m, (n, (ref f out, tt))))))))
+        (λ k. (t, (ref p rows, (ref a rules, (y, (m, (n, (mut_ref e out, tt))))))))
+        (λ k. (t, (ref q (rows ++ more), (ref b rules, (y, (m, (n, (mut_ref f out, tt))))))))
     festivals_on_ad y m n out e f k l x z s u v c d h =
         carried {W = Listed} (λ w. w.answer) (λ w. w.buffer) ((steady t rows more rules any good longer).list_ad y m n out) v c.0 d.0 c.1 d.1 h
 
@@ -103,7 +103,7 @@ module _ (t : Table) (rows more : List ℕ) (good : accepted t rows ≡ true) (l
     -- cells and festivals are the seventh and eighth parameters
     pub month_grid_law : (today : Date) (y m : ℕ) (cells festivals : List ℕ) (e f g i : Place) → Carries {B = List ℕ × List ℕ} MonthGrid.Learnt (λ k x. grid_says x)
         (λ k s. (s.1.1.1.1.1.1.0.now, s.1.1.1.1.1.1.1.0.now))
-        (λ k. (t, (ref p rows, (ref a rules, (today, (y, (m, (ref e cells, (ref f festivals, tt)))))))))
-        (λ k. (t, (ref q (rows ++ more), (ref b rules, (today, (y, (m, (ref g cells, (ref i festivals, tt)))))))))
+        (λ k. (t, (ref p rows, (ref a rules, (today, (y, (m, (mut_ref e cells, (mut_ref f festivals, tt)))))))))
+        (λ k. (t, (ref q (rows ++ more), (ref b rules, (today, (y, (m, (mut_ref g cells, (mut_ref i festivals, tt)))))))))
     month_grid_law today y m cells festivals e f g i k l x z s u v c d h =
         carried {W = Shown} (λ w. w.answer) written ((steady t rows more rules today good longer).month y m cells festivals) v c.0 d.0 (both c.1.0 c.1.1) (both d.1.0 d.1.1) h

@@ -1,7 +1,7 @@
 -- A month step under a table and under one with more rows. Assumes nothing.
 use Prim.Native.Nat.{ℕ, ◌+◌, ◌≤◌, ◌<◌}
 use mathlib.Core.Path.{◌≡◌, refl, sym, ap, subst, ◌∙◌}
-use mathlib.Core.Bool.{true, false, and_false}
+use mathlib.Core.Bool.{true, false, and-false}
 use mathlib.Core.Logic.{⊎_elim}
 use native.Mathlib.Omega.{arith}
 use borrow.Author.Tests.{leb-true, ltb-true, lt-ltb, le-ltb, le-leb}
@@ -28,7 +28,7 @@ years_in_law : (first years n : ℕ) → first ≤ n → n < first + years → i
 years_in_law first years n h k = simp (le-leb first n h, lt-ltb n (first + years) k)
 
 years_past : (first years n : ℕ) → first + years ≤ n → in_years first years (pos n) ≡ false
-years_past first years n h = simp (le-ltb n (first + years) h, and_false)
+years_past first years n h = simp (le-ltb n (first + years) h, and-false)
 
 -- ---- the month that a step leads to
 

@@ -1,16 +1,19 @@
 -- DEMAND 3 of two results of a call: one under a table, the other under the same table with more rows, each meeting the call's contract, as the checker
 -- reads it (`Learnt`): a claim on the lifetimes, the arguments, the result and the parameters at exit. Assumes nothing.
 use Rattle.std.specs.Prelude.{ℕ, ◌≡◌}
-use Rattle.std.specs.Borrow.{Bor, GName}
+use Rattle.std.specs.Borrow.{Bor, MutBor, GName}
 use Rattle.paper.specs.Answers.{Answer, answered}
 
 -- where something lent lies, which no contract of the engine asks
 abbrev pub Place : Type 0
 Place = (ℕ × ℕ) × GName
 
--- a reference to x that lies there
+-- a reference to x that lies there, to read it; and one to write it
 abbrev pub ref : {X : Type 0} → Place → X → Bor X
-ref p x = record { ref_ptr = p.0; ghost_name = p.1; now = x }
+ref p x = record { ref_ptr = p.0; now = x }
+
+abbrev pub mut_ref : {X : Type 0} → Place → X → MutBor X
+mut_ref p x = record { ref_ptr = p.0; ghost_name = p.1; now = x }
 
 -- C is the contract; `says` reads the answer of a result; `short` and `long` are the arguments of the two calls. What the first answers the second answers
 abbrev pub AnswerCarries : {K : Type 0} {A R S : K → Type 0} {D : Type 0} → ((k : K) → A k → R k → S k → Type 0) → ((k : K) → R k → Answer D)

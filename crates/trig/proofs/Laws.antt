@@ -2,10 +2,11 @@
 -- Zeros keep their sign under sine. Out of range, and for no number, the answer is 0.0. There is no second answer. Assumes nothing.
 use Prim.Native.Nat.{ℕ, ◌+◌, ◌*◌, ◌<◌}
 use mathlib.Core.Bool.{Bool, true, false, cond, ◌||◌, true≢false}
-use mathlib.Core.Path.{◌≡◌, refl, sym, ◌∙◌}
+use mathlib.Core.Path.{◌≡◌, refl, sym, ◌∙◌, ap}
 use native.Mathlib.Nat.{zero-mul, one-mul}
 use native.Mathlib.Omega.{arith}
 use borrow.Author.Tests.{ltb-false}
+use lib.IntN.{ℤ}
 use lib.Dec.{T, ltb, lt→ltb}
 use lib.Ieee.{Float, nan, inf, fin, add, sub, mul, div, neg, lt, le, eq, of_bits, below, level, up, down}
 use lib.Ieee.Bits.{is_true}
@@ -44,17 +45,34 @@ small_high : (s : Bool) (k d : ℕ) → 0 < d → below false 0 s k ≡ false �
 small_high false k d h p = or_true (ltb k d) (level false k false d) (lt→ltb k d (omega (arith, ltb-false 0 k p)))
 small_high true k d h p = or_true (ltb 0 (k + d)) (level true k false d) (lt→ltb 0 (k + d) (omega arith))
 
+zero_below : (s : Bool) (m : ℕ) (e : ℤ) → lt zero (fin s m e) ≡ below false 0 s (m * up e * 1)
+unfolding lt of_bits
+zero_below s m e = ap (λ (k : ℕ). below false k s (m * up e * 1)) (zero-mul (down e))
+
+below_zero : (s : Bool) (m : ℕ) (e : ℤ) → lt (fin s m e) zero ≡ below s (m * up e * 1) false 0
+unfolding lt of_bits
+below_zero s m e = ap (λ (k : ℕ). below s (m * up e * 1) false k) (zero-mul (down e))
+
+one_le : (s : Bool) (m : ℕ) (e : ℤ) → le (neg one) (fin s m e) ≡ (below true (down e) s (m * up e * 1) || level true (down e) s (m * up e * 1))
+unfolding le lt eq neg of_bits
+one_le s m e = ap (λ (k : ℕ). below true k s (m * up e * 1) || level true k s (m * up e * 1)) (one-mul (down e))
+
+le_one : (s : Bool) (m : ℕ) (e : ℤ) → le (fin s m e) one ≡ (below s (m * up e * 1) false (down e) || level s (m * up e * 1) false (down e))
+unfolding le lt eq of_bits
+le_one s m e = ap (λ (k : ℕ). below s (m * up e * 1) false k || level s (m * up e * 1) false k) (one-mul (down e))
+
+near_zero : (s : Bool) (m : ℕ) (e : ℤ) → lt zero (fin s m e) ≡ false → lt (fin s m e) zero ≡ false → T (within_one (fin s m e))
+near_zero s m e p q =
+    let k = m * up e * 1 in
+    rw (one_le s m e, le_one s m e) (and_i (below true (down e) s k || level true (down e) s k) (below s k false (down e) || level s k false (down e))
+    (small_low s k (down e) (down_pos e) (sym (below_zero s m e) ∙ q)) (small_high s k (down e) (down_pos e) (sym (zero_below s m e) ∙ p)))
+
 zero_within : (x : Float) → T (in_range x) → lt zero x ≡ false → lt x zero ≡ false → T (within_one x)
 unfolding le lt eq neg of_bits
 zero_within nan h p q = h
 zero_within (inf true) h p q = true≢false q
 zero_within (inf false) h p q = true≢false p
-zero_within (fin s m e) h p q =
-    let k = m * up e * 1 in
-    let u : below false 0 s k ≡ false = rw (zero-mul (down e)) at p in
-    let v : below s k false 0 ≡ false = rw (zero-mul (down e)) at q in
-    rw (one-mul (down e)) (and_i (below true (down e) s k || level true (down e) s k) (below s k false (down e) || level s k false (down e))
-    (small_low s k (down e) (down_pos e) v) (small_high s k (down e) (down_pos e) u))
+zero_within (fin s m e) h p q = near_zero s m e p q
 
 signed_within : (x v : Float) → T (in_range x) → T (within_one v) → T (within_one (signed x v))
 unfolding signed turned

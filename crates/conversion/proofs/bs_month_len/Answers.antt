@@ -9,7 +9,7 @@ pub returns-then-not-accepts : goal.returns-then-not-accepts
 unfolding month_len
 returns-then-not-accepts c =
     let a = c.args in
-    sym (no_table (flat a.table a.rows.now) a.year a.month _ (sym c.accepts.ensures ∙ not-true _ c.if-not-accepts.true))
+    sym (no_table (flat a.table a.rows.now) a.year a.month _ (sym c.accepts.ensures ∙ c.if-not-accepts.true))
 
 pub month_days-requires : goal.month_days-requires
-month_days-requires c = sym c.accepts.ensures ∙ not-false _ c.if-not-accepts.false
+month_days-requires c = sym c.accepts.ensures ∙ c.if-not-accepts.false

@@ -11,7 +11,6 @@ use Rattle.conversion.proofs.Accepted.{Facts, facts, rows_before, row_reached, v
 use Rattle.conversion.proofs.Ad.{served, on_numbered}
 use Rattle.conversion.proofs.Days.{Valid, no_table, valid_told, valid_refused, valid_on, of_date_law}
 use Rattle.conversion.proofs.bs_to_ad.Goals as goal
-use Rattle.conversion.proofs.bs_to_ad.Goals.{After-date_check-check, After-day_in_row-n, In-Valid}
 
 pub returns-then-p-eq0 : goal.returns-then-p-eq0
 unfolding to_ad
@@ -19,65 +18,75 @@ returns-then-p-eq0 c =
     let a = c.args in
     sym (no_table (flat a.table a.rows.now) a.date.year a.date.month _ (c.pass_table-p.ensures.bad c.if-p-eq0.true))
 
--- whether the date is one of the table that was accepted
-checked : (c : After-date_check-check) → let a = c.args in valid_says c.date_check-check.result ≡ valid_bs (flat a.table a.rows.now) a.date.year a.date.month a.date.day
-checked c =
-    let d = c.args.date in
-    c.date_check-check.ensures ∙ valid_is _ _ d.year d.month d.day (c.pass_table-p.ensures.good c.if-p-eq0.false)
-
--- where the date is one of the table: its facts, its row and the days before it, and the number of the first day
-known : (c : In-Valid) → let a = c.args in Valid (flat a.table a.rows.now) a.date.year a.date.month a.date.day
-known c = valid_told _ _ _ _ (said valid_says c.in-Valid.is (checked c.before.before))
-
-table : (c : In-Valid) → let a = c.args in Facts a.table a.rows.now
-table c = facts _ _ (known c).month.good
-
-row : (c : In-Valid) → let a = c.args in let i = a.date.year - a.table.first_year in let p = c.pass_table-p.result in (p.row ≡ i) × (p.before ≡ row_days a.rows.now i)
-row c =
-    let k = (known c).month in
-    rw (← c.row_of.ensures) (row_reached _ _ (table c) _ _ _ (rw c.row_of.ensures (omega arith)) (c.pass_table-p.ensures.reached c.if-p-eq0.false))
-
-first : (c : In-Valid) → c.frame-start.result ≡ day_number (first_day c.args.table)
-first c =
-    let s = c.frame-start.ensures in
-    s.start (λ z. s.bad z (table c).frame)
-
-early : (c : In-Valid) → let a = c.args in day_number (first_day a.table) + row_days a.rows.now (a.date.year - a.table.first_year) ≤ 2488070
-early c = let k = (known c).month in rows_before _ _ (table c) _ (omega arith)
-
 pub overflow_add-start : goal.overflow_add-start
 overflow_add-start c =
-    omega (arith, first c.before, (row c.before).1, early c.before)
+    let checked : let a = c.args in valid_says c.date_check-check.result ≡ valid_bs (flat a.table a.rows.now) a.date.year a.date.month a.date.day = let d = c.args.date in
+    c.date_check-check.ensures ∙ valid_is _ _ d.year d.month d.day (c.pass_table-p.ensures.good c.if-p-eq0.false) in
+    let known : let a = c.args in Valid (flat a.table a.rows.now) a.date.year a.date.month a.date.day = valid_told _ _ _ _ (said valid_says c.in-Valid.is checked) in
+    let table : let a = c.args in Facts a.table a.rows.now = facts _ _ known.month.good in
+    let row : let a = c.args in let i = a.date.year - a.table.first_year in let p = c.pass_table-p.result in (p.row ≡ i) × (p.before ≡ row_days a.rows.now i) = let k = known.month in
+    rw (← c.row_of.ensures) (row_reached _ _ table _ _ _ (rw c.row_of.ensures (omega arith)) (c.pass_table-p.ensures.reached c.if-p-eq0.false)) in
+    let first : c.frame-start.result ≡ day_number (first_day c.args.table) = let s = c.frame-start.ensures in
+    s.start (λ z. s.bad z table.frame) in
+    let early : let a = c.args in day_number (first_day a.table) + row_days a.rows.now (a.date.year - a.table.first_year) ≤ 2488070 = let k = known.month in rows_before _ _ table _ (omega arith) in
+    omega (arith, first, row.1, early)
 
 pub day_in_row-n-requires : goal.day_in_row-n-requires
 day_in_row-n-requires c =
-    let f = table c.before in
-    let k = known c.before in
-    let start = first c.before in
-    let r = row c.before in
+    let checked : let a = c.args in valid_says c.date_check-check.result ≡ valid_bs (flat a.table a.rows.now) a.date.year a.date.month a.date.day = let d = c.args.date in
+    c.date_check-check.ensures ∙ valid_is _ _ d.year d.month d.day (c.pass_table-p.ensures.good c.if-p-eq0.false) in
+    let known : let a = c.args in Valid (flat a.table a.rows.now) a.date.year a.date.month a.date.day = valid_told _ _ _ _ (said valid_says c.in-Valid.is checked) in
+    let table : let a = c.args in Facts a.table a.rows.now = facts _ _ known.month.good in
+    let row : let a = c.args in let i = a.date.year - a.table.first_year in let p = c.pass_table-p.result in (p.row ≡ i) × (p.before ≡ row_days a.rows.now i) = let k = known.month in
+    rw (← c.row_of.ensures) (row_reached _ _ table _ _ _ (rw c.row_of.ensures (omega arith)) (c.pass_table-p.ensures.reached c.if-p-eq0.false)) in
+    let first : c.frame-start.result ≡ day_number (first_day c.args.table) = let s = c.frame-start.ensures in
+    s.start (λ z. s.bad z table.frame) in
+    let early : let a = c.args in day_number (first_day a.table) + row_days a.rows.now (a.date.year - a.table.first_year) ≤ 2488070 = let k = known.month in rows_before _ _ table _ (omega arith) in
+    let f = table in
+    let k = known in
+    let start = first in
+    let r = row in
     record {
       row = omega (arith, r.0);
-      early = omega (arith, r.1, early c.before);
+      early = omega (arith, r.1, early);
       month_from = k.month.month_from;
       month_to = k.month.month_to;
       day_from = k.day_from;
     }
 
--- the number that was worked out is that of the definition
-number_is : (c : After-day_in_row-n) → let a = c.args in c.day_in_row-n.result ≡ day_at (flat a.table a.rows.now) (a.date.year - a.table.first_year) (a.date.month - 1) (a.date.day - 1)
-number_is c =
-    let r = row c.before.before in
-    rw (c.day_in_row-n.ensures, first c.before.before, r.0, r.1)
-
 pub date_of-requires : goal.date_of-requires
 date_of-requires c =
-    let k = known c.before.before in
-    rw (number_is c) (on_numbered _ _ (served _ _ k.month.good) (valid_on _ _ _ _ k))
+    let checked : let a = c.args in valid_says c.date_check-check.result ≡ valid_bs (flat a.table a.rows.now) a.date.year a.date.month a.date.day = let d = c.args.date in
+    c.date_check-check.ensures ∙ valid_is _ _ d.year d.month d.day (c.pass_table-p.ensures.good c.if-p-eq0.false) in
+    let known : let a = c.args in Valid (flat a.table a.rows.now) a.date.year a.date.month a.date.day = valid_told _ _ _ _ (said valid_says c.in-Valid.is checked) in
+    let table : let a = c.args in Facts a.table a.rows.now = facts _ _ known.month.good in
+    let row : let a = c.args in let i = a.date.year - a.table.first_year in let p = c.pass_table-p.result in (p.row ≡ i) × (p.before ≡ row_days a.rows.now i) = let k = known.month in
+    rw (← c.row_of.ensures) (row_reached _ _ table _ _ _ (rw c.row_of.ensures (omega arith)) (c.pass_table-p.ensures.reached c.if-p-eq0.false)) in
+    let first : c.frame-start.result ≡ day_number (first_day c.args.table) = let s = c.frame-start.ensures in
+    s.start (λ z. s.bad z table.frame) in
+    let number_is : let a = c.args in c.day_in_row-n.result ≡ day_at (flat a.table a.rows.now) (a.date.year - a.table.first_year) (a.date.month - 1) (a.date.day - 1) = let r = row in
+    rw (c.day_in_row-n.ensures, first, r.0, r.1) in
+    let k = known in
+    rw number_is (on_numbered _ _ (served _ _ k.month.good) (valid_on _ _ _ _ k))
 
 pub returns-in-Refused : goal.returns-in-Refused
 unfolding to_ad
-returns-in-Refused c = valid_refused _ _ _ _ _ _ (said valid_says c.in-Refused.is (checked c.before.before.before))
+returns-in-Refused c =
+    let checked : let a = c.args in valid_says c.date_check-check.result ≡ valid_bs (flat a.table a.rows.now) a.date.year a.date.month a.date.day = let d = c.args.date in
+    c.date_check-check.ensures ∙ valid_is _ _ d.year d.month d.day (c.pass_table-p.ensures.good c.if-p-eq0.false) in
+    valid_refused _ _ _ _ _ _ (said valid_says c.in-Refused.is checked)
 
 pub returns-in-Valid : goal.returns-in-Valid
 unfolding to_ad
-returns-in-Valid c = ap answered (c.date_of.ensures ∙ ap date_of (number_is c.before)) ∙ sym (of_date_law _ _ _ _ _ (known c.before.before.before))
+returns-in-Valid c =
+    let checked : let a = c.args in valid_says c.date_check-check.result ≡ valid_bs (flat a.table a.rows.now) a.date.year a.date.month a.date.day = let d = c.args.date in
+    c.date_check-check.ensures ∙ valid_is _ _ d.year d.month d.day (c.pass_table-p.ensures.good c.if-p-eq0.false) in
+    let known : let a = c.args in Valid (flat a.table a.rows.now) a.date.year a.date.month a.date.day = valid_told _ _ _ _ (said valid_says c.in-Valid.is checked) in
+    let table : let a = c.args in Facts a.table a.rows.now = facts _ _ known.month.good in
+    let row : let a = c.args in let i = a.date.year - a.table.first_year in let p = c.pass_table-p.result in (p.row ≡ i) × (p.before ≡ row_days a.rows.now i) = let k = known.month in
+    rw (← c.row_of.ensures) (row_reached _ _ table _ _ _ (rw c.row_of.ensures (omega arith)) (c.pass_table-p.ensures.reached c.if-p-eq0.false)) in
+    let first : c.frame-start.result ≡ day_number (first_day c.args.table) = let s = c.frame-start.ensures in
+    s.start (λ z. s.bad z table.frame) in
+    let number_is : let a = c.args in c.day_in_row-n.result ≡ day_at (flat a.table a.rows.now) (a.date.year - a.table.first_year) (a.date.month - 1) (a.date.day - 1) = let r = row in
+    rw (c.day_in_row-n.ensures, first, r.0, r.1) in
+    ap answered (c.date_of.ensures ∙ ap date_of number_is) ∙ sym (of_date_law _ _ _ _ _ known)

@@ -8,34 +8,33 @@ use Rattle.conversion.specs.Answers.{valid_says}
 use Rattle.conversion.proofs.Accepted.{facts, first_small, years_in_law, years_sum, untested_is, valid_is}
 use Rattle.conversion.proofs.Days.{Valid, valid_told, valid_refused, converts}
 use Rattle.conversion.proofs.number_of.Goals as goal
-use Rattle.conversion.proofs.number_of.Goals.{After-span, In-Valid}
-
--- where the date is one of the table
-known : (c : In-Valid) → let a = c.args in Valid (untested a.table a.rows.now) a.date.year a.date.month a.date.day
-known c = valid_told _ _ _ _ (said valid_says c.in-Valid.is c.date_check-check.ensures)
 
 pub overflow_sub-i : goal.overflow_sub-i
-overflow_sub-i c = (known c.before.before).month.year_from
+overflow_sub-i c =
+    let known : let a = c.args in Valid (untested a.table a.rows.now) a.date.year a.date.month a.date.day = valid_told _ _ _ _ (said valid_says c.in-Valid.is c.date_check-check.ensures) in
+    known.month.year_from
 
 pub span-requires : goal.span-requires
 span-requires c =
-    let k = (known c.before.before).month in
+    let known : let a = c.args in Valid (untested a.table a.rows.now) a.date.year a.date.month a.date.day = valid_told _ _ _ _ (said valid_says c.in-Valid.is c.date_check-check.ensures) in
+    let k = known.month in
     years_in_law c.args.rows.now (c.args.date.year - c.args.table.first_year) c.requires.frame.few (omega arith)
-
-early : (c : After-span) → c.args.start < 2506332
-early c = omega (arith, c.requires.first, first_small c.args.table _ c.requires.frame)
 
 pub overflow_add-first : goal.overflow_add-first
 overflow_add-first c =
-    let k = (known c.before.before.before).month in
-    omega (arith, early c, c.requires.frame.few, c.span.ensures.most)
+    let early : c.args.start < 2506332 = omega (arith, c.requires.first, first_small c.args.table _ c.requires.frame) in
+    let known : let a = c.args in Valid (untested a.table a.rows.now) a.date.year a.date.month a.date.day = valid_told _ _ _ _ (said valid_says c.in-Valid.is c.date_check-check.ensures) in
+    let k = known.month in
+    omega (arith, early, c.requires.frame.few, c.span.ensures.most)
 
 pub day_in_row-requires : goal.day_in_row-requires
 day_in_row-requires c =
-    let k = known c.before.before.before in
+    let early : c.args.start < 2506332 = omega (arith, c.requires.first, first_small c.args.table _ c.requires.frame) in
+    let known : let a = c.args in Valid (untested a.table a.rows.now) a.date.year a.date.month a.date.day = valid_told _ _ _ _ (said valid_says c.in-Valid.is c.date_check-check.ensures) in
+    let k = known in
     record {
       row = omega (arith, k.month);
-      early = omega (arith, early c, k.month, c.requires.frame.few, c.span.ensures.most);
+      early = omega (arith, early, k.month, c.requires.frame.few, c.span.ensures.most);
       month_from = k.month.month_from;
       month_to = k.month.month_to;
       day_from = k.day_from;
@@ -50,7 +49,8 @@ returns-in-Refused c g =
 
 pub returns-in-Valid : goal.returns-in-Valid
 returns-in-Valid c g =
+    let known : let a = c.args in Valid (untested a.table a.rows.now) a.date.year a.date.month a.date.day = valid_told _ _ _ _ (said valid_says c.in-Valid.is c.date_check-check.ensures) in
     let d = c.args.date in
-    let k = known c.before.before.before.before in
+    let k = known in
     let years = c.span.ensures.whole ∙ years_sum _ _ (facts _ _ g) (d.year - c.args.table.first_year) (omega (arith, k.month)) in
     sym (rw (← untested_is c.args.table c.args.rows.now g) (rw (converts _ _ _ _ k, c.day_in_row.ensures, years, c.requires.first)))

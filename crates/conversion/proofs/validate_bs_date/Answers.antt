@@ -10,9 +10,9 @@ pub returns-then-not-accepts : goal.returns-then-not-accepts
 unfolding valid_bs
 returns-then-not-accepts c =
     let a = c.args in
-    sym (no_table (flat a.table a.rows.now) a.date.year a.date.month _ (sym c.accepts.ensures ∙ not-true _ c.if-not-accepts.true))
+    sym (no_table (flat a.table a.rows.now) a.date.year a.date.month _ (sym c.accepts.ensures ∙ c.if-not-accepts.true))
 
 pub returns : goal.returns
 returns c =
     let d = c.args.date in
-    c.date_check.ensures ∙ valid_is _ _ d.year d.month d.day (sym c.accepts.ensures ∙ not-false _ c.if-not-accepts.false)
+    c.date_check.ensures ∙ valid_is _ _ d.year d.month d.day (sym c.accepts.ensures ∙ c.if-not-accepts.false)

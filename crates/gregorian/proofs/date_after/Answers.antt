@@ -9,8 +9,7 @@ use Rattle.gregorian.proofs.date_after.Goals.{After-month_start}
 -- what the code makes
 abbrev answer : After-month_start → Date
 answer c =
-    date (1900 + c.before.before.before.before.year-of.result) c.before.month-of.result
-    (c.before.before.before.before.before.args.n - c.before.before.before.year-start.result - c.month-start.result + 1)
+    date (1900 + c.year_of-k.result) c.month_of-m.result (c.args.n - c.year_start.result - c.month_start.result + 1)
 
 -- it is a date
 good : (c : After-month_start) → IsReal (answer c)

@@ -8,10 +8,6 @@ use Rattle.gregorian.proofs.number.Goals.{After-month_start-months, Start}
 known : (c : Start) → IsReal (date c.args.y c.args.m c.args.d)
 known c = real_of (date c.args.y c.args.m c.args.d) c.requires
 
--- the months are the twelve
-month : (c : Start) → c.args.m ≤ 12
-month c = let k = known c in month_high (leap c.args.y) c.args.m (le_trans k.first k.last)
-
 -- the three parts make the number
 whole : (c : After-month_start-months)
     → 2415021 + c.year_start-years.result + c.month_start-months.result + (c.args.d - 1)
@@ -30,7 +26,10 @@ pub year_start-years-requires : goal.year_start-years-requires
 year_start-years-requires c = let k = (known c).low in let h = (known c).high in omega arith
 
 pub month_start-months-requires : goal.month_start-months-requires
-month_start-months-requires c = let k = month c.before.before in omega arith
+month_start-months-requires c =
+    let known : IsReal (date c.args.y c.args.m c.args.d) = real_of (date c.args.y c.args.m c.args.d) c.requires in
+    let month : c.args.m ≤ 12 = let k = known in month_high (leap c.args.y) c.args.m (le_trans k.first k.last) in
+    let k = month in omega arith
 
 pub overflow_add-result : goal.overflow_add-result
 overflow_add-result c = omega (arith, small c)
@@ -39,7 +38,9 @@ pub overflow_add-result-2 : goal.overflow_add-result-2
 overflow_add-result-2 c = omega (arith, small c)
 
 pub overflow_sub-result : goal.overflow_sub-result
-overflow_sub-result c = (known c.before.before.before).first
+overflow_sub-result c =
+    let known : IsReal (date c.args.y c.args.m c.args.d) = real_of (date c.args.y c.args.m c.args.d) c.requires in
+    known.first
 
 pub overflow_add-result-3 : goal.overflow_add-result-3
 overflow_add-result-3 c = omega (arith, small c)

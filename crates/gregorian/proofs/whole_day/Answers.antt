@@ -15,7 +15,7 @@ cut c =
 pub truncating_f64_to_u64-requires : goal.truncating_f64_to_u64-requires
 truncating_f64_to_u64-requires c =
     let x = c.args.x in
-    rw c.local_day.ensures (Instants.local_above x c.requires, Instants.local_below x c.requires)
+    rw c.local_day.ensures (record { lower_bound = Instants.local_above x c.requires; upper_bound = Instants.local_below x c.requires })
 
 pub overflow_cast-result : goal.overflow_cast-result
 overflow_cast-result c =

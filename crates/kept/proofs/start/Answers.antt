@@ -1,5 +1,4 @@
 -- `kept::start` meets its contract. Assumes nothing.
-use borrow.Author.Tests.{not-true, not-false}
 use mathlib.Core.Path.{refl, sym, ◌∙◌}
 use Rattle.paper.proofs.Answers.{refused_answered}
 use Rattle.kept.specs.Operations.{blank}
@@ -12,7 +11,7 @@ pub returns-then-not-can_start : goal.returns-then-not-can_start
 returns-then-not-can_start c =
     let t = c.args.table in
     record {
-      answer = not_started t (sym c.can_start.ensures ∙ not-true c.can_start.result c.if-not-can_start.true);
+      answer = not_started t (sym c.can_start.ensures ∙ c.if-not-can_start.true);
       is = blank_record t _ c.no_years-store.ensures;
       ready = λ e. absurd (refused_answered refl e);
     }
@@ -20,6 +19,6 @@ returns-then-not-can_start c =
 pub returns : goal.returns
 returns c =
     let t = c.args.table in
-    let g = sym c.can_start.ensures ∙ not-false c.can_start.result c.if-not-can_start.false in
+    let g = sym c.can_start.ensures ∙ c.if-not-can_start.false in
     let r = blank_record t _ c.no_years-store.ensures in
     record { answer = started t g; is = r; ready = λ e. made _ (blank t) (good_blank t g) r }

@@ -25,13 +25,13 @@ returns-in-Text c = rw (sym c.lending_of.ensures ∙ c.in-Text.is)
 
 pub returns-in-Cells : goal.returns-in-Cells
 returns-in-Cells c = let w = c.append.ensures in
-    let n = c.n-1.given in
-    rw (sym c.lending_of.ensures ∙ n.1, wrote_longer c.args.w n.0.0 w, w.stored)
+    let n = c.in-Cells in
+    rw (sym c.lending_of.ensures ∙ n.is, wrote_longer c.args.w n.n w, w.stored)
 
 pub returns-in-Numbers : goal.returns-in-Numbers
 returns-in-Numbers c = let w = c.append-in-Numbers.ensures in
-    let n = c.n-in-Numbers-1.given in
-    rw (sym c.lending_of.ensures ∙ n.1, wrote_longer c.args.w n.0.0 w, w.stored)
+    let n = c.in-Numbers in
+    rw (sym c.lending_of.ensures ∙ n.is, wrote_longer c.args.w n.n w, w.stored)
 
 pub returns-in-Octets : goal.returns-in-Octets
 returns-in-Octets c = let w = c.put.ensures in

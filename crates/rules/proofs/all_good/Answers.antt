@@ -1,6 +1,6 @@
 -- `rules::all_good` meets its contract. The invariant: what was tested and what is left to test come to the same. Assumes nothing.
 use mathlib.Core.Path.{sym, ◌∙◌}
-use mathlib.Core.Bool.{and_true}
+use mathlib.Core.Bool.{and-true}
 use Prim.Native.Nat.{◌-◌, ◌/◌}
 use native.Mathlib.Nat.{sub-zero}
 use native.Mathlib.Omega.{arith}
@@ -21,4 +21,4 @@ pub returns : goal.returns
 returns c =
     let l = c.loop-i in
     let xs = c.args.rules.now in
-    sym (and_true l.good) ∙ rw (left_none xs l.i (length xs / 8) c.loop-i-test.false, good_none) at l.invariant.1
+    sym (and-true l.good) ∙ rw (left_none xs l.i (length xs / 8) c.loop-i-test.false, good_none) at l.invariant.1

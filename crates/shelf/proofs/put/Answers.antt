@@ -17,4 +17,4 @@ returns-then-state-gt65535-2 c =
 pub returns : goal.returns
 returns c =
     let a = c.args in
-    c.put_all_lem.ensures ∙ sym (fitting a.state a.out.now c.if-out-lt4488.false c.if-state-gt65535.false c.if-state-gt65535-2.false)
+    c.put_all.ensures ∙ sym (fitting a.state a.out.now c.if-out-lt4488.false c.if-state-gt65535.false c.if-state-gt65535-2.false)

@@ -4,7 +4,6 @@ use mathlib.Core.Path.{◌≡◌, refl, ◌∙◌}
 use native.Mathlib.Nat.{add-zero}
 use native.Mathlib.Omega.{arith}
 use lib.ListN.{length, length-set}
-use Rattle.shelf.proofs.Sizes.{sized}
 use Rattle.shelf.proofs.Halves.{halves_turn, halves_end}
 use Rattle.shelf.proofs.put_days.Goals as goal
 
@@ -17,10 +16,10 @@ bounds-out-k-in-loop-i c = simp length-set (omega arith)
 pub loop-i-preserved : goal.loop-i-preserved
 loop-i-preserved c =
     let l = c.loop-i in
-    let n : length c.args.t3.days ≡ 64 = sized c.args.t3.days 64 c.well_formed.1.1.0.1.1.0.1.0.1 in (
+    let n : length c.args.entries.days ≡ 64 = c.well_formed.1.1.0.1.1.0.1.0.1 in (
       omega arith,
       simp length-set l.invariant.1,
-      halves_turn l.out c.args.t3.days c.args.at l.i _ _ (omega arith) c.low_half_lem.ensures c.high_half_lem.ensures ∙ l.invariant.2,
+      halves_turn l.out c.args.entries.days c.args.at l.i _ _ (omega arith) c.low_half.ensures c.high_half.ensures ∙ l.invariant.2,
     )
 
 pub shape_of-out : goal.shape_of-out
@@ -29,5 +28,5 @@ shape_of-out c = c.loop-i.invariant.1
 pub returns : goal.returns
 returns c =
     let l = c.loop-i in
-    let n : length c.args.t3.days ≡ 64 = sized c.args.t3.days 64 c.well_formed.1.1.0.1.1.0.1.0.1 in
-    halves_end l.out _ c.args.t3.days c.args.at l.i (omega arith) l.invariant.2
+    let n : length c.args.entries.days ≡ 64 = c.well_formed.1.1.0.1.1.0.1.0.1 in
+    halves_end l.out _ c.args.entries.days c.args.at l.i (omega arith) l.invariant.2

@@ -4,25 +4,25 @@ use Prim.Native.Nat.{◌+◌}
 use native.Mathlib.Omega.{arith}
 use lib.ListN.{drop}
 use Rattle.text.proofs.Said.{number_said, number_unsaid}
-use Rattle.asked.proofs.Octets.{octet_over, octet_half, octet-said, octet-unsaid, octet_small}
+use Rattle.asked.proofs.HeldOctets.{octet_over, octet_half, octet-said, octet-unsaid, octet_small}
 use Rattle.asked.proofs.bytes.octet_at.Goals as goal
 
 pub returns-then-s-at : goal.returns-then-s-at
 returns-then-s-at c = let a = c.args in
-    (record { same = octet_over a.s.now a.c.at c.if-s-at.true; inside = omega arith }, omega arith)
+    record { says = record { same = octet_over a.s.now a.c.at c.if-s-at.true; inside = omega arith }; result_bound = omega arith }
 
 pub returns-then-s-at-lt2 : goal.returns-then-s-at-lt2
 returns-then-s-at-lt2 c = let a = c.args in
-    (record { same = octet_half a.s.now a.c.at (omega arith) (omega arith); inside = omega arith }, omega arith)
+    record { says = record { same = octet_half a.s.now a.c.at (omega arith) (omega arith); inside = omega arith }; result_bound = omega arith }
 
 pub returns-in-Number : goal.returns-in-Number
 returns-in-Number c = let a = c.args in
-    let n = c.n-1.given in
-    let e = rw c.start.ensures at (number_said c.hex.result c.hex.ensures n.1) in
-    let q = octet-said a.s.now a.c.at (omega arith) n.0.0 e in
-    (record { same = q; inside = omega arith }, octet_small (drop a.c.at a.s.now) n.0.0 (drop (a.c.at + 2) a.s.now) (sym q))
+    let n = c.in-Number.n in
+    let e = rw c.start.ensures at (number_said c.hex.result c.hex.ensures c.in-Number.is) in
+    let q = octet-said a.s.now a.c.at (omega arith) n e in
+    record { says = record { same = q; inside = omega arith }; result_bound = octet_small (drop a.c.at a.s.now) n (drop (a.c.at + 2) a.s.now) (sym q) }
 
 pub returns-in-NotOne : goal.returns-in-NotOne
 returns-in-NotOne c = let a = c.args in
     let e = rw c.start.ensures at (number_unsaid c.hex.result c.hex.ensures c.in-NotOne.is) in
-    (record { same = octet-unsaid a.s.now a.c.at (omega arith) e; inside = omega arith }, omega arith)
+    record { says = record { same = octet-unsaid a.s.now a.c.at (omega arith) e; inside = omega arith }; result_bound = omega arith }

@@ -1,7 +1,7 @@
 -- Behind the tag, or none. Assumes nothing.
 use mathlib.Core.Path.{◌∙◌}
 use Rattle.text.proofs.Said.{passed_said, passed_unsaid}
-use Rattle.asked.proofs.Octets.{octets_none, octets_some}
+use Rattle.asked.proofs.HeldOctets.{octets_none, octets_some}
 use Rattle.asked.proofs.bytes.octets_of.Goals as goal
 
 pub returns-in_default : goal.returns-in_default

@@ -4,7 +4,7 @@ use mathlib.Core.Path.{refl, ◌∙◌}
 use native.Mathlib.Omega.{arith}
 use lib.ListN.{length-set}
 use Rattle.text.proofs.Said.{number_said, number_unsaid}
-use Rattle.asked.proofs.Octets.{left_first, left_over, left-full, left-bad, left_turn, value_small}
+use Rattle.asked.proofs.HeldOctets.{left_first, left_over, left-full, left-bad, left_turn, value_small}
 use Rattle.asked.proofs.bytes.read_octets.Goals as goal
 
 pub loop-at-init : goal.loop-at-init
@@ -19,19 +19,19 @@ pub returns-in_default : goal.returns-in_default
 returns-in_default c = let l = c.loop-at in
     let a = c.args in
     c.no_octets-in_default.ensures ∙ left-bad a.s.now l.at l.count l.bytes c.loop-at-test.true (omega (arith, l.invariant.0, c.if-count-eq64.false))
-    (number_unsaid c.octet_at.result c.octet_at.ensures.0 c.in_default.is) ∙ l.invariant.2 ∙ left_first a.s.now a.c.at
+    (number_unsaid c.octet_at.result c.octet_at.ensures.says c.in_default.is) ∙ l.invariant.2 ∙ left_first a.s.now a.c.at
 
 pub overflow_cast-bytes : goal.overflow_cast-bytes
-overflow_cast-bytes c = let b = c.b-1.given in omega (arith, value_small c.octet_at.result c.octet_at.ensures.1 b.1)
+overflow_cast-bytes c = omega (arith, value_small c.octet_at.result c.octet_at.ensures.result_bound c.in-Number.is)
 
 pub loop-at-preserved : goal.loop-at-preserved
 loop-at-preserved c = let l = c.loop-at in
     let a = c.args in
-    let b = c.b-1.given in (
+    let b = c.in-Number in (
       omega (arith, l.invariant.0, c.if-count-eq64.false),
       simp length-set l.invariant.1,
-      left_turn a.s.now l.at l.count l.bytes c.loop-at-test.true (omega (arith, l.invariant.0, c.if-count-eq64.false)) b.0.0 b.0.1.0.at
-          (number_said c.octet_at.result c.octet_at.ensures.0 b.1) ∙ l.invariant.2,
+      left_turn a.s.now l.at l.count l.bytes c.loop-at-test.true (omega (arith, l.invariant.0, c.if-count-eq64.false)) b.b b.next.at
+          (number_said c.octet_at.result c.octet_at.ensures.says b.is) ∙ l.invariant.2,
     )
 
 pub returns : goal.returns

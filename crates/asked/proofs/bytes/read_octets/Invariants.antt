@@ -1,7 +1,7 @@
 use Prim.Native.Nat.{◌-◌, ◌≤◌}
 use mathlib.Core.Path.{◌≡◌}
 use lib.ListN.{length}
-use Rattle.asked.proofs.Octets.{Left}
+use Rattle.asked.proofs.HeldOctets.{Left}
 use Rattle.asked.proofs.bytes.read_octets.Given as goal
 
 abbrev pub invariant-loop-at : goal.invariant-loop-at

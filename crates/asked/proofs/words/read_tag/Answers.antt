@@ -3,7 +3,6 @@ use Prim.Native.Nat.{◌+◌, ◌-◌, ◌*◌, ◌≤◌}
 use mathlib.Core.Path.{◌≡◌, refl, sym, ◌∙◌}
 use mathlib.Core.Bool.{true}
 use native.Mathlib.Omega.{arith}
-use borrow.Author.Tests.{not-true, not-false}
 use lib.ListN.{get_or}
 use Rattle.asked.specs.Line.{letter}
 use Rattle.asked.proofs.Splits.{letter_is, letters_over, letters_stop, letters_large, letters_turn}
@@ -16,43 +15,43 @@ pub returns-then-not-is_letter : goal.returns-then-not-is_letter
 returns-then-not-is_letter c = let a = c.args in
     let l = c.loop-i in
     record {
-      same = letters_stop a.s.now l.i l.v c.loop-i-test.true (sym c.is_letter.ensures ∙ not-true c.is_letter.result c.if-not-is_letter.true) ∙ l.invariant.1;
+      same = letters_stop a.s.now l.i l.v c.loop-i-test.true (sym c.is_letter.ensures ∙ c.if-not-is_letter.true) ∙ l.invariant.1;
       inside = l.invariant.0;
     }
 
 pub overflow_sub-d : goal.overflow_sub-d
 overflow_sub-d c = let x = get_or c.args.s.now c.loop-i.i 0 in
-    omega (arith, letter_is x (sym c.is_letter.ensures ∙ not-false c.is_letter.result c.if-not-is_letter.false))
+    omega (arith, letter_is x (sym c.is_letter.ensures ∙ c.if-not-is_letter.false))
 
 pub overflow_cast-d : goal.overflow_cast-d
 overflow_cast-d c = let x = get_or c.args.s.now c.loop-i.i 0 in
-    omega (arith, letter_is x (sym c.is_letter.ensures ∙ not-false c.is_letter.result c.if-not-is_letter.false))
+    omega (arith, letter_is x (sym c.is_letter.ensures ∙ c.if-not-is_letter.false))
 
 pub overflow_sub-d-in-loop-i : goal.overflow_sub-d-in-loop-i
 overflow_sub-d-in-loop-i c = let x = get_or c.args.s.now c.loop-i.i 0 in
-    omega (arith, letter_is x (sym c.is_letter.ensures ∙ not-false c.is_letter.result c.if-not-is_letter.false))
+    omega (arith, letter_is x (sym c.is_letter.ensures ∙ c.if-not-is_letter.false))
 
 pub returns-then-d-v : goal.returns-then-d-v
 returns-then-d-v c = let a = c.args in
     let l = c.loop-i in
     let x = get_or a.s.now l.i 0 in
-    let d : letter x ≡ true = sym c.is_letter.ensures ∙ not-false c.is_letter.result c.if-not-is_letter.false in
+    let d : letter x ≡ true = sym c.is_letter.ensures ∙ c.if-not-is_letter.false in
     let g = letter_is x d in
     record { same = letters_large a.s.now l.i l.v c.loop-i-test.true d (omega arith) ∙ l.invariant.1; inside = omega arith }
 
 pub overflow_mul-v : goal.overflow_mul-v
 overflow_mul-v c = let x = get_or c.args.s.now c.loop-i.i 0 in
-    omega (arith, letter_is x (sym c.is_letter.ensures ∙ not-false c.is_letter.result c.if-not-is_letter.false))
+    omega (arith, letter_is x (sym c.is_letter.ensures ∙ c.if-not-is_letter.false))
 
 pub overflow_add-v : goal.overflow_add-v
 overflow_add-v c = let x = get_or c.args.s.now c.loop-i.i 0 in
-    omega (arith, letter_is x (sym c.is_letter.ensures ∙ not-false c.is_letter.result c.if-not-is_letter.false))
+    omega (arith, letter_is x (sym c.is_letter.ensures ∙ c.if-not-is_letter.false))
 
 pub loop-i-preserved : goal.loop-i-preserved
 loop-i-preserved c = let a = c.args in
     let l = c.loop-i in
     let x = get_or a.s.now l.i 0 in
-    let d : letter x ≡ true = sym c.is_letter.ensures ∙ not-false c.is_letter.result c.if-not-is_letter.false in
+    let d : letter x ≡ true = sym c.is_letter.ensures ∙ c.if-not-is_letter.false in
     let g = letter_is x d in
     let m : l.v * 64 + (x - 96) ≤ 18446744073709551615 = omega arith in
     (omega arith, letters_turn a.s.now l.i l.v c.loop-i-test.true d m ∙ l.invariant.1)

@@ -9,27 +9,31 @@ pub returns-in-To : goal.returns-in-To
 returns-in-To c = let a = c.args in
     let s = a.s.now in
     let x = drop a.c.at s in
-    of_kind_said s x 4 c.hex.result c.of_kind.result (omega arith) c.of_kind.ensures c.hex.ensures
-    (word_bits x (passed_said c.pass.result c.pass.ensures c.in-To.is))
+    let r = of_kind_said s x 4 c.hex.result c.of_kind.result (omega arith) c.of_kind.ensures c.hex.ensures
+    (word_bits x (passed_said c.pass.result c.pass.ensures c.in-To.is)) in
+    record { says = r.0; result_bound = r.1 }
 
 pub returns-in-To-pass : goal.returns-in-To-pass
 returns-in-To-pass c = let a = c.args in
     let s = a.s.now in
     let x = drop a.c.at s in
-    of_kind_said s x 3 c.decimal.result c.of_kind-in-To-pass.result (omega arith) c.of_kind-in-To-pass.ensures c.decimal.ensures
-    (word-minus x (passed_unsaid c.pass.result c.pass.ensures c.in_default.is) (passed_said c.pass-2.result c.pass-2.ensures c.in-To-pass.is))
+    let r = of_kind_said s x 3 c.decimal.result c.of_kind-in-To-pass.result (omega arith) c.of_kind-in-To-pass.ensures c.decimal.ensures
+    (word-minus x (passed_unsaid c.pass.result c.pass.ensures c.in_default.is) (passed_said c.pass-2.result c.pass-2.ensures c.in-To-pass.is)) in
+    record { says = r.0; result_bound = r.1 }
 
 pub returns-in-Number : goal.returns-in-Number
 returns-in-Number c = let a = c.args in
     let s = a.s.now in
     let x = drop a.c.at s in
-    number_said_as s x c.kind_of.result c.in-Number.n c.in-Number.next c.kind_of.ensures
+    let r = number_said_as s x c.kind_of.result c.in-Number.n c.in-Number.next c.kind_of.ensures
     (number_said c.decimal-2.result c.decimal-2.ensures c.in-Number.is) (number_inside c.decimal-2.result c.decimal-2.ensures c.in-Number.is)
-    (word_number x (passed_unsaid c.pass.result c.pass.ensures c.in_default.is) (passed_unsaid c.pass-2.result c.pass-2.ensures c.in_default-pass.is))
+    (word_number x (passed_unsaid c.pass.result c.pass.ensures c.in_default.is) (passed_unsaid c.pass-2.result c.pass-2.ensures c.in_default-pass.is)) in
+    record { says = r.0; result_bound = r.1 }
 
 pub returns-in-NotOne : goal.returns-in-NotOne
 returns-in-NotOne c = let a = c.args in
     let s = a.s.now in
     let x = drop a.c.at s in
-    no_word s x (number_unsaid c.decimal-2.result c.decimal-2.ensures c.in-NotOne.is)
-    (word_number x (passed_unsaid c.pass.result c.pass.ensures c.in_default.is) (passed_unsaid c.pass-2.result c.pass-2.ensures c.in_default-pass.is))
+    let r = no_word s x (number_unsaid c.decimal-2.result c.decimal-2.ensures c.in-NotOne.is)
+    (word_number x (passed_unsaid c.pass.result c.pass.ensures c.in_default.is) (passed_unsaid c.pass-2.result c.pass-2.ensures c.in_default-pass.is)) in
+    record { says = r.0; result_bound = r.1 }

@@ -19,7 +19,9 @@ pub offset_bounds-rows-k : goal.offset_bounds-rows-k
 offset_bounds-rows-k c = omega (arith, k-in c)
 
 pub bounds-rows-k : goal.bounds-rows-k
-bounds-rows-k c = k-in c.before
+bounds-rows-k c =
+    let k-in : c.loop-i.k < length c.args.rows.now = omega (arith, c.requires.inside c.loop-i.i c.loop-i-test.true) in
+    k-in
 
 pub overflow_cast-total : goal.overflow_cast-total
 overflow_cast-total c = omega (arith, c.shared_slice_known-1.given c.loop-i.k)
@@ -29,7 +31,9 @@ overflow_add-total c =
     omega (arith, c.shared_slice_known-1.given c.loop-i.k, c.requires.few)
 
 pub overflow_add-k : goal.overflow_add-k
-overflow_add-k c = omega (arith, k-in c.before, c.requires.small)
+overflow_add-k c =
+    let k-in : c.loop-i.k < length c.args.rows.now = omega (arith, c.requires.inside c.loop-i.i c.loop-i-test.true) in
+    omega (arith, k-in, c.requires.small)
 
 pub loop-i-preserved : goal.loop-i-preserved
 loop-i-preserved c =

@@ -1,11 +1,9 @@
 -- `kept::asking::list_ad` meets its contract. Assumes nothing.
-use mathlib.Core.Path.{◌≡◌, sym, ap, ◌∙◌}
-use mathlib.Core.Bool.{true}
+use mathlib.Core.Path.{sym, ap, ◌∙◌}
 use Rattle.paper.proofs.Answers.{said}
-use Rattle.gregorian.specs.Calendar.{day_number}
-use Rattle.gregorian.specs.Answers.{real, number_says}
+use Rattle.gregorian.specs.Answers.{number_says}
 use Rattle.conversion.specs.Calendar.{from_day}
-use Rattle.conversion.specs.Flat.{accepted, flat}
+use Rattle.conversion.specs.Flat.{flat}
 use Rattle.conversion.specs.Answers.{valid_says}
 use Rattle.conversion.proofs.Ad.{from_ad_law}
 use Rattle.rules.specs.Rules.{rules_of, accepted_rules}
@@ -16,23 +14,13 @@ use Rattle.festivals.proofs.Numbered.{its_number}
 use Rattle.kept.specs.Operations.{drawn_on}
 use Rattle.kept.proofs.Replies.{day_rowless, day_behind, day_not, day_by_law}
 use Rattle.kept.proofs.asking.list_ad.Goals as goal
-use Rattle.kept.proofs.asking.list_ad.Goals.{In-Number-2, In-Valid}
 
 pub returns-then-rows-eq0 : goal.returns-then-rows-eq0
 returns-then-rows-eq0 c = λ g. let a = c.args in day_rowless _ _ _ _ a.rows.now c.if-rows-eq0.true _ a.out.now
 
 -- what is lent was accepted
-both : (e : In-Valid) → let a = e.args in (accepted a.table a.rows.now ≡ true) × (accepted_rules a.rules.now ≡ true)
-both e =
-    let a = e.args in
-    accepted_both (flat a.table a.rows.now) _ (said valid_says e.in-Valid.is e.accept-lent.ensures)
-
--- the date's number
-number : (n : In-Number-2) → (real n.args.ad ≡ true) × (n.in-Number.n ≡ day_number n.args.ad)
-number n = its_number _ _ (said number_says n.in-Number.is n.day_number-number.ensures)
-
 pub list_placed-requires : goal.list_placed-requires
-list_placed-requires c = both c.before.before.before.before.before
+list_placed-requires c = accepted_both (flat c.args.table c.args.rows.now) _ (said valid_says c.in-Valid.is c.accept-lent.ensures)
 
 pub returns-in-Refused : goal.returns-in-Refused
 returns-in-Refused c = λ g.
@@ -45,7 +33,7 @@ pub returns-in-Refused-number : goal.returns-in-Refused-number
 returns-in-Refused-number c = λ g.
     let a = c.args in
     let xs = a.rules.now in
-    let b = both c.before.before.before.before in
+    let b = accepted_both (flat a.table a.rows.now) _ (said valid_says c.in-Valid.is c.accept-lent.ensures) in
     let e = ad-no-date kathmandu (flat a.table a.rows.now) (rules_of xs) (accepted_rules xs) a.ad.year a.ad.month a.ad.day b.0 b.1 _ (said number_says c.in-Refused-number.is c.day_number-number.ensures) in
     day_behind _ _ _ _ a.rows.now c.if-rows-eq0.false a.out.now (day_not _ _ _ _ _ _ a.out.now e)
 
@@ -54,8 +42,8 @@ returns-in-Number c = λ g.
     let a = c.args in
     let k = flat a.table a.rows.now in
     let xs = a.rules.now in
-    let b = both c.before.before.before.before.before.before.before.before in
-    let n = number c.before.before.before.before.before in
+    let b = accepted_both k _ (said valid_says c.in-Valid.is c.accept-lent.ensures) in
+    let n = its_number _ _ (said number_says c.in-Number.is c.day_number-number.ensures) in
     let e = ad-list kathmandu k (rules_of xs) (accepted_rules xs) a.ad.year a.ad.month a.ad.day b.0 b.1 n.0 _ n.1 in
     let d = ap (drawn_on k) (from_ad_law k a.ad.year a.ad.month a.ad.day b.0 n.0 ∙ ap (from_day k) (sym n.1)) in
     day_behind _ _ _ _ a.rows.now c.if-rows-eq0.false a.out.now (day_by_law a.out.now d e (c.list_placed.ensures g))

@@ -1,47 +1,59 @@
 -- `kept::asking::list_day` meets its contract. Assumes nothing.
+use Prim.Native.Nat.{ℕ}
 use mathlib.Core.Path.{◌≡◌, ap, ◌∙◌}
+use mathlib.Core.Bool.{true}
+use mathlib.Core.List.{List}
 use Rattle.paper.specs.Answers.{answered}
 use Rattle.paper.proofs.Answers.{said}
-use Rattle.conversion.specs.Flat.{flat}
-use Rattle.rules.specs.Rules.{rules_of}
+use Rattle.conversion.specs.declared.Table.{Table}
+use Rattle.conversion.specs.declared.BsDate.{BsDate}
+use Rattle.conversion.specs.Calendar.{to_day}
+use Rattle.conversion.specs.Flat.{accepted, flat}
+use Rattle.rules.specs.Rules.{rules_of, accepted_rules}
 use Rattle.rules.specs.Resolved.{day_numbered, list_by}
 use Rattle.rules.proofs.Listed.{says_by}
 use Rattle.festivals.specs.Kathmandu.{day_list_of}
 use Rattle.festivals.specs.Answers.{list_says}
 use Rattle.festivals.proofs.Numbered.{to_numbered, drawn_list}
 use Rattle.kept.specs.declared.Store.{Store}
-use Rattle.kept.specs.Inner.{Fresh}
+use Rattle.kept.specs.State.{drawn}
+use Rattle.kept.specs.Inner.{store_for}
 use Rattle.kept.proofs.Stores.{drawn-years}
 use Rattle.kept.proofs.Replies.{dated_in, day_refused, day_counted}
 use Rattle.kept.proofs.asking.list_day.Goals as goal
-use Rattle.kept.proofs.asking.list_day.Goals.{After-drawn_years-years}
 
 pub drawn_years-years-requires : goal.drawn_years-years-requires
-drawn_years-years-requires c = (c.requires.0, dated_in (flat c.args.table c.args.rows.now) _ _ _ _ c.requires.1)
+drawn_years-years-requires c =
+    record {
+      rows_value = c.requires.rows_value;
+      year_in = dated_in (flat c.args.table c.args.rows.now) _ _ _ _ c.requires.day_value;
+    }
 
 pub list_from-answer-requires : goal.list_from-answer-requires
 list_from-answer-requires c =
     let a = c.args in
-    (c.requires.0.1, to_numbered a.table a.rows.now a.bs.year a.bs.month a.bs.day a.number c.requires.0.0 c.requires.1)
+    (c.requires.rows_value.1, to_numbered a.table a.rows.now a.bs.year a.bs.month a.bs.day a.number c.requires.rows_value.0 c.requires.day_value)
 
--- the list from the drawn years is the day's list
-its-list : (y : After-drawn_years-years) →
-    let a = y.args in
-    let c = flat a.table a.rows.now in
-    Fresh c a.rules.now a.store → day_list_of c (rules_of a.rules.now) a.bs a.number ≡ list_by (rules_of a.rules.now) (day_numbered a.bs a.number) y.drawn_years-years.result.years
-its-list y g =
-    let a = y.args in
-    let c = flat a.table a.rows.now in
-    let h = to_numbered a.table a.rows.now a.bs.year a.bs.month a.bs.day a.number y.requires.0.0 y.requires.1 in
-    let e = ap (λ (s : Store). s.years) (y.drawn_years-years.ensures g) ∙ drawn-years c a.rules.now a.bs.year a.bs.month (dated_in c _ _ _ _ y.requires.1) in
-    drawn_list a.table a.rows.now a.rules.now a.bs a.number y.requires.0.1 h _ e
+-- the list of the day, from the years drawn, whose store is s
+its-list : (t : Table) (rows rules : List ℕ) (bs : BsDate) (n : ℕ) → (accepted t rows ≡ true) × (accepted_rules rules ≡ true) → to_day (flat t rows) bs.year bs.month bs.day ≡ answered n
+    → (s : Store) → s ≡ store_for (flat t rows) rules (drawn (flat t rows) bs.year bs.month)
+    → day_list_of (flat t rows) (rules_of rules) bs n ≡ list_by (rules_of rules) (day_numbered bs n) s.years
+its-list t rows rules bs n g d s e =
+    let c = flat t rows in
+    let h = to_numbered t rows bs.year bs.month bs.day n g.0 d in
+    let y = ap (λ (s : Store). s.years) e ∙ drawn-years c rules bs.year bs.month (dated_in c _ _ _ _ d) in
+    drawn_list t rows rules bs n g.1 h _ y
 
 pub returns-in-Refused : goal.returns-in-Refused
 returns-in-Refused c = λ g.
-    let s = says_by (ap answered (its-list c.before.before.before.before.before.before.before g)) (record { answer = c.list_from-answer.ensures.0; buffer = c.list_from-answer.ensures.1 }) in
+    let a = c.args in
+    let l = its-list a.table a.rows.now a.rules.now a.bs a.number c.requires.rows_value c.requires.day_value _ (c.drawn_years-years.ensures g) in
+    let s = says_by (ap answered l) (record { answer = c.list_from-answer.ensures.result_value; buffer = c.list_from-answer.ensures.out_after }) in
     day_refused _ _ _ _ _ _ _ (said list_says c.in-Refused.is s.answer) s.buffer
 
 pub returns-in-Count : goal.returns-in-Count
 returns-in-Count c = λ g.
-    let s = says_by (ap answered (its-list c.before.before.before.before.before.before.before g)) (record { answer = c.list_from-answer.ensures.0; buffer = c.list_from-answer.ensures.1 }) in
+    let a = c.args in
+    let l = its-list a.table a.rows.now a.rules.now a.bs a.number c.requires.rows_value c.requires.day_value _ (c.drawn_years-years.ensures g) in
+    let s = says_by (ap answered l) (record { answer = c.list_from-answer.ensures.result_value; buffer = c.list_from-answer.ensures.out_after }) in
     day_counted _ _ _ _ _ _ _ _ (said list_says c.in-Count.is s.answer) s.buffer (c.drawn_years-years.ensures g)

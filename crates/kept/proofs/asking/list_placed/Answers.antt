@@ -12,7 +12,10 @@ use Rattle.kept.proofs.asking.list_placed.Goals as goal
 pub list_day-requires : goal.list_day-requires
 list_day-requires c =
     let k = flat c.args.table c.args.rows.now in
-    (c.requires, to_from k _ _ (inside k c.requires.0 _ c.place-place.result c.place-place.ensures _ c.in-Inside.is))
+    record {
+      rows_value = c.requires;
+      day_value = to_from k _ _ (inside k c.requires.0 _ c.place-place.result c.place-place.ensures _ c.in-Inside.is);
+    }
 
 pub returns-in-Before : goal.returns-in-Before
 returns-in-Before c = λ g.

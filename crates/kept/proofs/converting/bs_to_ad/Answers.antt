@@ -8,4 +8,4 @@ pub returns : goal.returns
 unfolding ask_to_ad
 returns c w =
     let a = c.args in
-    asked_held a.state w _ c.front.ensures (λ (k : Calendar). to_ad k a.year a.month a.day) _ c.to_ad_law.ensures
+    asked_held a.state w _ c.front.ensures (λ (k : Calendar). to_ad k a.year a.month a.day) _ c.to_ad.ensures

@@ -7,7 +7,7 @@ use Rattle.kept.proofs.Replies.{month_not}
 use Rattle.kept.proofs.months.show_laid.Goals as goal
 
 pub show_days-requires : goal.show_days-requires
-show_days-requires c = (c.requires, said days_says c.in-Days.is c.month_days-days.ensures)
+show_days-requires c = record { rows_value = c.requires; days_value = said days_says c.in-Days.is c.month_days-days.ensures }
 
 pub returns-in-Refused : goal.returns-in-Refused
 returns-in-Refused c = λ g.

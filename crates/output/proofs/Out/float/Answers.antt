@@ -5,4 +5,4 @@ use Rattle.output.proofs.Joins.{float_short}
 use Rattle.output.proofs.Out.float.Goals as goal
 
 pub returns : goal.returns
-returns c = one_word (float_short _) c.space-o.ensures.0 c.put_float.ensures refl
+returns c = one_word (float_short _) c.space-o.ensures.wrote c.put_float.ensures refl

@@ -4,4 +4,4 @@ use Rattle.output.proofs.Joins.{one_joined}
 use Rattle.output.proofs.Out.join.Goals as goal
 
 pub returns : goal.returns
-returns c = one_joined c.room-o.ensures.1.0 c.put.ensures refl
+returns c = one_joined c.room-o.ensures.at_value.0 c.put.ensures refl

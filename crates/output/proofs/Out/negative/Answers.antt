@@ -7,4 +7,4 @@ use Rattle.output.proofs.Out.negative.Goals as goal
 
 pub returns : goal.returns
 returns c =
-    one_word (negative_short c.args.n c.ranges.n.fits) c.space-o.ensures.0 (then c.put-at.ensures c.put_decimal.ensures) refl
+    one_word (negative_short c.args.n c.ranges.n.fits) c.space-o.ensures.wrote (then c.put-at.ensures c.put_decimal.ensures) refl

@@ -5,4 +5,4 @@ use Rattle.output.proofs.Joins.{digits_short}
 use Rattle.output.proofs.Out.number.Goals as goal
 
 pub returns : goal.returns
-returns c = one_word (digits_short c.args.n c.ranges.n.fits) c.space-o.ensures.0 c.put_decimal.ensures refl
+returns c = one_word (digits_short c.args.n c.ranges.n.fits) c.space-o.ensures.wrote c.put_decimal.ensures refl

@@ -6,7 +6,7 @@ use Rattle.output.proofs.Joins.{length_octets}
 use Rattle.output.proofs.Out.octets.Goals as goal
 
 pub returns-then-list-gt15 : goal.returns-then-list-gt15
-returns-then-list-gt15 c = long_word (omega (arith, length_octets c.args.list.now, c.if-list-gt15.true)) c.space-o.ensures.0 c.space-o.ensures.1 c.join_octets.ensures
+returns-then-list-gt15 c = long_word (omega (arith, length_octets c.args.list.now, c.if-list-gt15.true)) c.space-o.ensures.wrote c.space-o.ensures.begun_value c.join_octets.ensures
 
 pub returns : goal.returns
-returns c = one_word (omega (arith, length_octets c.args.list.now, c.if-list-gt15.false)) c.space-o.ensures.0 c.put_octets.ensures refl
+returns c = one_word (omega (arith, length_octets c.args.list.now, c.if-list-gt15.false)) c.space-o.ensures.wrote c.put_octets.ensures refl

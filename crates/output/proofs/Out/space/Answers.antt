@@ -3,4 +3,7 @@ use mathlib.Core.Path.{refl}
 use Rattle.output.proofs.Out.space.Goals as goal
 
 pub returns : goal.returns
-returns c = (rw (← c.room-o.ensures.1.0, ← c.room-o.ensures.1.1) c.put_space.ensures, refl)
+returns c = record {
+  wrote = rw (← c.room-o.ensures.at_value.0, ← c.room-o.ensures.at_value.1) c.put_space.ensures;
+  begun_value = refl;
+}

@@ -4,4 +4,4 @@ use Rattle.output.proofs.Pieces.{one_piece}
 use Rattle.output.proofs.page.put_text.Goals as goal
 
 pub returns : goal.returns
-returns c = one_piece c.room-r.ensures.1.0 c.put.ensures refl
+returns c = one_piece c.room-r.ensures.at_value.0 c.put.ensures refl

@@ -20,7 +20,7 @@ unfolding rounded half_up
 half x n e l h b q = rw (l, h, ← e, q)
 
 pub truncating_f64_to_u64-n-requires : goal.truncating_f64_to_u64-n-requires
-truncating_f64_to_u64-n-requires c = ((inside c).above, (inside c).below)
+truncating_f64_to_u64-n-requires c = record { lower_bound = (inside c).above; upper_bound = (inside c).below }
 
 pub overflow_cast-n : goal.overflow_cast-n
 overflow_cast-n c = let e = cut c in let s = (inside c.before).small in omega arith

@@ -7,8 +7,8 @@ returns c =
       ← c.date_of-today.ensures,
       ← c.small.ensures,
       ← c.small-2.ensures,
-      ← c.month_grid-a.ensures.0,
-      ← c.month_grid-a.ensures.1.0,
-      ← c.month_grid-a.ensures.1.1,
+      ← c.month_grid-a.ensures.result_value,
+      ← c.month_grid-a.ensures.cells_after,
+      ← c.month_grid-a.ensures.festivals_after,
     )
     c.put_shown.ensures

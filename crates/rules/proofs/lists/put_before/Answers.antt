@@ -6,9 +6,9 @@ use Rattle.rules.proofs.lists.put_before.Goals as goal
 
 pub returns-then-day-gt2 : goal.returns-then-day-gt2
 unfolding store_pairs
-returns-then-day-gt2 c = (rw (lt-leb _ 2 c.if-day-gt2.true), search rules)
+returns-then-day-gt2 c = record { result_after = rw (lt-leb _ 2 c.if-day-gt2.true); n_bound = search rules }
 
 pub returns : goal.returns
 returns c =
     let p = c.put_resolved.ensures in
-    (rw (le-leb _ 2 c.if-day-gt2.false) p.0, p.1)
+    record { result_after = rw (le-leb _ 2 c.if-day-gt2.false) p.result_after; n_bound = p.n_bound }

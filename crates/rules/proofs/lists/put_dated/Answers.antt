@@ -17,9 +17,9 @@ loop-i-preserved c =
     let l = c.loop-i in
     let a = c.args in (
       omega arith,
-      c.keep_pair-t.auto.0 ∙ l.invariant.1,
-      omega (arith, c.keep_pair-t.ensures.1, l.invariant.2),
-      turn_picked a.rules.now l.i _ c.loop-i-test.true _ c.rule_at-r.ensures (falls a.k a.day) (l.buf, l.t) _ _ _ c.falls_on.ensures c.keep_pair-t.ensures.0 l.invariant.3,
+      c.keep_pair-t.auto.buf ∙ l.invariant.1,
+      omega (arith, c.keep_pair-t.ensures.n_bound, l.invariant.2),
+      turn_picked a.rules.now l.i _ c.loop-i-test.true _ c.rule_at-r.ensures (falls a.k a.day) (l.buf, l.t) _ _ _ c.falls_on.ensures c.keep_pair-t.ensures.result_after l.invariant.3,
     )
 
 pub shape_of-buf : goal.shape_of-buf
@@ -30,4 +30,4 @@ returns c =
     let l = c.loop-i in
     let a = c.args in
     let xs = a.rules.now in
-    (none_picked _ (falls a.k a.day) ∙ rw (left_none xs l.i (length xs / 8) c.loop-i-test.false) at l.invariant.3, omega arith)
+    record { result_after = none_picked _ (falls a.k a.day) ∙ rw (left_none xs l.i (length xs / 8) c.loop-i-test.false) at l.invariant.3; n_bound = omega arith }

@@ -10,21 +10,24 @@ use Rattle.rules.proofs.lists.put_day_list.Goals as goal
 
 pub put_before-prior-requires : goal.put_before-prior-requires
 put_before-prior-requires c =
-    ((good_rules c.args.rules.now c.requires.0).counts.computed_few, search rules)
+    record { rules_bound = (good_rules c.args.rules.now c.requires.rules_value).counts.computed_few; rules_bound_2 = search rules }
 
 pub put_resolved-own-requires : goal.put_resolved-own-requires
 put_resolved-own-requires c =
-    ((good_rules c.args.rules.now c.requires.0).counts.computed_few, omega (arith, c.put_before-prior.ensures.1, c.put_dated-both.ensures.1, c.put_dated-fixed.ensures.1, c.before.before.before.before.before.before.before.before.before.before.before.before.before.before.before))
+    record {
+      rules_bound = (good_rules c.args.rules.now c.requires.rules_value).counts.computed_few;
+      rules_bound_2 = omega (arith, c.put_before-prior.ensures.n_bound, c.put_dated-both.ensures.n_bound, c.put_dated-fixed.ensures.n_bound);
+    }
 
 pub put_dated-whole-requires : goal.put_dated-whole-requires
 put_dated-whole-requires c =
-    omega (arith, c.put_resolved-own.ensures.1, c.put_before-prior.ensures.1, c.put_dated-both.ensures.1, c.put_dated-fixed.ensures.1, c.before.before.before.before.before.before.before.before.before.before.before.before.before.before.before.before.before.before.before)
+    omega (arith, c.put_resolved-own.ensures.n_bound, c.put_before-prior.ensures.n_bound, c.put_dated-both.ensures.n_bound, c.put_dated-fixed.ensures.n_bound)
 
 pub returns : goal.returns
 unfolding list_by pairs_by
 returns c =
     let a = c.args in
     let rs = rules_of a.rules.now in
-    let w = five _ _ _ _ _ a.buf.now a.at _ _ _ _ _ c.put_dated-fixed.ensures.0 c.put_dated-both.ensures.0 c.put_before-prior.ensures.0 c.put_resolved-own.ensures.0 c.put_dated-whole.ensures.0 in
-    let most = list_most rs (good_rules a.rules.now c.requires.0).counts a.day a.years in
-    (w.0, (w.1, omega (arith, w.1, most)))
+    let w = five _ _ _ _ _ a.buf.now a.at _ _ _ _ _ c.put_dated-fixed.ensures.result_after c.put_dated-both.ensures.result_after c.put_before-prior.ensures.result_after c.put_resolved-own.ensures.result_after c.put_dated-whole.ensures.result_after in
+    let most = list_most rs (good_rules a.rules.now c.requires.rules_value).counts a.day a.years in
+    record { buf_after = w.0; value = w.1; upper_bound = omega (arith, w.1, most) }

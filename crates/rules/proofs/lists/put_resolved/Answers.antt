@@ -31,13 +31,13 @@ pub offset_bounds-entries-j : goal.offset_bounds-entries-j
 offset_bounds-entries-j c =
     let l = c.loop-i in
     let p = count_turn c.args.rules.now l.i _ c.loop-i-test.true _ c.rule_at-r.ensures 3 l.j _ l.invariant.3 c.if-r-ne3.false in
-    omega (arith, p, c.requires.0)
+    omega (arith, p, c.requires.rules_bound)
 
 pub bounds-entries-j : goal.bounds-entries-j
 bounds-entries-j c =
     let l = c.loop-i in
     let p = count_turn c.args.rules.now l.i _ c.loop-i-test.true _ c.rule_at-r.ensures 3 l.j _ l.invariant.3 c.if-r-ne3.false in
-    omega (arith, p, c.requires.0)
+    omega (arith, p, c.requires.rules_bound)
 
 pub loop-i-preserved : goal.loop-i-preserved
 loop-i-preserved c =
@@ -48,10 +48,10 @@ loop-i-preserved c =
     let r = c.rule_at-r.result in
     let er = c.rule_at-r.ensures in (
       omega arith,
-      c.keep_pair-t.auto.0 ∙ l.invariant.1,
-      omega (arith, c.keep_pair-t.ensures.1, l.invariant.2),
+      c.keep_pair-t.auto.buf ∙ l.invariant.1,
+      omega (arith, c.keep_pair-t.ensures.n_bound, l.invariant.2),
       count_turn xs l.i _ h r er 3 l.j _ l.invariant.3 c.if-r-ne3.false,
-      turn-used xs l.i _ h r er (rules_of xs) a.year _ a.n l.j (l.buf, l.t) _ c.if-r-ne3.false _ _ c.shows_on.ensures c.keep_pair-t.ensures.0 l.invariant.4,
+      turn-used xs l.i _ h r er (rules_of xs) a.year _ a.n l.j (l.buf, l.t) _ c.if-r-ne3.false _ _ c.shows_on.ensures c.keep_pair-t.ensures.result_after l.invariant.4,
     )
 
 pub shape_of-buf : goal.shape_of-buf
@@ -62,4 +62,4 @@ returns c =
     let l = c.loop-i in
     let a = c.args in
     let xs = a.rules.now in
-    (none_used _ (rules_of xs) a.year _ a.n l.j ∙ (rw (left_none xs l.i (length xs / 8) c.loop-i-test.false) at l.invariant.4), omega arith)
+    record { result_after = none_used _ (rules_of xs) a.year _ a.n l.j ∙ (rw (left_none xs l.i (length xs / 8) c.loop-i-test.false) at l.invariant.4); n_bound = omega arith }

@@ -14,7 +14,7 @@ loop-left-init c = sought-begin (offset elongation_of c.args.target) c.args.end 
 -- the step of a turn, from where the test of its offsets was made
 turn : (x : After-is_crossing) →
     let a = x.args in
-    Turn (offset elongation_of a.target) a.end x.loop-left.lo x.loop-left.f-lo x.step_end-hi.result x.elongation_offset-f_hi.result x.loop-left.left
+    Turn (offset elongation_of a.target) a.end x.loop-left.lo x.loop-left.f_lo x.step_end-hi.result x.elongation_offset-f_hi.result x.loop-left.left
 turn x =
     record { more = x.loop-left-test.true; go = x.if-lo-end.true; from_is = x.loop-left.invariant.from_is; end_is = x.step_end-hi.ensures; to_is = x.elongation_offset-f_hi.ensures }
 

@@ -1,16 +1,15 @@
 use mathlib.Core.Path.{◌≡◌, sym, ◌∙◌}
 use mathlib.Core.Bool.{cond}
-use mathlib.Core.Logic.{⊎_elim}
 use lib.Ieee.{le, neg, of_bits}
 use Rattle.paper.specs.Floats.{◌⊕◌, near, dec}
 use Rattle.sky.specs.Search.{turned}
 use Rattle.sky.proofs.search.turn.Goals as goal
-use Rattle.sky.proofs.search.turn.Goals.{Joined-y}
+use Rattle.sky.proofs.search.turn.Goals.{Joined-y, then-y, else-y}
 
 -- y where the two ways meet
 once : (c : Joined-y) → c.if-y.y ≡ cond (le c.args.x (neg (dec 180 0))) (c.args.x ⊕ dec 360 0) c.args.x
 unfolding near of_bits
-once c = ⊎_elim (λ w. w.1 ∙ simp w.0.taken) (λ w. w.1 ∙ simp w.0.left) c.if-y.branch
+once c = elim c.if-y.branch [ then-y w ↦ w.y-is ∙ simp w.if-y.true | else-y w ↦ w.y-is ∙ simp w.if-y.false ]
 
 pub returns-then-y-2 : goal.returns-then-y-2
 unfolding turned near of_bits

@@ -43,4 +43,5 @@ loop-next-preserved c =
 pub returns : goal.returns
 returns c =
     let a = c.args in
-    rw (← c.target_of-target.ensures) (all_end (offset elongation_of c.target_of-target.result) a.to.0 a.from.0 c.loop-next.invariant c.loop-next-test.false)
+    let e = all_end (offset elongation_of c.target_of-target.result) a.to.0 a.from.0 c.loop-next.invariant c.loop-next-test.false in
+    rw (← c.target_of-target.ensures) (record { count = e.0; steps = e.1.0; ended = e.1.1.0; written = e.1.1.1 })

@@ -1,10 +1,9 @@
 use mathlib.Core.Path.{◌≡◌, refl}
-use mathlib.Core.Logic.{⊎_elim}
-use Prim.Native.Nat.{◌-◌}
 use native.Mathlib.Omega.{arith}
 use Rattle.sky.specs.Tithi.{twelves, tithi_of}
 use Rattle.sky.proofs.Twelves.{twelves_le, twelves_more, twelves_same}
 use Rattle.sky.proofs.tithi.tithi_of.Goals as goal
+use Rattle.sky.proofs.tithi.tithi_of.Goals.{then-k-x, else-k-x}
 
 pub loop-k-init : goal.loop-k-init
 unfolding twelves
@@ -21,7 +20,7 @@ loop-k-preserved c =
     let x = c.args.x in
     let k = c.loop-k.k in (
       omega arith,
-      ⊎_elim (λ w. omega (arith, w.1, twelves_more x k w.0.taken)) (λ w. omega (arith, w.1, twelves_same x k w.0.left)) c.if-k-x.branch,
+      elim c.if-k-x.branch [ then-k-x w ↦ omega (arith, twelves_more x k w.if-k-x.true) | else-k-x w ↦ omega (arith, twelves_same x k w.if-k-x.false) ],
     )
 
 pub returns : goal.returns

@@ -10,7 +10,7 @@ pub loop-left-init : goal.loop-left-init
 loop-left-init c = (refl, search rules, λ after end w. w)
 
 pub loop-left-preserved : goal.loop-left-preserved
-loop-left-preserved c = let l = c.loop-left in (c.put_week-next.auto.0 ∙ l.invariant.0, omega arith, written l.invariant.2 c.put_week-next.ensures _ (repeated_turn (week c.args.cells.now) 7 l.i l.left c.loop-left-test.true))
+loop-left-preserved c = let l = c.loop-left in (c.put_week-next.auto.out ∙ l.invariant.0, omega arith, written l.invariant.2 c.put_week-next.ensures _ (repeated_turn (week c.args.cells.now) 7 l.i l.left c.loop-left-test.true))
 
 pub shape_of-out : goal.shape_of-out
 shape_of-out c = c.loop-left.invariant.0

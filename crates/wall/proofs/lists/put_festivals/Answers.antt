@@ -10,7 +10,7 @@ pub loop-left-init : goal.loop-left-init
 loop-left-init c = (refl, search rules, λ after end w. w)
 
 pub loop-left-preserved : goal.loop-left-preserved
-loop-left-preserved c = let a = c.args in let l = c.loop-left in (c.put_festivals_on-next.auto.0 ∙ l.invariant.0, omega arith, written l.invariant.2 c.put_festivals_on-next.ensures _ (repeated_turn (festivals_on a.names.now a.cells.now a.festivals.now) 1 l.i l.left c.loop-left-test.true))
+loop-left-preserved c = let a = c.args in let l = c.loop-left in (c.put_festivals_on-next.auto.out ∙ l.invariant.0, omega arith, written l.invariant.2 c.put_festivals_on-next.ensures _ (repeated_turn (festivals_on a.names.now a.cells.now a.festivals.now) 1 l.i l.left c.loop-left-test.true))
 
 pub shape_of-out : goal.shape_of-out
 shape_of-out c = c.loop-left.invariant.0

@@ -20,7 +20,7 @@ pub returns-then-x-stop : goal.returns-then-x-stop
 returns-then-x-stop c = let l = c.loop-left in stopped l.invariant.1 (up_stopped c.args.stop c.args.s.now l.i l.left c.if-s-i.false c.if-x-stop.true)
 
 pub loop-left-preserved : goal.loop-left-preserved
-loop-left-preserved c = let l = c.loop-left in (c.put-next.auto.0 ∙ l.invariant.0, written l.invariant.1 c.put-next.ensures _ (up_turn c.args.stop c.args.s.now l.i l.left c.loop-left-test.true c.if-s-i.false c.if-x-stop.false))
+loop-left-preserved c = let l = c.loop-left in (c.put-next.auto.out ∙ l.invariant.0, written l.invariant.1 c.put-next.ensures _ (up_turn c.args.stop c.args.s.now l.i l.left c.loop-left-test.true c.if-s-i.false c.if-x-stop.false))
 
 pub shape_of-out : goal.shape_of-out
 shape_of-out c = c.loop-left.invariant.0

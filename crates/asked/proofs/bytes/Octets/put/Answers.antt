@@ -3,7 +3,7 @@ use Prim.Native.Nat.{◌-◌}
 use mathlib.Core.Path.{◌≡◌, refl}
 use native.Mathlib.Omega.{arith}
 use Rattle.text.proofs.Writes.{wrote_none}
-use Rattle.asked.proofs.Octets.{first_turn}
+use Rattle.asked.proofs.HeldOctets.{first_turn}
 use borrow.Author.Rules.{rules}
 use Rattle.asked.proofs.bytes.Octets.put.Goals as goal
 
