@@ -4,6 +4,8 @@
 use conversion::Table;
 use files::{RulesRead, TableRead};
 use lending::Lent;
+use output::STDERR;
+use std::rt::{Env, Files};
 
 // How many numbers of the rules are lent, of rules that are refused one, which is no list of rules: what needs them is refused with 2.
 fn lent_numbers(read: RulesRead) -> usize {
@@ -24,9 +26,9 @@ fn is_in_form(read: RulesRead) -> bool {
 }
 
 // Reads the rules and answers over them, the table and a text that is empty at first.
-fn over_rules(table: Table, cells: usize, rows: &mut [u16]) {
+fn over_rules<R: Env + Files + Input>(rt: &R, table: Table, cells: usize, rows: &mut [u16]) {
     let mut rules = [0u16; 2600];
-    let read = files::rules_at(2, &mut rules);
+    let read = files::rules_at(rt, 2, &mut rules);
     if !is_in_form(read) {
         return;
     }
@@ -37,37 +39,36 @@ fn over_rules(table: Table, cells: usize, rows: &mut [u16]) {
         numbers: lent_numbers(read),
         octets: 0,
     };
-    desk::answer_from(lent, rows, &mut rules, &mut text);
+    desk::answer_from(&mut rt.reader(), lent, rows, &mut rules, &mut text);
 }
 
 // Reads the table, then the rules, and answers; or says what is wrong with the first file that is out of form.
-fn over_files() {
+fn over_files<R: Env + Files + Input>(rt: &R) {
     let mut rows = [0u16; 1700];
-    let TableRead::Is(table, cells) = files::table_at(1, &mut rows) else {
+    let TableRead::Is(table, cells) = files::table_at(rt, 1, &mut rows) else {
         return;
     };
-    over_rules(table, cells, &mut rows);
+    over_rules(rt, table, cells, &mut rows);
 }
 
 // Whether argument i is there and has the length of a path.
-fn is_path(i: usize) -> bool {
+fn is_path<R: Env>(rt: &R, i: usize) -> bool {
     let mut path = io::buffer();
-    os::arg(i, &mut path);
-    os::errno() == 0
+    rt.arg(i, &mut path).is_ok()
 }
 
-fn main() {
-    if os::arg_count() != 3 {
-        io::write_all(libc::STDERR_FILENO, b"usage: ask TABLE RULES < queries\n");
+fn main(rt: HostRuntime) {
+    if files::argument_count(&rt) != 3 {
+        io::write_all(STDERR, b"usage: ask TABLE RULES < queries\n");
         return;
     }
-    if !is_path(1) {
-        os::fail(b"ask: TABLE");
+    if !is_path(&rt, 1) {
+        io::write_all(STDERR, b"ask: TABLE: File name too long\n");
         return;
     }
-    if !is_path(2) {
-        os::fail(b"ask: RULES");
+    if !is_path(&rt, 2) {
+        io::write_all(STDERR, b"ask: RULES: File name too long\n");
         return;
     }
-    over_files();
+    over_files(&rt);
 }

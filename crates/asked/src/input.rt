@@ -1,13 +1,13 @@
-// Standard input, a line at a time, and the turns of a program that answers each line.
+// An input, a line at a time, and the turns of a program that answers each line.
 ghost use Rattle.std.specs.Prelude.{◌≡◌};
 ghost use Rattle.lines.specs.Lines.{started, waiting, has_feed};
 ghost use Rattle.output.specs.Gathered as Gathered;
 ghost use Rattle.output.specs.Gathered.{gathered};
 ghost use Rattle.asked.specs.Turns.{no_turn, turn_of, input_of, heard, fresh, TurnAfter};
 
-use libc::{STDERR_FILENO, STDIN_FILENO};
 use lines::Input;
-use output::Out;
+use output::{Out, STDERR};
+use std::io::Read;
 
 // A turn of a program: how many are left, 0 at the end, the length of the line to be answered, whether the input is over behind it, and what was
 // answered so far. A line that was too long for its buffer has length 0, since no program serves either; a read that fails ends the input. The
@@ -27,7 +27,7 @@ fn ended(unread: bool, o: Out) -> Turn
     ensures { result ≡ no_turn o }
 {
     if unread {
-        io::write_all(STDERR_FILENO, b"standard input cannot be read to its end\n");
+        io::write_all(STDERR, b"standard input cannot be read to its end\n");
     }
     Turn {
         left: 0,
@@ -60,11 +60,11 @@ fn turn_of(input: Input, o: Out, out: &[u8]) -> Turn
 }
 
 // The turn of the first line.
-pub fn first_turn(piece: &mut [u8], line: &mut [u8], out: &[u8]) -> Turn
+pub fn first_turn<R: Read>(reader: &mut R, piece: &mut [u8], line: &mut [u8], out: &[u8]) -> Turn
     ensures { TurnAfter (started 18446744073709551615) piece.old line.old piece.new line.new
         out.now (fresh out.now) result }
 {
-    let input = lines::next_line(STDIN_FILENO, lines::start(u64::MAX), piece, line);
+    let input = lines::next_line(reader, lines::start(u64::MAX), piece, line);
     turn_of(input, output::empty(), out)
 }
 
@@ -79,7 +79,14 @@ fn told(o: Out, more: bool, out: &[u8]) -> Out
 }
 
 // The turn of the next line, after this one was answered. The answers are written out before more input is waited for.
-pub fn next_turn(t: Turn, o: Out, piece: &mut [u8], line: &mut [u8], out: &mut [u8]) -> Turn
+pub fn next_turn<R: Read>(
+    reader: &mut R,
+    t: Turn,
+    o: Out,
+    piece: &mut [u8],
+    line: &mut [u8],
+    out: &mut [u8],
+) -> Turn
     ensures { TurnAfter (input_of t) piece.old line.old piece.new line.new out.new
         (heard (has_feed (waiting piece.old (input_of t))) (Gathered.ended (gathered out.old o))) result }
 {
@@ -93,9 +100,5 @@ pub fn next_turn(t: Turn, o: Out, piece: &mut [u8], line: &mut [u8], out: &mut [
         to: t.to,
     };
     let answered = told(o.end(out), lines::has_line(input, piece), out);
-    turn_of(
-        lines::next_line(STDIN_FILENO, input, piece, line),
-        answered,
-        out,
-    )
+    turn_of(lines::next_line(reader, input, piece, line), answered, out)
 }

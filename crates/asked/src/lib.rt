@@ -1,4 +1,4 @@
-// What is asked: standard input a line at a time, answered in turns, and a line taken apart into its tag and its words, or into the bytes that it carries.
+// What is asked: an input a line at a time, answered in turns, and a line taken apart into its tag and its words, or into the bytes that it carries.
 #![tactic(auto)]
 
 mod bytes;

@@ -9,7 +9,8 @@ ghost use Rattle.clerk.specs.Counts.{count_text, counts_text};
 
 use conversion::Table;
 use files::{NamesRead, RulesRead, TableRead};
-use libc::{STDERR_FILENO, STDOUT_FILENO};
+use output::{STDERR, STDOUT};
+use std::rt::{Env, Files};
 
 // How many rules of the list have the kind k.
 fn count_kind(rules: &[u16], k: u16) -> usize
@@ -52,45 +53,50 @@ fn put_counts(out: &mut [u8], at: usize, rules: &[u16]) -> usize
 fn show(rules: &[u16]) {
     let mut out = [0u8; 256];
     let n = put_counts(&mut out, 0, rules);
-    if !io::write_all(STDOUT_FILENO, &out[..n]) {
-        io::write_all(
-            STDERR_FILENO,
-            b"clerk: standard output could not be written\n",
-        );
+    if !io::write_all(STDOUT, &out[..n]) {
+        io::write_all(STDERR, b"clerk: standard output could not be written\n");
     }
 }
 
 // Writes the warnings of rule number j, from 0 on, to standard error.
-fn warn_of(rules: &[u16], j: usize, named: bool, names: &[u8], table: Table, rows: &[u16]) {
+fn warn_of<R: Env>(
+    rt: &R,
+    rules: &[u16],
+    j: usize,
+    named: bool,
+    names: &[u8],
+    table: Table,
+    rows: &[u16],
+) {
     let mut path = [0u8; 4096];
     let mut out = [0u8; 24576];
-    let p = os::arg(1, &mut path);
+    let p = files::argument(rt, 1, &mut path);
     let n = warnings::put_warnings(&mut out, 0, &path[..p], rules, j, named, names, table, rows);
-    io::write_all(STDERR_FILENO, &out[..n]);
+    io::write_all(STDERR, &out[..n]);
 }
 
 // Writes the warnings of all rules, in their order.
-fn warn(rules: &[u16], named: bool, names: &[u8], table: Table, rows: &[u16]) {
+fn warn<R: Env>(rt: &R, rules: &[u16], named: bool, names: &[u8], table: Table, rows: &[u16]) {
     let n = rules.len() / 8;
     let mut j = 0;
     while j < n {
-        warn_of(rules, j, named, names, table, rows);
+        warn_of(rt, rules, j, named, names, table, rows);
         j += 1;
     }
 }
 
 // Warns by the names in the third file, where they can be read.
-fn warn_with(rules: &[u16], names: &mut [u8], table: Table, rows: &[u16]) {
-    match files::names_at(3, names) {
-        NamesRead::Are(m) => warn(rules, true, &names[..m], table, rows),
-        NamesRead::Not => warn(rules, false, &names[..0], table, rows),
+fn warn_with<R: Env + Files>(rt: &R, rules: &[u16], names: &mut [u8], table: Table, rows: &[u16]) {
+    match files::names_at(rt, 3, names) {
+        NamesRead::Are(m) => warn(rt, rules, true, &names[..m], table, rows),
+        NamesRead::Not => warn(rt, rules, false, &names[..0], table, rows),
     }
 }
 
 // Warns by the table in the second file. One that cannot be read has no year.
-fn warn_by(rules: &[u16], rows: &mut [u16], names: &mut [u8]) {
-    match files::table_at(2, rows) {
-        TableRead::Is(table, n) => warn_with(rules, names, table, &rows[..n]),
+fn warn_by<R: Env + Files>(rt: &R, rules: &[u16], rows: &mut [u16], names: &mut [u8]) {
+    match files::table_at(rt, 2, rows) {
+        TableRead::Is(table, n) => warn_with(rt, rules, names, table, &rows[..n]),
         TableRead::Not(_) => {
             let table = Table {
                 first_year: 0,
@@ -98,27 +104,27 @@ fn warn_by(rules: &[u16], rows: &mut [u16], names: &mut [u8]) {
                 month: 0,
                 day: 0,
             };
-            warn_with(rules, names, table, &rows[..0]);
+            warn_with(rt, rules, names, table, &rows[..0]);
         }
     }
 }
 
 // Reads the rules, shows their counts and warns.
-fn run(rules: &mut [u16], rows: &mut [u16], names: &mut [u8]) {
-    if os::arg_count() != 4 {
-        io::write_all(STDERR_FILENO, b"expected arguments: RULES TABLE NAMES\n");
+fn run<R: Env + Files>(rt: &R, rules: &mut [u16], rows: &mut [u16], names: &mut [u8]) {
+    if files::argument_count(rt) != 4 {
+        io::write_all(STDERR, b"expected arguments: RULES TABLE NAMES\n");
         return;
     }
-    let RulesRead::Are(k) = files::rules_at(1, rules) else {
+    let RulesRead::Are(k) = files::rules_at(rt, 1, rules) else {
         return;
     };
     show(&rules[..k]);
-    warn_by(&rules[..k], rows, names);
+    warn_by(rt, &rules[..k], rows, names);
 }
 
-fn main() {
+fn main(rt: HostRuntime) {
     let mut rules = [0u16; 2600];
     let mut rows = [0u16; 1677];
     let mut names = [0u8; 65536];
-    run(&mut rules, &mut rows, &mut names);
+    run(&rt, &mut rules, &mut rows, &mut names);
 }

@@ -11,6 +11,7 @@ mod reply;
 
 use asked::Turn;
 use output::Out;
+use std::io::Read;
 
 // Gathers the reply to a line.
 fn answer(o: Out, out: &mut [u8], s: &[u8]) -> Out
@@ -25,7 +26,7 @@ fn answer(o: Out, out: &mut [u8], s: &[u8]) -> Out
 }
 
 // Answers the line, and reads the next one.
-fn turn(t: Turn, piece: &mut [u8], line: &mut [u8], out: &mut [u8]) -> Turn
+fn turn<R: Read>(reader: &mut R, t: Turn, piece: &mut [u8], line: &mut [u8], out: &mut [u8]) -> Turn
     requires { t.len ≤ length line.old }
     ensures { TurnDone converting t tt piece.old line.old out.old tt piece.new line.new
         out.new result }
@@ -33,22 +34,22 @@ fn turn(t: Turn, piece: &mut [u8], line: &mut [u8], out: &mut [u8]) -> Turn
     let o = t.out;
     let n = t.len;
     let answered = answer(o, out, &line[..n]);
-    asked::next_turn(t, answered, piece, line, out)
+    asked::next_turn(reader, t, answered, piece, line, out)
 }
 
 // All turns, to the end of the input: the reply to every line that came, one behind the other.
-fn run(piece: &mut [u8], line: &mut [u8], out: &mut [u8])
+fn run<R: Read>(reader: &mut R, piece: &mut [u8], line: &mut [u8], out: &mut [u8])
     ensures { Run converting (length line.old) tt out.old tt out.new }
 {
-    let mut t = asked::first_turn(piece, line, out);
+    let mut t = asked::first_turn(reader, piece, line, out);
     while 0 < t.left {
-        t = turn(t, piece, line, out);
+        t = turn(reader, t, piece, line, out);
     }
 }
 
-fn main() {
+fn main(rt: HostRuntime) {
     let mut piece = [0u8; 4096];
     let mut line = [0u8; 32];
     let mut out = [0u8; 4096];
-    run(&mut piece, &mut line, &mut out);
+    run(&mut rt.stdin(), &mut piece, &mut line, &mut out);
 }

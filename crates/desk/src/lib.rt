@@ -12,6 +12,7 @@ use asked::{Octets, Turn, Words};
 use keeping::{Keeper, Keeping, Said};
 use lending::Lent;
 use output::Out;
+use std::io::Read;
 
 // The turn after a line, what is lent after it, and the state.
 #[derive(Clone, Copy)]
@@ -53,7 +54,8 @@ fn tell(
 }
 
 // A turn: the line lends or is answered, and the next line is read.
-fn step(
+fn step<R: Read>(
+    reader: &mut R,
     t: Turn,
     lent: Lent,
     keeper: Keeper,
@@ -76,14 +78,15 @@ fn step(
     let answered = said.out;
     let kept = said.keeper;
     Stepped {
-        turn: asked::next_turn(t, answered, piece, line, out),
+        turn: asked::next_turn(reader, t, answered, piece, line, out),
         lent: after,
         keeper: kept,
     }
 }
 
 // All turns, to the end of the input: every line that came is answered, in its order.
-fn run(
+fn run<R: Read>(
+    reader: &mut R,
     first: Lent,
     rows: &mut [u16],
     rules: &mut [u16],
@@ -95,24 +98,32 @@ fn run(
     ensures { Answers (length line.old) (loan_of «first» rows.old rules.old text.old)
         out.old rows.new rules.new text.new out.new }
 {
-    let mut t = asked::first_turn(piece, line, out);
+    let mut t = asked::first_turn(reader, piece, line, out);
     let mut lent = first;
     let mut keeper = keeping::nothing();
     while 0 < t.left {
-        let s = step(t, lent, keeper, rows, rules, text, piece, line, out);
+        let s = step(reader, t, lent, keeper, rows, rules, text, piece, line, out);
         t = s.turn;
         lent = s.lent;
         keeper = s.keeper;
     }
 }
 
-// Answers every line of standard input on standard output, over what is lent at first and what lines lend in its place; no state is kept at first.
-pub fn answer_from(first: Lent, rows: &mut [u16], rules: &mut [u16], text: &mut [u8])
+// Answers every line that a reader brings on standard output, over what is lent at first and what lines lend in its place; no state is kept at first.
+pub fn answer_from<R: Read>(
+    reader: &mut R,
+    first: Lent,
+    rows: &mut [u16],
+    rules: &mut [u16],
+    text: &mut [u8],
+)
     ensures { Lends 4096 (loan_of «first» rows.old rules.old text.old) rows.new rules.new
         text.new }
 {
     let mut piece = [0u8; 4096];
     let mut line = [0u8; 4096];
     let mut out = [0u8; 8192];
-    run(first, rows, rules, text, &mut piece, &mut line, &mut out);
+    run(
+        reader, first, rows, rules, text, &mut piece, &mut line, &mut out,
+    );
 }

@@ -12,12 +12,13 @@ ghost use Rattle.doubt.specs.Range.{range_pieces, asked_page};
 
 use conversion::Table;
 use files::{NamesRead, RulesRead, TableRead};
-use output::Out;
+use output::{Out, STDERR};
+use std::rt::{Env, Files};
 use text::Whole;
 
 // One line on standard error.
 fn complain(line: &[u8]) {
-    io::write_all(libc::STDERR_FILENO, line);
+    io::write_all(STDERR, line);
 }
 
 // Which years were asked.
@@ -105,34 +106,40 @@ fn answer(
 }
 
 // The number that argument i is; a longer one than a buffer of eight bytes holds is none.
-fn year_in(i: usize) -> Whole {
+fn year_in<R: Env>(rt: &R, i: usize) -> Whole {
     let mut buffer = [0u8; 8];
-    let n = os::arg(i, &mut buffer);
+    let n = files::argument(rt, i, &mut buffer);
     text::whole_number(&buffer[..n], 65535)
 }
 
 // Reads what the arguments name, and answers over the parts of the lent buffers that were read.
-fn run(rows: &mut [u16], rules: &mut [u16], names: &mut [u8], out: &mut [u8]) {
-    let count = os::arg_count();
+fn run<R: Env + Files>(
+    rt: &R,
+    rows: &mut [u16],
+    rules: &mut [u16],
+    names: &mut [u8],
+    out: &mut [u8],
+) {
+    let count = files::argument_count(rt);
     if (count < 4) | (6 < count) {
         complain(b"expected arguments: TABLE FIRST LAST [RULES [NAMES]]\n");
         return;
     }
-    let Whole::Is(first) = year_in(2) else {
+    let Whole::Is(first) = year_in(rt, 2) else {
         complain(b"FIRST: expected a number up to 65535\n");
         return;
     };
-    let Whole::Is(last) = year_in(3) else {
+    let Whole::Is(last) = year_in(rt, 3) else {
         complain(b"LAST: expected a number up to 65535\n");
         return;
     };
-    let TableRead::Is(table, n) = files::table_at(1, rows) else {
+    let TableRead::Is(table, n) = files::table_at(rt, 1, rows) else {
         return;
     };
-    let RulesRead::Are(k) = files::rules_asked(4, count, rules) else {
+    let RulesRead::Are(k) = files::rules_asked(rt, 4, count, rules) else {
         return;
     };
-    let NamesRead::Are(m) = files::names_asked(5, count, names) else {
+    let NamesRead::Are(m) = files::names_asked(rt, 5, count, names) else {
         return;
     };
     answer(
@@ -146,10 +153,10 @@ fn run(rows: &mut [u16], rules: &mut [u16], names: &mut [u8], out: &mut [u8]) {
     );
 }
 
-fn main() {
+fn main(rt: HostRuntime) {
     let mut rows = [0u16; 1677];
     let mut rules = [0u16; 2600];
     let mut names = [0u8; 65536];
     let mut out = [0u8; 8192];
-    run(&mut rows, &mut rules, &mut names, &mut out);
+    run(&rt, &mut rows, &mut rules, &mut names, &mut out);
 }

@@ -31,6 +31,15 @@ module _ (c : Calendar) (g : c.good ≡ true) (n : ℕ) (p : Placed) (e : p ≡ 
   after_last k q = from_placed c n g ∙ ap inside_only (sym e ∙ q)
 
   -- the else of a `let Placed::Inside(..)`
+  pub outside_law : ((t : BsDate) → p ≡ P.Inside t → ⊥) → (k : Refusal) × (from_day c n ≡ refused k)
+  outside_law h = let r = go p h in (r.0, from_placed c n g ∙ ap inside_only (sym e) ∙ r.1)
+    where
+      go : (q : Placed) → ((t : BsDate) → q ≡ P.Inside t → ⊥) → (k : Refusal) × (inside_only q ≡ refused k)
+      go (P.Inside t) h = absurd (h t refl)
+      go (P.Before k) h = (Before k, refl)
+      go (P.After k) h = (After k, refl)
+
+  -- the same, by the tag
   pub not_inside : OneOf (1 ∷ 2 ∷ []) (tag_of the_type p) → (k : Refusal) × (from_day c n ≡ refused k)
   not_inside h = let r = go p h in (r.0, from_placed c n g ∙ ap inside_only (sym e) ∙ r.1)
     where

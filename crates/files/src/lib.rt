@@ -14,11 +14,14 @@ ghost use Rattle.std.specs.Prelude.{◌≡◌};
 ghost use Rattle.files.specs.Problems.{wrong_with};
 ghost use Rattle.files.specs.File.{table_of, ReadsTable};
 
-pub use arguments::{names_asked, names_at, rules_asked, rules_at, table_at};
+pub use arguments::{
+    argument, argument_count, names_asked, names_at, rules_asked, rules_at, table_at,
+};
 use conversion::Table;
 pub use listing::{NamesRead, RulesRead};
 pub use problems::{Expected, Problem, put_problem};
 use reading::{Fault, Reading};
+use std::io::Read;
 
 // A table's first line and how many numbers its rows have, from the front of the lent buffer; or what is wrong.
 #[derive(Clone, Copy)]
@@ -74,9 +77,9 @@ fn table_of(r: Reading) -> TableRead
     }
 }
 
-// Reads the year table in an open file: at most as many rows as the lent buffer has room for.
-pub fn read_table(fd: i32, rows: &mut [u16]) -> TableRead
+// Reads the year table in a file, where it could be opened: at most as many rows as the lent buffer has room for.
+pub fn read_table<F: Read>(file: &mut Option<F>, rows: &mut [u16]) -> TableRead
     ensures { ReadsTable rows.old result rows.new }
 {
-    table_of(reading::read_all(fd, rows))
+    table_of(reading::read_all(file, rows))
 }

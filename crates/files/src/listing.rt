@@ -7,6 +7,7 @@ use crate::{telling, texts};
 use naming::Checked;
 use paper::Refusal;
 use rulefile::FileRead;
+use std::rt::Files;
 
 // How many numbers the rules have, from the front of the lent buffer; that they are in form and refused with 2; or that there are none.
 #[derive(Clone, Copy)]
@@ -46,11 +47,11 @@ fn rules_in(path: &[u8], text: &[u8], rules: &mut [u16]) -> RulesRead
 }
 
 // The rules in the file that a path names.
-pub fn rules_named(path: &[u8], rules: &mut [u16]) -> RulesRead
+pub fn rules_named<R: Files>(rt: &R, path: &[u8], rules: &mut [u16]) -> RulesRead
     ensures { ReadsRules rules.old result rules.new }
 {
     let mut text = [0u8; 65536];
-    match texts::read_named(path, &mut text) {
+    match texts::read_named(rt, path, &mut text) {
         TextRead::Is(n) => rules_in(path, &text[..n], rules),
         TextRead::Not(p) => {
             telling::report(path, p);
@@ -74,10 +75,10 @@ fn names_in(path: &[u8], text: &[u8], n: usize) -> NamesRead
 }
 
 // The names in the file that a path names.
-pub fn names_named(path: &[u8], names: &mut [u8]) -> NamesRead
+pub fn names_named<R: Files>(rt: &R, path: &[u8], names: &mut [u8]) -> NamesRead
     ensures { ReadsNames result names.new }
 {
-    match texts::read_named(path, names) {
+    match texts::read_named(rt, path, names) {
         TextRead::Is(n) => names_in(path, names, n),
         TextRead::Not(p) => {
             telling::report(path, p);

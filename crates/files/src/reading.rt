@@ -8,6 +8,7 @@ ghost use Rattle.files.specs.Inner.{with_input, Makes, Reads};
 use conversion::Table;
 use fields::Judged;
 use lines::Input;
+use std::io::Read;
 
 // What is wrong with the line that was read last, or with the file.
 #[derive(Clone, Copy)]
@@ -216,15 +217,21 @@ fn with_input(r: Reading, rows: &mut [u16], input: Input, line: &[u8]) -> Readin
     with_next(r, rows, input.long, &line[..n])
 }
 
-// The reading of all lines of a descriptor. The steps are enough for 10,000 lines and for 160 million bytes.
-fn read_lines(fd: i32, r: Reading, rows: &mut [u16], piece: &mut [u8], line: &mut [u8]) -> Reading
+// The reading of all lines of a file. The steps are enough for 10,000 lines and for 160 million bytes.
+fn read_lines<F: Read>(
+    file: &mut F,
+    r: Reading,
+    rows: &mut [u16],
+    piece: &mut [u8],
+    line: &mut [u8],
+) -> Reading
     requires { well r.fault ≡ true }
     ensures { Makes (length line.old) (made r rows.old) (made result rows.new) }
 {
     let mut q = r;
     let mut input = lines::start(50000);
     while 0 < input.left {
-        input = lines::next_line(fd, input, piece, line);
+        input = lines::next_line(file, input, piece, line);
         q = with_input(q, rows, input, line);
         if !is_well(q) {
             return q;
@@ -233,21 +240,21 @@ fn read_lines(fd: i32, r: Reading, rows: &mut [u16], piece: &mut [u8], line: &mu
     q
 }
 
-// The reading of a descriptor from its first line.
-fn read_open(fd: i32, rows: &mut [u16]) -> Reading
+// The reading of a file from its first line.
+fn read_open<F: Read>(file: &mut F, rows: &mut [u16]) -> Reading
     ensures { Makes 4096 (made begin rows.old) (made result rows.new) }
 {
     let mut piece = [0u8; 4096];
     let mut line = [0u8; 4096];
-    read_lines(fd, first(), rows, &mut piece, &mut line)
+    read_lines(file, first(), rows, &mut piece, &mut line)
 }
 
-// The reading of an open file; a number below 0 is none.
-pub fn read_all(fd: i32, rows: &mut [u16]) -> Reading
+// The reading of a file, where it could be opened.
+pub fn read_all<F: Read>(file: &mut Option<F>, rows: &mut [u16]) -> Reading
     ensures { Reads rows.old (made result rows.new) }
 {
-    if fd < 0 {
-        return faulted(first(), Fault::NotOpened);
+    match file {
+        Some(open) => read_open(open, rows),
+        None => faulted(first(), Fault::NotOpened),
     }
-    read_open(fd, rows)
 }

@@ -12,7 +12,8 @@ use crate::problems::Problem;
 use conversion::Table;
 use faults::Fault;
 use keyed::Line;
-use libc::STDERR_FILENO;
+use output::STDERR;
+use std::io::{Read, Seek, SeekFrom};
 use std::num::wrapping_add_u64;
 use tables::Broken;
 use text::{Cursor, Whole};
@@ -133,14 +134,14 @@ fn no_place() -> Place
     }
 }
 
-// Looks at the lines of a descriptor until one is the one sought.
-fn look_through(fd: i32, sought: Sought, piece: &mut [u8], line: &mut [u8]) -> Place
+// Looks at the lines of a file until one is the one sought.
+fn look_through<F: Read>(file: &mut F, sought: Sought, piece: &mut [u8], line: &mut [u8]) -> Place
     ensures { Looks sought nowhere result }
 {
     let mut p = no_place();
     let mut input = lines::start(50000);
     while 0 < input.left {
-        input = lines::next_line(fd, input, piece, line);
+        input = lines::next_line(file, input, piece, line);
         let n = input.len;
         p = look_at(p, sought, &line[..n]);
         if p.found {
@@ -151,15 +152,18 @@ fn look_through(fd: i32, sought: Sought, piece: &mut [u8], line: &mut [u8]) -> P
 }
 
 // The place of what is sought in a file that was read, from its beginning; none where the file cannot be read twice.
-fn look(fd: i32, sought: Sought) -> Place
+fn look<F: Read + Seek>(file: &mut F, sought: Sought) -> Place
     ensures { Looks sought nowhere result }
 {
-    if libc::lseek(fd, 0, libc::SEEK_SET) != 0 {
-        return no_place();
+    match file.seek(SeekFrom::Start(0)) {
+        Ok(0) => {
+            let mut piece = [0u8; 4096];
+            let mut line = [0u8; 4096];
+            look_through(file, sought, &mut piece, &mut line)
+        }
+        Ok(_) => no_place(),
+        Err(_) => no_place(),
     }
-    let mut piece = [0u8; 4096];
-    let mut line = [0u8; 4096];
-    look_through(fd, sought, &mut piece, &mut line)
 }
 
 // Writes the name of a file and, where it was found, the line.
@@ -198,7 +202,7 @@ fn put_warning(out: &mut [u8], at: usize, path: &[u8], p: Place, year: u64) -> u
 pub fn report(path: &[u8], p: Problem) {
     let mut out = [0u8; 4608];
     let n = crate::put_problem(&mut out, 0, path, p);
-    io::write_all(STDERR_FILENO, &out[..n]);
+    io::write_all(STDERR, &out[..n]);
 }
 
 // Says where a table breaks a rule.
@@ -206,7 +210,7 @@ fn report_table(path: &[u8], p: Place, table: Table, b: Broken) {
     let mut out = [0u8; 4608];
     let a = put_place(&mut out, 0, path, p);
     let n = tables::put_refusal(&mut out, a, table, b);
-    io::write_all(STDERR_FILENO, &out[..n]);
+    io::write_all(STDERR, &out[..n]);
 }
 
 // How many lines of a text are the ones due in a rule file, and the place behind them.
@@ -252,7 +256,7 @@ fn report_line(path: &[u8], i: usize, rest: &[u8]) {
     let mut out = [0u8; 4608];
     let a = faults::put_line(&mut out, 0, path, wrapping_add_u64(i as u64, 1));
     let n = faults::put_line_fault(&mut out, a, i, rest);
-    io::write_all(STDERR_FILENO, &out[..n]);
+    io::write_all(STDERR, &out[..n]);
 }
 
 // Says which line of a rule file is out of form, and why. A text of 65,536 bytes has less than 8,888 lines that are the ones due.
@@ -270,7 +274,7 @@ fn report_rules(path: &[u8], f: Fault) {
     let mut out = [0u8; 4608];
     let a = text::put(&mut out, 0, path);
     let n = faults::put_refusal(&mut out, a, f);
-    io::write_all(STDERR_FILENO, &out[..n]);
+    io::write_all(STDERR, &out[..n]);
 }
 
 // Says where the rules of a file in form are refused.
@@ -335,44 +339,46 @@ pub fn tell_name(path: &[u8], line: usize, fault: naming::Fault) {
     let mut out = [0u8; 4608];
     let a = faults::put_line(&mut out, 0, path, line as u64);
     let n = put_name_fault(&mut out, a, fault);
-    io::write_all(STDERR_FILENO, &out[..n]);
+    io::write_all(STDERR, &out[..n]);
 }
 
 // Warns of a comment that says another year.
 fn warn(path: &[u8], p: Place, first: u16) {
     let mut out = [0u8; 4608];
     let n = put_warning(&mut out, 0, path, p, year_of(first, p.before));
-    io::write_all(STDERR_FILENO, &out[..n]);
+    io::write_all(STDERR, &out[..n]);
 }
 
 // Says what is wrong with the years that the comments of a table say.
-fn tell_years(fd: i32, path: &[u8], first: u16) {
-    let p = look(fd, Sought::OtherYear(first));
+fn tell_years<F: Read + Seek>(file: &mut F, path: &[u8], first: u16) {
+    let p = look(file, Sought::OtherYear(first));
     if p.found {
         warn(path, p, first);
     }
 }
 
 // Says where a table is refused, or else of a comment that says another year.
-fn judge_table(fd: i32, path: &[u8], table: Table, rows: &[u16]) {
+fn judge_table<F: Read + Seek>(file: &mut F, path: &[u8], table: Table, rows: &[u16]) {
     if conversion::accepts(table, rows) {
-        tell_years(fd, path, table.first_year);
+        tell_years(file, path, table.first_year);
         return;
     }
     let b = tables::first_broken(table, rows);
     let p = look(
-        fd,
+        file,
         Sought::Line(table_line(b, conversion::year_count(rows))),
     );
     report_table(path, p, table, b);
 }
 
 // Says what there is to say of a table that was read.
-pub fn tell_table(fd: i32, path: &[u8], r: TableRead, rows: &[u16]) {
+pub fn tell_table<F: Read + Seek>(file: &mut Option<F>, path: &[u8], r: TableRead, rows: &[u16]) {
     match r {
         TableRead::Is(table, n) => {
-            if n <= rows.len() {
-                judge_table(fd, path, table, &rows[..n]);
+            if let Some(open) = file {
+                if n <= rows.len() {
+                    judge_table(open, path, table, &rows[..n]);
+                }
             }
         }
         TableRead::Not(p) => report(path, p),

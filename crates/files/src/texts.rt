@@ -1,7 +1,11 @@
 // A file as one text: its bytes at the front of a lent buffer.
+ghost use Rattle.std.specs.Prelude.{◌≤◌, length};
 ghost use Rattle.files.specs.Texts.{Inside};
 
 use crate::problems::Problem;
+use std::fs;
+use std::io::Read;
+use std::rt::Files;
 
 // How many bytes a file has, or what is wrong.
 #[derive(Clone, Copy)]
@@ -10,31 +14,48 @@ pub enum TextRead {
     Not(Problem),
 }
 
+// The file that a path names, opened for reading. A path that is not UTF-8 names none.
+pub fn open<R: Files>(rt: &R, path: &[u8]) -> Option<R::File> {
+    match str::from_utf8(path) {
+        Ok(name) => fs::open(rt, name).ok(),
+        Err(_) => None,
+    }
+}
+
+// Reads until the text is full, the file ends or a read fails, and answers how many bytes stand at the front of the text.
+fn read_full<F: Read>(file: &mut F, text: &mut [u8]) -> usize
+    ensures { result ≤ length text.new }
+{
+    let mut n = 0;
+    while n < text.len() {
+        match file.read(&mut text[n..]) {
+            Ok(0) => return n,
+            Ok(more) => n += more,
+            Err(_) => return n,
+        }
+    }
+    n
+}
+
 // The bytes of an open file. Behind them a read must bring nothing: what fails, fails again there, and what is larger than the buffer brings more.
-fn read_open(fd: i32, text: &mut [u8]) -> TextRead
+fn read_open<F: Read>(file: &mut F, text: &mut [u8]) -> TextRead
     ensures { Inside result text.new }
 {
-    let n = io::read_full(fd, text);
+    let n = read_full(file, text);
     let mut more = [0u8; 1];
-    let got = libc::read(fd, &mut more);
-    if got < 0 {
-        return TextRead::Not(Problem::NotRead);
+    match file.read(&mut more) {
+        Ok(0) => TextRead::Is(n),
+        Ok(_) => TextRead::Not(Problem::TooLarge),
+        Err(_) => TextRead::Not(Problem::NotRead),
     }
-    if got > 0 {
-        return TextRead::Not(Problem::TooLarge);
-    }
-    TextRead::Is(n)
 }
 
 // The bytes of the file that a path names.
-pub fn read_named(path: &[u8], text: &mut [u8]) -> TextRead
+pub fn read_named<R: Files>(rt: &R, path: &[u8], text: &mut [u8]) -> TextRead
     ensures { Inside result text.new }
 {
-    let fd = os::open_read(path);
-    if fd < 0 {
-        return TextRead::Not(Problem::NotOpened);
+    match open(rt, path) {
+        Some(mut file) => read_open(&mut file, text),
+        None => TextRead::Not(Problem::NotOpened),
     }
-    let r = read_open(fd, text);
-    libc::close(fd);
-    r
 }

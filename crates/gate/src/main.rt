@@ -9,19 +9,20 @@ use commands::words::{Asked, Words};
 use commands::{refusals, words};
 use conversion::Table;
 use files::{NamesRead, RulesRead, TableRead};
-use libc::{STDERR_FILENO, STDOUT_FILENO};
+use output::{STDERR, STDOUT};
 use paper::Refusal;
 use reasons::{Reason, ReasonAnswer};
+use std::rt::{Env, Files};
 
 // What the words from the fourth argument on ask: one or three. A word that is longer than its buffer is empty.
-fn from_words() -> Words {
+fn from_words<R: Env>(rt: &R) -> Words {
     let mut first = [0u8; 16];
     let mut second = [0u8; 16];
     let mut third = [0u8; 16];
-    let a = os::arg(4, &mut first);
-    let b = os::arg(5, &mut second);
-    let c = os::arg(6, &mut third);
-    let count = os::arg_count();
+    let a = files::argument(rt, 4, &mut first);
+    let b = files::argument(rt, 5, &mut second);
+    let c = files::argument(rt, 6, &mut third);
+    let count = files::argument_count(rt);
     if count == 5 {
         return words::asked_by(1, &first[..a], &second[..b], &third[..c]);
     }
@@ -39,18 +40,15 @@ fn refuse(why: Refusal, asked: Asked) {
     }
     let mut line = [0u8; 160];
     let n = refusals::put_refusal(&mut line, 0, why, words::date_asked(asked));
-    io::write_all(STDERR_FILENO, &line[..n]);
+    io::write_all(STDERR, &line[..n]);
 }
 
 // Writes yes or no, and why, to standard output.
 fn tell(reason: Reason, names: &[u8]) {
     let mut line = [0u8; 65600];
     let n = lines::put_reason(&mut line, 0, reason, names);
-    if !io::write_all(STDOUT_FILENO, &line[..n]) {
-        io::write_all(
-            STDERR_FILENO,
-            b"gate: standard output could not be written\n",
-        );
+    if !io::write_all(STDOUT, &line[..n]) {
+        io::write_all(STDERR, b"gate: standard output could not be written\n");
     }
 }
 
@@ -63,28 +61,34 @@ fn show(asked: Asked, table: Table, rows: &[u16], rules: &[u16], names: &[u8]) {
 }
 
 // Reads the three files and writes what is answered.
-fn run(asked: Asked, rows: &mut [u16], rules: &mut [u16], names: &mut [u8]) {
-    let TableRead::Is(table, n) = files::table_at(1, rows) else {
+fn run<R: Env + Files>(
+    rt: &R,
+    asked: Asked,
+    rows: &mut [u16],
+    rules: &mut [u16],
+    names: &mut [u8],
+) {
+    let TableRead::Is(table, n) = files::table_at(rt, 1, rows) else {
         return;
     };
-    let RulesRead::Are(k) = files::rules_at(2, rules) else {
+    let RulesRead::Are(k) = files::rules_at(rt, 2, rules) else {
         return;
     };
-    let NamesRead::Are(m) = files::names_at(3, names) else {
+    let NamesRead::Are(m) = files::names_at(rt, 3, names) else {
         return;
     };
     show(asked, table, &rows[..n], &rules[..k], &names[..m]);
 }
 
-fn main() {
+fn main(rt: HostRuntime) {
     let mut rows = [0u16; 1677];
     let mut rules = [0u16; 2600];
     let mut names = [0u8; 65536];
-    match from_words() {
-        Words::Ask(asked) => run(asked, &mut rows, &mut rules, &mut names),
+    match from_words(&rt) {
+        Words::Ask(asked) => run(&rt, asked, &mut rows, &mut rules, &mut names),
         Words::Other => {
             io::write_all(
-                STDERR_FILENO,
+                STDERR,
                 b"patro: not in form: give a BS date (2083 7 29) or a Gregorian date (2026-11-15)\n",
             );
         }

@@ -1,10 +1,11 @@
-// What a descriptor brings, a line at a time: each line stands at the start of a lent buffer.
+// What a reader brings, a line at a time: each line stands at the start of a lent buffer.
 #![tactic(auto)]
 
 ghost use Rattle.std.specs.Prelude.{◌≡◌, false, drop};
 ghost use Rattle.text.specs.Kept.{Fills};
 ghost use Rattle.lines.specs.Lines.{started, ended, given, last_of, front, waiting, has_feed, NextLine};
 
+use std::io::Read;
 use text::{Filled, Held};
 
 // How many steps are left, 0 where there is no line any more; the length of the line, and whether it was too long for the buffer, when its length
@@ -46,15 +47,12 @@ pub fn start(steps: u64) -> Input
 }
 
 // One piece more, if one comes.
-fn read_piece(fd: i32, piece: &mut [u8]) -> Came {
-    let got = libc::read(fd, piece);
-    if got < 0 {
-        return Came::Failed;
+fn read_piece<R: Read>(reader: &mut R, piece: &mut [u8]) -> Came {
+    match reader.read(piece) {
+        Ok(0) => Came::Over,
+        Ok(n) => Came::Bytes(n),
+        Err(_) => Came::Failed,
     }
-    if got == 0 {
-        return Came::Over;
-    }
-    Came::Bytes(io::count(got, piece))
 }
 
 // No line any more, at the input's end or before it.
@@ -149,7 +147,7 @@ pub fn has_line(input: Input, piece: &[u8]) -> bool
 }
 
 // The next line of an input that goes on.
-fn read_on(fd: i32, input: Input, piece: &mut [u8], line: &mut [u8]) -> Input
+fn read_on<R: Read>(reader: &mut R, input: Input, piece: &mut [u8], line: &mut [u8]) -> Input
     requires { input.ends ≡ false }
     ensures { NextLine input piece.old line.old piece.new line.new result }
 {
@@ -167,7 +165,7 @@ fn read_on(fd: i32, input: Input, piece: &mut [u8], line: &mut [u8]) -> Input
                 held = h;
             }
         }
-        match read_piece(fd, piece) {
+        match read_piece(reader, piece) {
             Came::Bytes(n) => {
                 from = 0;
                 to = n;
@@ -184,11 +182,11 @@ fn read_on(fd: i32, input: Input, piece: &mut [u8], line: &mut [u8]) -> Input
 }
 
 // The next line of the input. Pieces and line are kept in the lent buffers. A read that fails ends the input, and behind its end nothing is read.
-pub fn next_line(fd: i32, input: Input, piece: &mut [u8], line: &mut [u8]) -> Input
+pub fn next_line<R: Read>(reader: &mut R, input: Input, piece: &mut [u8], line: &mut [u8]) -> Input
     ensures { NextLine input piece.old line.old piece.new line.new result }
 {
     if input.ends {
         return over(false);
     }
-    read_on(fd, input, piece, line)
+    read_on(reader, input, piece, line)
 }

@@ -15,10 +15,14 @@ mod floats;
 mod octets;
 mod page;
 
-use libc::{STDERR_FILENO, STDOUT_FILENO};
 pub use page::{
     put_clock, put_date, put_either, put_labelled, put_number, put_span, put_text, put_year_month,
 };
+
+// The descriptors of standard output and standard error.
+pub const STDOUT: i32 = 1;
+
+pub const STDERR: i32 = 2;
 
 // How many bytes of the buffer are taken, whether the line has a word, and whether a write failed.
 #[derive(Clone, Copy)]
@@ -65,7 +69,7 @@ impl Out {
             };
         }
         if at <= buffer.len() {
-            let written = io::write_all(STDOUT_FILENO, &buffer[..at]);
+            let written = io::write_all(STDOUT, &buffer[..at]);
             return Out {
                 at: 0,
                 begun,
@@ -85,7 +89,7 @@ impl Out {
     {
         let last = self.flush(buffer);
         if last.failed {
-            io::write_all(STDERR_FILENO, b"standard output cannot be written\n");
+            io::write_all(STDERR, b"standard output cannot be written\n");
         }
         last
     }

@@ -1,5 +1,5 @@
 -- A number from 0.0 to below 4,294,967,295 is cut to its whole part, and that lies below 4,294,967,295. Assumes nothing.
-use Rattle.std.proofs.Common.{◌≡◌, ℕ, ◌+◌, ◌-◌, ◌*◌, ◌/◌, ◌^◌, ◌<◌, min, true, false, T, eqb, ltb, ℤ, pos, ap, ◌∙◌, div-lt_iff_lt-mul, arith, eqb→eq, ltb→lt, lt→ltb}
+use Rattle.std.proofs.Common.{◌≡◌, ℕ, ◌+◌, ◌-◌, ◌*◌, ◌/◌, ◌^◌, ◌<◌, min, true, false, T, eqb, ℤ, pos, ap, ◌∙◌, div-lt_iff_lt-mul, arith, eqb→eq, ltb→lt, lt→ltb}
 use native.Mathlib.Nat.{zero-div}
 use lib.Ieee.{Float, nan, inf, fin, up, down, lt, le, to_unsigned}
 use lib.Ieee.Fits.{and_l, down_pos}

@@ -12,27 +12,28 @@ use commands::{refusals, words};
 use conversion::Table;
 use files::{NamesRead, RulesRead, TableRead};
 use gregorian::Date;
-use libc::{STDERR_FILENO, STDOUT_FILENO};
+use output::{STDERR, STDOUT};
 use pages::Laid;
 use paper::Refusal;
+use std::rt::{Env, Files};
 use wanted::{Wanted, Wish};
 
 // Today by the fourth argument.
-fn today() -> Date {
+fn today<R: Env>(rt: &R) -> Date {
     let mut word = [0u8; 16];
-    let n = os::arg(4, &mut word);
+    let n = files::argument(rt, 4, &mut word);
     words::today(&word[..n])
 }
 
 // What the words from the fifth argument on want. A word that is longer than its buffer is empty.
-fn from_words() -> Wish {
+fn from_words<R: Env>(rt: &R) -> Wish {
     let mut first = [0u8; 16];
     let mut second = [0u8; 16];
     let mut third = [0u8; 16];
-    let a = os::arg(5, &mut first);
-    let b = os::arg(6, &mut second);
-    let c = os::arg(7, &mut third);
-    let count = os::arg_count();
+    let a = files::argument(rt, 5, &mut first);
+    let b = files::argument(rt, 6, &mut second);
+    let c = files::argument(rt, 7, &mut third);
+    let count = files::argument_count(rt);
     if count < 5 {
         return Wish::Other;
     }
@@ -55,51 +56,54 @@ fn refuse(why: Refusal, asked: Asked) {
     }
     let mut line = [0u8; 160];
     let n = refusals::put_refusal(&mut line, 0, why, words::date_asked(asked));
-    io::write_all(STDERR_FILENO, &line[..n]);
+    io::write_all(STDERR, &line[..n]);
 }
 
 // Writes a page to standard output.
 fn write_page(page: &[u8]) {
-    if !io::write_all(STDOUT_FILENO, page) {
-        io::write_all(
-            STDERR_FILENO,
-            b"patro: standard output could not be written\n",
-        );
+    if !io::write_all(STDOUT, page) {
+        io::write_all(STDERR, b"patro: standard output could not be written\n");
     }
 }
 
 // Writes what is wanted.
-fn show(wanted: Wanted, table: Table, rows: &[u16], rules: &[u16], names: &[u8]) {
+fn show<R: Env>(rt: &R, wanted: Wanted, table: Table, rows: &[u16], rules: &[u16], names: &[u8]) {
     let mut page = [0u8; 262143];
-    match laying::lay(wanted, today(), table, rows, rules, names, &mut page) {
+    match laying::lay(wanted, today(rt), table, rows, rules, names, &mut page) {
         Laid::Bytes(n) => write_page(&page[..n]),
         Laid::Refused(why) => refuse(why, first_page(wanted)),
     }
 }
 
 // Reads the three files and writes what is wanted.
-fn run(wanted: Wanted, rows: &mut [u16], rules: &mut [u16], names: &mut [u8]) {
-    let TableRead::Is(table, n) = files::table_at(1, rows) else {
+fn run<R: Env + Files>(
+    rt: &R,
+    wanted: Wanted,
+    rows: &mut [u16],
+    rules: &mut [u16],
+    names: &mut [u8],
+) {
+    let TableRead::Is(table, n) = files::table_at(rt, 1, rows) else {
         return;
     };
-    let RulesRead::Are(k) = files::rules_at(2, rules) else {
+    let RulesRead::Are(k) = files::rules_at(rt, 2, rules) else {
         return;
     };
-    let NamesRead::Are(m) = files::names_at(3, names) else {
+    let NamesRead::Are(m) = files::names_at(rt, 3, names) else {
         return;
     };
-    show(wanted, table, &rows[..n], &rules[..k], &names[..m]);
+    show(rt, wanted, table, &rows[..n], &rules[..k], &names[..m]);
 }
 
-fn main() {
+fn main(rt: HostRuntime) {
     let mut rows = [0u16; 1677];
     let mut rules = [0u16; 2600];
     let mut names = [0u8; 65536];
-    match from_words() {
-        Wish::Is(wanted) => run(wanted, &mut rows, &mut rules, &mut names),
+    match from_words(&rt) {
+        Wish::Is(wanted) => run(&rt, wanted, &mut rows, &mut rules, &mut names),
         Wish::Other => {
             io::write_all(
-                STDERR_FILENO,
+                STDERR,
                 b"patro: not in form: give a BS year (2083), a BS year and month (2083 7), a BS date (2083 7 29) or a Gregorian date (2026-11-15)\n",
             );
         }

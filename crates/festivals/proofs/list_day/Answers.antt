@@ -9,5 +9,5 @@ pub returns : goal.returns
 returns c =
     let a = c.args in
     let e = drawn_list a.table a.rows.now a.rules.now a.bs a.number c.requires.1 c.requires.2 _ c.years_for-years.ensures in
-    let s = says_by (ap answered e) (record { answer = c.list_from.ensures.0; buffer = c.list_from.ensures.1 }) in
-    (s.answer, s.buffer)
+    let s = says_by (ap answered e) (record { answer = c.list_from.ensures.result_value; buffer = c.list_from.ensures.out_after }) in
+    record { result_value = s.answer; out_after = s.buffer }

@@ -10,17 +10,17 @@ returns-in-Before c =
     let k = Before c.in-Before.k in
     let e = before_first _ c.requires.0 _ c.place-place.result c.place-place.ensures _ c.in-Before.is in
     let s = says_by (then_not _ _ k e) (says_refused k c.args.out.now) in
-    (s.answer, s.buffer)
+    record { result_value = s.answer; out_after = s.buffer }
 
 pub returns-in-After : goal.returns-in-After
 returns-in-After c =
     let k = After c.in-After.k in
     let e = after_last _ c.requires.0 _ c.place-place.result c.place-place.ensures _ c.in-After.is in
     let s = says_by (then_not _ _ k e) (says_refused k c.args.out.now) in
-    (s.answer, s.buffer)
+    record { result_value = s.answer; out_after = s.buffer }
 
 pub returns-in-Inside : goal.returns-in-Inside
 returns-in-Inside c =
     let e = inside _ c.requires.0 _ c.place-place.result c.place-place.ensures _ c.in-Inside.is in
-    let s = says_by (then_by _ _ _ e) (record { answer = c.list_day.ensures.0; buffer = c.list_day.ensures.1 }) in
-    (s.answer, s.buffer)
+    let s = says_by (then_by _ _ _ e) (record { answer = c.list_day.ensures.result_value; buffer = c.list_day.ensures.out_after }) in
+    record { result_value = s.answer; out_after = s.buffer }

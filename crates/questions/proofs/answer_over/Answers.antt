@@ -38,7 +38,7 @@ returns-in-419438677783265619 c = let a = c.args in
 
 pub returns-in_default : goal.returns-in_default
 unfolding words_by
-returns-in_default c = let rest = c.in_default.rest in
+returns-in_default c = let rest = c.in_default.in_default-own.rest in
     rw (
       no_key (STARTS ∷ []) _ rest.0.0.0.0.1,
       no_key (LISTAD ∷ LISTBS ∷ []) _ rest.0.0.0.1,

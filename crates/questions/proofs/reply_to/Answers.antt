@@ -51,7 +51,7 @@ returns-in-566065643609 c = let a = c.args in
 
 pub returns-in_default : goal.returns-in_default
 unfolding reply_by
-returns-in_default c = let rest = c.in_default.rest in
+returns-in_default c = let rest = c.in_default.in_default-own.rest in
     rw (
       no_key (JD ∷ DAY ∷ NPT ∷ DATE ∷ []) _ rest.0.0.0.0.0.0.1,
       no_key (AD ∷ BS ∷ LEN ∷ CHECK ∷ VALID ∷ []) _ rest.0.0.0.0.0.1,

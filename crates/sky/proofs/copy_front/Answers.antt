@@ -2,7 +2,6 @@ use lib.Ieee.{Float, nan}
 use Rattle.sky.proofs.Fronts.{front_length, front_more}
 use lib.ListN.{length, get_or, set}
 use mathlib.Core.List.{List}
-use Prim.Native.Nat.{◌-◌}
 use mathlib.Core.Path.{◌≡◌, refl, ap, ◌∙◌}
 use native.Mathlib.Omega.{arith}
 use Rattle.sky.proofs.copy_front.Goals as goal

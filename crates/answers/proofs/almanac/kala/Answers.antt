@@ -29,4 +29,4 @@ unfolding among
 returns-in-5 c = rw (c.in-5.is, c.at-in-5.ensures)
 
 pub returns-in_default : goal.returns-in_default
-returns-in_default c = other c.args.k (kala_rows c.args.d) c.in_default.rest
+returns-in_default c = other c.args.k (kala_rows c.args.d) c.in_default.in_default-own.rest

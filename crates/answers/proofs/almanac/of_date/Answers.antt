@@ -25,4 +25,4 @@ unfolding among
 returns-in-4739140 c = rw (c.in-4739140.is, c.reading-in-4739140.ensures, c.reading.ensures)
 
 pub returns-in_default : goal.returns-in_default
-returns-in_default c = other c.args.tag (date_rows c.args.d) c.in_default.rest
+returns-in_default c = other c.args.tag (date_rows c.args.d) c.in_default.in_default-own.rest

@@ -48,4 +48,4 @@ returns-else-form-eq111-3 c = rw (c.in-369410628.is, ne_eqb _ _ c.if-form-eq111-
 
 pub returns-in_default : goal.returns-in_default
 unfolding conversions_reply
-returns-in_default c = other c.args.w.tag (conversions_rows (flat c.args.table c.args.rows.now) c.args.w) c.in_default.rest
+returns-in_default c = other c.args.w.tag (conversions_rows (flat c.args.table c.args.rows.now) c.args.w) c.in_default.in_default-own.rest

@@ -39,4 +39,4 @@ returns-else-form-eq4 c = rw (c.in-58388.is, ne_eqb _ _ c.if-form-eq4.false)
 
 pub returns-in_default : goal.returns-in_default
 unfolding days_reply
-returns-in_default c = other c.args.w.tag (days_rows c.args.w) c.in_default.rest
+returns-in_default c = other c.args.w.tag (days_rows c.args.w) c.in_default.in_default-own.rest

@@ -45,4 +45,4 @@ unfolding among
 returns-in-903257342291 c = rw (c.in-903257342291.is, c.minutes_of.ensures)
 
 pub returns-in_default : goal.returns-in_default
-returns-in_default c = other c.args.tag (float_rows c.args.x) c.in_default.rest
+returns-in_default c = other c.args.tag (float_rows c.args.x) c.in_default.in_default-own.rest

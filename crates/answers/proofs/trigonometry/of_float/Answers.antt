@@ -25,4 +25,4 @@ unfolding among
 returns-in-81998 c = rw (c.in-81998.is, c.tangent.ensures)
 
 pub returns-in_default : goal.returns-in_default
-returns-in_default c = other c.args.tag (angle_rows c.args.x) c.in_default.rest
+returns-in_default c = other c.args.tag (angle_rows c.args.x) c.in_default.in_default-own.rest

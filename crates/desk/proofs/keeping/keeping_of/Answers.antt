@@ -39,7 +39,7 @@ returns-in-20740645188 c = rw c.in-20740645188.is c.formed-in-20740645188.ensure
 
 pub returns-in_default : goal.returns-in_default
 unfolding keeping_of ones
-returns-in_default c = let rest = c.in_default.rest in
+returns-in_default c = let rest = c.in_default.in_default-own.rest in
     let tag = c.args.tag in
     rw (
       ne_eqb tag START rest.0.0.0.0.0.0.0.1,

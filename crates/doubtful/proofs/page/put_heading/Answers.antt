@@ -7,8 +7,8 @@ use Rattle.doubtful.proofs.page.put_heading.Goals as goal
 
 pub returns-then-p : goal.returns-then-p
 unfolding heading_pieces
-returns-then-p c = (rw c.if-p.true (puts_none _ _), rw c.if-p.true)
+returns-then-p c = record { puts = rw c.if-p.true (puts_none _ _); result_value = rw c.if-p.true }
 
 pub returns : goal.returns
 unfolding heading_pieces
-returns c = (puts_out (ap (λ (q : Page). q.out) c.written.ensures) (rw c.if-p.false (then c.put_labelled-a.ensures c.put_text.ensures)), ap tally_of c.written.ensures)
+returns c = record { puts = puts_out (ap (λ (q : Page). q.out) c.written.ensures) (rw c.if-p.false (then c.put_labelled-a.ensures c.put_text.ensures)); result_value = ap tally_of c.written.ensures }

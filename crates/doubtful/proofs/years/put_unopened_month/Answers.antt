@@ -8,4 +8,4 @@ pub returns-then-opened : goal.returns-then-opened
 returns-then-opened c = month_opened _ _ _ _ _ _ c.if-opened.true
 
 pub returns : goal.returns
-returns c = unopened_sheet c.args.p _ c.put_heading-h.result c.put_heading-h.ensures.0 c.put_heading-h.ensures.1 c.put_month_rules-b.result c.more.result (then c.put_no_moon-a.ensures c.put_month_rules-b.ensures) c.more.ensures ∙ month_empty _ _ _ _ _ _ c.if-opened.false
+returns c = unopened_sheet c.args.p _ c.put_heading-h.result c.put_heading-h.ensures.puts c.put_heading-h.ensures.result_value c.put_month_rules-b.result c.more.result (then c.put_no_moon-a.ensures c.put_month_rules-b.ensures) c.more.ensures ∙ month_empty _ _ _ _ _ _ c.if-opened.false

@@ -22,7 +22,7 @@ pub returns-in_default-end_of : goal.returns-in_default-end_of
 returns-in_default-end_of c =
     date-endless _ _ _ _ _ (sym (ap day_is c.in-Day.is) ∙ c.nepal_day.ensures)
     (begins_named _ _ _ c.requires.1 c.kala_named-named.ensures (sym c.is_begins.ensures ∙ c.if-is_begins.false))
-    (sym (ap first_says c.in_default-end_of.is) ∙ c.end_of_lem.ensures)
+    (sym (ap first_says c.in_default-end_of.is) ∙ c.end_of.ensures)
 
 pub festival_day-requires : goal.festival_day-requires
 festival_day-requires c =
@@ -35,4 +35,4 @@ returns c =
     ap some (c.festival_day.ensures ∙ asked_named _ a.kala _ _ _ _ c.requires.1 c.kala_named-named.ensures)
     ∙ date-asked _ _ _ _ _ (sym (ap day_is c.in-Day.is) ∙ c.nepal_day.ensures)
     (begins_named _ _ _ c.requires.1 c.kala_named-named.ensures (sym c.is_begins.ensures ∙ c.if-is_begins.false)) _
-    (sym (ap first_says c.in-At.is) ∙ c.end_of_lem.ensures)
+    (sym (ap first_says c.in-At.is) ∙ c.end_of.ensures)

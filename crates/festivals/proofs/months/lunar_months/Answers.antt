@@ -19,14 +19,14 @@ returns-in_default c =
 
 pub months_of-requires-2 : goal.months_of-requires-2
 months_of-requires-2 c =
-    let f = moons_front _ _ _ _ _ c.new_moons-n.ensures.0 c.new_moons-n.ensures.1 (search rules) in
+    let f = moons_front _ _ _ _ _ c.new_moons-n.ensures.count c.new_moons-n.ensures.written (search rules) in
     (c.requires, f.0.0, f.0.1)
 
 pub returns : goal.returns
 returns c =
     let a = c.args in
     let k = flat a.table a.rows.now in
-    let f = moons_front _ _ _ _ _ c.new_moons-n.ensures.0 c.new_moons-n.ensures.1 (search rules) in
+    let f = moons_front _ _ _ _ _ c.new_moons-n.ensures.count c.new_moons-n.ensures.written (search rules) in
     c.months_of-2.ensures
     ∙ ap (λ (xs : List Float). months_by (λ m. last_in k a.year m xs)) f.1
     ∙ opens_all _ k a.year _ (sym (ap days_are c.in-Days.is) ∙ c.year_days.ensures)

@@ -9,51 +9,51 @@ use Rattle.paper.specs.Answers.{answered}
 use Rattle.conversion.specs.Calendar.{from_day}
 use Rattle.conversion.specs.Flat.{flat}
 use Rattle.festivals.specs.Answers.{day_is}
-use Rattle.festivals.proofs.Placed.{inside, not_inside, month_of_law}
+use Rattle.festivals.proofs.Placed.{inside, outside_law, month_of_law}
 use Rattle.festivals.proofs.Moons.{put, stands_turn, place-nothing, place-outside, place_other, place_in, placed_none, placed_first, none_yet}
 use Rattle.festivals.proofs.months.months_of.Goals as goal
-use Rattle.festivals.proofs.months.months_of.Goals.{After-nepal_day, In-Inside-2}
 
 pub loop-i-init : goal.loop-i-init
 loop-i-init c = (omega arith, refl)
 
--- the new moons are there
-fits : (d : After-nepal_day) → let a = d.args in a.n ≤ length a.found.now
-fits d = omega (arith, d.requires.1, d.requires.2)
-
 pub loop-i-preserved-in_default : goal.loop-i-preserved-in_default
 loop-i-preserved-in_default c =
-    stands_turn _ _ _ _ _ _ _ _ _ c.loop-i-test.true (fits c.before.before) (place-nothing _ _ _ _ _ (sym (ap day_is c.in_default.is) ∙ c.nepal_day.ensures)) c.loop-i.invariant
+    let fits : c.args.n ≤ length c.args.found.now = omega (arith, c.requires.1, c.requires.2) in
+    stands_turn _ _ _ _ _ _ _ _ _ c.loop-i-test.true fits (place-nothing _ _ _ _ _ (sym (ap day_is c.in_default.is) ∙ c.nepal_day.ensures)) c.loop-i.invariant
 
 pub loop-i-preserved-in_default-place : goal.loop-i-preserved-in_default-place
 loop-i-preserved-in_default-place c =
-    let r = not_inside _ c.requires.0 _ c.place.result c.place.ensures c.in_default-place.keys2 in
-    stands_turn _ _ _ _ _ _ _ _ _ c.loop-i-test.true (fits c.before.before.before.before.before) (place-outside _ _ _ _ _ _ (sym (ap day_is c.in-Day.is) ∙ c.nepal_day.ensures) r.0 r.1) c.loop-i.invariant
-
--- the date of a new moon inside the table
-dated-in : (t : In-Inside-2) →
-    let a = t.args in
-    from_day (flat a.table a.rows.now) t.in-Day.k ≡ answered t.in-Inside.date
-dated-in t =
-    inside (flat t.args.table t.args.rows.now) t.requires.0 _ t.place.result t.place.ensures _ t.in-Inside.is
+    let fits : c.args.n ≤ length c.args.found.now = omega (arith, c.requires.1, c.requires.2) in
+    let r = outside_law _ c.requires.0 _ c.place.result c.place.ensures c.in_default-place.not-Inside in
+    stands_turn _ _ _ _ _ _ _ _ _ c.loop-i-test.true fits (place-outside _ _ _ _ _ _ (sym (ap day_is c.in-Day.is) ∙ c.nepal_day.ensures) r.0 r.1) c.loop-i.invariant
 
 pub loop-i-preserved-then-date-year : goal.loop-i-preserved-then-date-year
 loop-i-preserved-then-date-year c =
-    stands_turn _ _ _ _ _ _ _ _ _ c.loop-i-test.true (fits c.before.before.before.before.before.before.before.before.before) (place_other _ _ _ _ _ _ (sym (ap day_is c.in-Day.is) ∙ c.nepal_day.ensures) _ (dated-in c.before.before.before) c.if-date-year.true) c.loop-i.invariant
+    let dated : from_day (flat c.args.table c.args.rows.now) c.in-Day.k ≡ answered c.in-Inside.date = inside _ c.requires.0 _ c.place.result c.place.ensures _ c.in-Inside.is in
+    let fits : c.args.n ≤ length c.args.found.now = omega (arith, c.requires.1, c.requires.2) in
+    stands_turn _ _ _ _ _ _ _ _ _ c.loop-i-test.true fits (place_other _ _ _ _ _ _ (sym (ap day_is c.in-Day.is) ∙ c.nepal_day.ensures) _ dated c.if-date-year.true) c.loop-i.invariant
 
 pub overflow_sub-j : goal.overflow_sub-j
-overflow_sub-j c = omega (arith, month_of_law _ _ _ (dated-in c.before.before.before.before))
+overflow_sub-j c =
+    let dated : from_day (flat c.args.table c.args.rows.now) c.in-Day.k ≡ answered c.in-Inside.date = inside _ c.requires.0 _ c.place.result c.place.ensures _ c.in-Inside.is in
+    omega (arith, month_of_law _ _ _ dated)
 
 pub bounds-m-j : goal.bounds-m-j
-bounds-m-j c = omega (arith, month_of_law _ _ _ (dated-in c.before.before.before.before))
+bounds-m-j c =
+    let dated : from_day (flat c.args.table c.args.rows.now) c.in-Day.k ≡ answered c.in-Inside.date = inside _ c.requires.0 _ c.place.result c.place.ensures _ c.in-Inside.is in
+    omega (arith, month_of_law _ _ _ dated)
 
 pub bounds-m-j-in-loop-i : goal.bounds-m-j-in-loop-i
-bounds-m-j-in-loop-i c = omega (arith, month_of_law _ _ _ (dated-in c.before.before.before.before))
+bounds-m-j-in-loop-i c =
+    let dated : from_day (flat c.args.table c.args.rows.now) c.in-Day.k ≡ answered c.in-Inside.date = inside _ c.requires.0 _ c.place.result c.place.ensures _ c.in-Inside.is in
+    omega (arith, month_of_law _ _ _ dated)
 
 pub loop-i-preserved : goal.loop-i-preserved
 unfolding put
 loop-i-preserved c =
-    stands_turn _ _ _ _ _ _ _ _ _ c.loop-i-test.true (fits c.before.before.before.before.before.before.before.before.before.before) (place_in _ _ _ _ _ _ (sym (ap day_is c.in-Day.is) ∙ c.nepal_day.ensures) _ (dated-in c.before.before.before.before) c.if-date-year.false) c.loop-i.invariant
+    let dated : from_day (flat c.args.table c.args.rows.now) c.in-Day.k ≡ answered c.in-Inside.date = inside _ c.requires.0 _ c.place.result c.place.ensures _ c.in-Inside.is in
+    let fits : c.args.n ≤ length c.args.found.now = omega (arith, c.requires.1, c.requires.2) in
+    stands_turn _ _ _ _ _ _ _ _ _ c.loop-i-test.true fits (place_in _ _ _ _ _ _ (sym (ap day_is c.in-Day.is) ∙ c.nepal_day.ensures) _ dated c.if-date-year.false) c.loop-i.invariant
 
 pub returns : goal.returns
 unfolding near of_bits

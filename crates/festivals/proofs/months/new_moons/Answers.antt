@@ -9,4 +9,4 @@ unfolding near of_bits
 returns c =
     let w = c.walk-walked.ensures in
     let e = moons_from _ _ _ _ c.zero_hour.ensures c.zero_hour-2.ensures in
-    (rw (← e) w.0, rw (← e) w.1.1.1)
+    record { count = rw (← e) w.count; written = rw (← e) w.written }

@@ -1,5 +1,4 @@
 -- `festivals::years::rule_day` meets its contract. Assumes nothing.
-use borrow.Author.Tests.{not-true, not-false}
 use mathlib.Core.Path.{sym, ap, ◌∙◌}
 use Prim.Native.Nat.{◌-◌}
 use native.Mathlib.Omega.{arith}
@@ -17,7 +16,7 @@ bounds-months-j c = omega (arith, computed_of c.args.r c.requires.0 c.requires.1
 pub returns-then-not-months-j : goal.returns-then-not-months-j
 returns-then-not-months-j c =
     let a = c.args in
-    day_moonless _ a.r a.t1 (a.r.month - 1) (not-true _ c.if-not-months-j.true)
+    day_moonless _ a.r a.months (a.r.month - 1) (c.if-not-months-j.true)
 
 pub bounds-months-j-2 : goal.bounds-months-j-2
 bounds-months-j-2 c = omega (arith, computed_of c.args.r c.requires.0 c.requires.1)
@@ -31,7 +30,7 @@ overflow_add-tithi c = omega (arith, computed_of c.args.r c.requires.0 c.require
 pub returns-in_default : goal.returns-in_default
 returns-in_default c =
     let a = c.args in
-    day-unstarted _ a.r a.t1 (a.r.month - 1) (not-false _ c.if-not-months-j.false) (sym (ap first_says c.in_default.is) ∙ c.beginning_of.ensures)
+    day-unstarted _ a.r a.months (a.r.month - 1) (c.if-not-months-j.false) (sym (ap first_says c.in_default.is) ∙ c.beginning_of.ensures)
 
 pub festival_date-requires : goal.festival_date-requires
 festival_date-requires c =
@@ -41,4 +40,4 @@ festival_date-requires c =
 pub returns : goal.returns
 returns c =
     let a = c.args in
-    day-started _ a.r a.t1 (a.r.month - 1) (not-false _ c.if-not-months-j.false) _ (sym (ap first_says c.in-At.is) ∙ c.beginning_of.ensures) _ c.festival_date.ensures
+    day-started _ a.r a.months (a.r.month - 1) (c.if-not-months-j.false) _ (sym (ap first_says c.in-At.is) ∙ c.beginning_of.ensures) _ c.festival_date.ensures

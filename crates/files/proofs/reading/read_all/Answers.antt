@@ -1,9 +1,6 @@
--- `files::reading::read_all` meets its contract. Assumes nothing.
-use Rattle.files.proofs.Made.{reads_shut, reads_lines}
+-- The lines of an open file.
+use Rattle.files.proofs.Made.{reads_lines}
 use Rattle.files.proofs.reading.read_all.Goals as goal
 
-pub returns-then-fd-lt0 : goal.returns-then-fd-lt0
-returns-then-fd-lt0 c = reads_shut c.faulted.ensures c.first.ensures
-
-pub returns : goal.returns
-returns c = reads_lines c.read_open.ensures
+pub returns-in-Some : goal.returns-in-Some
+returns-in-Some g c = reads_lines c.read_open.ensures

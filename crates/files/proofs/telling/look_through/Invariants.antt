@@ -1,10 +1,11 @@
+-- The lines so far lead to the place that stands. The steps left fall.
 use Rattle.std.proofs.Common.{◌≡◌, false, length}
 use Rattle.files.specs.Told.{nowhere}
 use Rattle.files.specs.Inner.{Looks}
 use Rattle.files.proofs.telling.look_through.Given as goal
 
 abbrev pub invariant-loop-input : goal.invariant-loop-input
-invariant-loop-input l = (length l.piece ≡ length l.initial.piece) × (length l.line ≡ length l.initial.line) × Looks l.sought nowhere l.p × (l.p.found ≡ false)
+invariant-loop-input g l = (length l.line ≡ length l.fn.line) × Looks l.sought nowhere l.p × (l.p.found ≡ false)
 
 abbrev pub decreases-loop-input : goal.decreases-loop-input
-decreases-loop-input l = l.input.left
+decreases-loop-input g l = l.input.left

@@ -1,5 +1,4 @@
 -- `sky::moon::add_terms` meets its contract. Assumes nothing.
-use Prim.Native.Nat.{◌-◌}
 use mathlib.Core.Path.{◌≡◌, refl}
 use native.Mathlib.Omega.{arith}
 use lib.Ieee.{nan, of_bits}

@@ -1,4 +1,5 @@
 -- `sky::moon::angle` meets its contract. Assumes nothing.
+use native.Mathlib.Omega.{arith}
 use lib.Ieee.{of_bits, div}
 use Rattle.paper.specs.Floats.{near}
 use Rattle.sky.specs.Angles.{deg}
@@ -8,6 +9,5 @@ use Rattle.sky.proofs.moon.angle.Goals as goal
 pub returns : goal.returns
 unfolding deg near of_bits div
 returns c =
-    let g = c.struct_told-1.given in
-    angle_is c.args.a c.args.x (record { sfits = g.0.1 }) (record { sfits = g.1.0.1 }) (record { sfits = g.1.1.0.1 }) (record { sfits = g.1.1.1.0.1 })
+    angle_is c.args.a c.args.x (record { sfits = omega arith }) (record { sfits = omega arith }) (record { sfits = omega arith }) (record { sfits = omega arith })
     c.as_float.ensures c.as_float-2.ensures c.as_float-3.ensures c.as_float-4.ensures

@@ -1,5 +1,4 @@
 use mathlib.Core.Path.{◌≡◌, refl}
-use Prim.Native.Nat.{◌-◌}
 use native.Mathlib.Omega.{arith}
 use Rattle.sky.specs.Tithi.{twelves, tithi_of}
 use Rattle.sky.proofs.Twelves.{twelves_le, twelves_more, twelves_same}
