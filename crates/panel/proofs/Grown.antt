@@ -15,7 +15,7 @@ use Rattle.rules.specs.Festivals.{Listed}
 use Rattle.grid.specs.Month.{Shown}
 use Rattle.kept.specs.State.{State, calendar}
 use Rattle.kept.specs.Operations.{append_row}
-use Rattle.steady.specs.Composed.{Place, ref}
+use Rattle.steady.specs.Composed.{Place, ref, mut_ref}
 use Rattle.steady.specs.Kept.{KeptSteady}
 use Rattle.steady.proofs.Kept.{kept_steady}
 use Rattle.shelf.specs.Numbers.{Made}
@@ -41,20 +41,20 @@ module _ (σ : State) (some : σ.rows ≡ [] → ⊥) (row : List ℕ) (done : (
   grown = kept_steady σ m.good some row done
 
   pub festivals_on : (y m d : ℕ) (old : ℕ × List ℕ) → Grows FestivalsOn.Learnt (λ k s. listed s.1.1.1.1)
-      (λ k. (ref p a, (y, (m, (d, lend_list e old))))) (λ k. (ref q b, (y, (m, (d, lend_list f old))))) 4 (λ b. Added (calendar σ) y)
+      (λ k. (mut_ref p a, (y, (m, (d, lend_list e old))))) (λ k. (mut_ref q b, (y, (m, (d, lend_list f old))))) 4 (λ b. Added (calendar σ) y)
   festivals_on y u d old =
       grows {W = Listed} (λ w. w.answer) (λ w. told_list w old.0) (λ w. gives_code w.answer (λ n. n) old.0) refl _ (grown.list y u d old.1) (λ z h. Iff.rfl)
       (λ k x s c. but_array (c.made σ m)) (λ k x s c. but_array (c.made (append_row σ row).state n))
 
   pub festivals_on_ad : (y m d : ℕ) (old : (ℕ × (ℕ × ℕ)) × List ℕ) → Grows FestivalsOnAd.Learnt (λ k s. listed_ad s.1.1.1.1)
-      (λ k. (ref p a, (y, (m, (d, lend_list_ad e old))))) (λ k. (ref q b, (y, (m, (d, lend_list_ad f old))))) 7 (λ b. AddedDay (calendar σ) (calendar (append_row σ row).state) (day_number (date y m d)))
+      (λ k. (mut_ref p a, (y, (m, (d, lend_list_ad e old))))) (λ k. (mut_ref q b, (y, (m, (d, lend_list_ad f old))))) 7 (λ b. AddedDay (calendar σ) (calendar (append_row σ row).state) (day_number (date y m d)))
   festivals_on_ad y u d old =
       grows {W = Listed} (λ w. w.answer) (λ w. told_list_ad w old.0) (λ w. told_code days_in (λ n. n) w.answer old.0) (outside_number _ _) _ (grown.list_ad y u d old.1) (λ z h. Iff.rfl)
       (λ k x s c. but_array (c.made σ m)) (λ k x s c. but_array (c.made (append_row σ row).state n))
 
   pub month_grid_law : (today : Date) (y m : ℕ) (old : MonthState) → Grows MonthGrid.Learnt (λ k s. month s.1.1.1.1.1.1)
-      (λ k. (ref p a, (today.year, (today.month, (today.day, (y, (m, lend_month e old)))))))
-      (λ k. (ref q b, (today.year, (today.month, (today.day, (y, (m, lend_month f old))))))) 4 (λ b. Added (calendar σ) y)
+      (λ k. (mut_ref p a, (today.year, (today.month, (today.day, (y, (m, lend_month e old)))))))
+      (λ k. (mut_ref q b, (today.year, (today.month, (today.day, (y, (m, lend_month f old))))))) 4 (λ b. Added (calendar σ) y)
   month_grid_law today y u old =
       grows {W = Shown} (λ w. w.answer) (λ w. told_month w old.0) (λ w. gives_code w.answer month_numbers old.0) refl _ (grown.month today y u old.1.0 old.1.1) (λ z h. Iff.rfl)
       (λ k x s c. but_array (c.made σ m)) (λ k x s c. but_array (c.made (append_row σ row).state n))

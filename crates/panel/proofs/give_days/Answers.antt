@@ -7,34 +7,19 @@ use Rattle.panel.proofs.give_days.Goals as goal
 pub returns-in-Before : goal.returns-in-Before
 returns-in-Before c =
     let a = c.args in
-    told_at days_in a.refusal (Before c.in-Before.k) (a.days-before.now, a.days-after.now) (sym c.in-Before.is ∙ c.told-told.ensures) c.number.ensures
+    told_at days_in a.refusal (Before c.in-Before.k) (a.days_before.now, a.days_after.now) (sym c.in-Before.is ∙ c.told-told.ensures) c.number.ensures
 
 pub returns-in-After : goal.returns-in-After
 returns-in-After c =
     let a = c.args in
-    told_at days_in a.refusal (After c.in-After.k) (a.days-before.now, a.days-after.now) (sym c.in-After.is ∙ c.told-told.ensures) c.number-in-After.ensures
+    told_at days_in a.refusal (After c.in-After.k) (a.days_before.now, a.days_after.now) (sym c.in-After.is ∙ c.told-told.ensures) c.number-in-After.ensures
 
 pub returns-in-Line : goal.returns-in-Line
 returns-in-Line c =
     let a = c.args in
-    told_at days_in a.refusal (Line c.in-Line.field-0) (a.days-before.now, a.days-after.now) (sym c.in-Line.is ∙ c.told-told.ensures) c.number-in-Line.ensures
+    told_at days_in a.refusal (Line c.in-Line.field-0) (a.days_before.now, a.days_after.now) (sym c.in-Line.is ∙ c.told-told.ensures) c.number-in-Line.ensures
 
 pub returns-in-Nothing : goal.returns-in-Nothing
 returns-in-Nothing c =
     let a = c.args in
-    told_at days_in a.refusal Nothing (a.days-before.now, a.days-after.now) (sym c.in-Nothing.is ∙ c.told-told.ensures) c.number-in-Nothing.ensures
-
-pub told-told-requires : goal.told-told-requires
-told-told-requires c = tt
-
-pub number-requires : goal.number-requires
-number-requires c = tt
-
-pub number-requires-in-After : goal.number-requires-in-After
-number-requires-in-After c = tt
-
-pub number-requires-in-Line : goal.number-requires-in-Line
-number-requires-in-Line c = tt
-
-pub number-requires-in-Nothing : goal.number-requires-in-Nothing
-number-requires-in-Nothing c = tt
+    told_at days_in a.refusal Nothing (a.days_before.now, a.days_after.now) (sym c.in-Nothing.is ∙ c.told-told.ensures) c.number-in-Nothing.ensures

@@ -1,9 +1,6 @@
 use Rattle.panel.proofs.Handing.{between}
 use Rattle.panel.proofs.conversions.give_bs.Goals as goal
 
-pub give_days-requires : goal.give_days-requires
-give_days-requires c = tt
-
 pub returns-in-Is : goal.returns-in-Is
 returns-in-Is c = rw c.in-Is.is
 

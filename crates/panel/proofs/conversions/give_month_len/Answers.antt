@@ -1,8 +1,5 @@
 use Rattle.panel.proofs.conversions.give_month_len.Goals as goal
 
-pub number-requires : goal.number-requires
-number-requires c = tt
-
 pub returns-in-Days : goal.returns-in-Days
 returns-in-Days c = rw c.in-Days.is
 

@@ -1,8 +1,5 @@
 use Rattle.panel.proofs.dates.give_julian.Goals as goal
 
-pub number-requires : goal.number-requires
-number-requires c = tt
-
 pub returns-in-At : goal.returns-in-At
 returns-in-At c = rw c.in-At.is
 

@@ -1,8 +1,5 @@
 use Rattle.panel.proofs.dates.give_number.Goals as goal
 
-pub number-requires : goal.number-requires
-number-requires c = tt
-
 pub returns-in-Number : goal.returns-in-Number
 returns-in-Number c = rw c.in-Number.is
 

@@ -1,8 +1,5 @@
 use Rattle.panel.proofs.day_lists.give_count.Goals as goal
 
-pub number-requires : goal.number-requires
-number-requires c = tt
-
 pub returns-in-Count : goal.returns-in-Count
 returns-in-Count c = rw c.in-Count.is
 

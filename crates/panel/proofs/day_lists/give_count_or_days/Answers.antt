@@ -1,9 +1,6 @@
 use Rattle.panel.proofs.Handing.{between}
 use Rattle.panel.proofs.day_lists.give_count_or_days.Goals as goal
 
-pub give_days-requires : goal.give_days-requires
-give_days-requires c = tt
-
 pub returns-in-Count : goal.returns-in-Count
 returns-in-Count c = rw c.in-Count.is
 

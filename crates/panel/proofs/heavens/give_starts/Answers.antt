@@ -1,8 +1,5 @@
 use Rattle.panel.proofs.heavens.give_starts.Goals as goal
 
-pub number-requires : goal.number-requires
-number-requires c = tt
-
 pub returns-in-Found : goal.returns-in-Found
 returns-in-Found c = rw c.in-Found.is
 

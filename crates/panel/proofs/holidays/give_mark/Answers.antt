@@ -1,11 +1,5 @@
 use Rattle.panel.proofs.holidays.give_mark.Goals as goal
 
-pub mark-requires : goal.mark-requires
-mark-requires c = tt
-
-pub number-requires : goal.number-requires
-number-requires c = tt
-
 pub returns-in-Is : goal.returns-in-Is
 returns-in-Is c = rw (c.in-Is.is, c.mark.ensures)
 

@@ -9,4 +9,4 @@ returns-then-state-lt4488 c = refuses c.if-state-lt4488.true c.number.ensures
 pub returns : goal.returns
 returns c =
     let done = c.give_done.ensures in
-    answers c.if-state-lt4488.false (λ σ m. handed_done m c.kept_of.ensures _ (λ (τ : State). append_row τ c.args.row.now) c.append_row-done.ensures done.0 done.1)
+    answers c.if-state-lt4488.false (λ σ m. handed_done m c.kept_of.ensures _ (λ (τ : State). append_row τ c.args.row.now) c.append_row-done.ensures done.code done.state)

@@ -9,4 +9,4 @@ returns-then-state-lt4488 c = refuses c.if-state-lt4488.true c.number.ensures
 pub returns : goal.returns
 returns c =
     let done = c.give_done.ensures in
-    answers c.if-state-lt4488.false (λ σ m. handed_done m c.kept_of.ensures _ (λ (τ : State). take_rules τ c.args.rules.now) c.take_rules-done.ensures done.0 done.1)
+    answers c.if-state-lt4488.false (λ σ m. handed_done m c.kept_of.ensures _ (λ (τ : State). take_rules τ c.args.rules.now) c.take_rules-done.ensures done.code done.state)

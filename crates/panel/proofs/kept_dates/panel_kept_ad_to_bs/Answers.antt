@@ -20,4 +20,4 @@ returns c =
     let a = c.args in
     let says : Table → List ℕ → Type 0 = λ t rows. bs_says c.from_ad.result ≡ if_row rows (from_ad (flat t rows) a.year a.month a.day) in
     answers c.if-state-lt4488.false (λ σ m.
-    told_as days_in bs_numbers _ (of_table says m c.table_of.ensures c.rows_of_lem.ensures c.from_ad.ensures) c.give_bs.ensures)
+    told_as days_in bs_numbers _ (of_table says m c.table_of.ensures c.rows_of.ensures c.from_ad.ensures) c.give_bs.ensures)

@@ -18,6 +18,6 @@ pub returns : goal.returns
 unfolding ask_to_ad
 returns c =
     let a = c.args in
-    let says : Table → List ℕ → Type 0 = λ t rows. date_says c.to_ad_law.result ≡ if_row rows (to_ad (flat t rows) a.year a.month a.day) in
+    let says : Table → List ℕ → Type 0 = λ t rows. date_says c.to_ad.result ≡ if_row rows (to_ad (flat t rows) a.year a.month a.day) in
     answers c.if-state-lt4488.false (λ σ m.
-    given_as numbers _ (of_table says m c.table_of.ensures c.rows_of_lem.ensures c.to_ad_law.ensures) c.give_date.ensures)
+    given_as numbers _ (of_table says m c.table_of.ensures c.rows_of.ensures c.to_ad.ensures) c.give_date.ensures)

@@ -13,4 +13,4 @@ pub returns : goal.returns
 returns c =
     let a = c.args in
     answers c.if-state-lt4488.false (λ σ m.
-    handed_list m c.kept_of.ensures (λ (x : Answer ℕ). gives_told days_in x (λ n. n) (a.count.now, (a.days-before.now, a.days-after.now))) _ (λ (τ : State). ask_ad τ a.year a.month a.day a.festivals.now) c.ask_ad-asked.ensures c.give_count_or_days.ensures c.keep_list.ensures)
+    handed_list m c.kept_of.ensures (λ (x : Answer ℕ). gives_told days_in x (λ n. n) (a.count.now, (a.days_before.now, a.days_after.now))) _ (λ (τ : State). ask_ad τ a.year a.month a.day a.festivals.now) c.ask_ad-asked.ensures c.give_count_or_days.ensures c.keep_list.ensures)

@@ -1,8 +1,5 @@
 use Rattle.panel.proofs.months.give_grid.Goals as goal
 
-pub number-requires : goal.number-requires
-number-requires c = tt
-
 pub returns-in-Is : goal.returns-in-Is
 returns-in-Is c = rw c.in-Is.is
 

@@ -1,8 +1,5 @@
 use Rattle.panel.proofs.months.give_month.Goals as goal
 
-pub number-requires : goal.number-requires
-number-requires c = tt
-
 pub returns-in-Month : goal.returns-in-Month
 returns-in-Month c = rw c.in-Month.is
 

@@ -1,8 +1,5 @@
 use Rattle.panel.proofs.rule_files.give_bytes.Goals as goal
 
-pub number-requires : goal.number-requires
-number-requires c = tt
-
 pub returns-in-Bytes : goal.returns-in-Bytes
 returns-in-Bytes c = rw c.in-Bytes.is
 

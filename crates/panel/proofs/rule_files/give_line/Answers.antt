@@ -23,18 +23,3 @@ pub returns-in-Nothing : goal.returns-in-Nothing
 returns-in-Nothing c =
     let a = c.args in
     told_at line_in a.refusal Nothing a.line.now (sym c.in-Nothing.is ∙ c.told-told.ensures) c.number-in-Nothing.ensures
-
-pub told-told-requires : goal.told-told-requires
-told-told-requires c = tt
-
-pub number-requires : goal.number-requires
-number-requires c = tt
-
-pub number-requires-in-After : goal.number-requires-in-After
-number-requires-in-After c = tt
-
-pub number-requires-in-Line : goal.number-requires-in-Line
-number-requires-in-Line c = tt
-
-pub number-requires-in-Nothing : goal.number-requires-in-Nothing
-number-requires-in-Nothing c = tt

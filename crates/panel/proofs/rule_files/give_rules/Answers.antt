@@ -1,9 +1,6 @@
 use Rattle.panel.proofs.Handing.{between}
 use Rattle.panel.proofs.rule_files.give_rules.Goals as goal
 
-pub give_line-requires : goal.give_line-requires
-give_line-requires c = tt
-
 pub returns-in-Rules : goal.returns-in-Rules
 returns-in-Rules c = rw c.in-Rules.is
 
