@@ -11,7 +11,7 @@ use Rattle.questions.proofs.months.month.Goals as goal
 pub slice_bounds-put_asked-end : goal.slice_bounds-put_asked-end
 slice_bounds-put_asked-end c = sym (length-take-le c.small-n.result _ (search rules))
 
-pub slice_bounds-put_asked-end-then-w-eq1111111 : goal.slice_bounds-put_asked-end-2
+pub slice_bounds-put_asked-end-then-w-eq1111111 : goal.slice_bounds-put_asked-end-then-w-eq1111111
 slice_bounds-put_asked-end-then-w-eq1111111 c = sym (length-take-le c.small-k.result _ (search rules))
 
 pub returns-then-w-eq1111111 : goal.returns-then-w-eq1111111
