@@ -14,8 +14,6 @@ day_of-number-requires c = let a = c.args in (accepted_both (flat a.table a.rows
 
 pub reason_of-requires : goal.reason_of-requires
 reason_of-requires c =
-    let both : let a = e.args in (accepted a.table a.rows.now ≡ true) × (accepted_rules a.rules.now ≡ true) = let a = e.args in
-    accepted_both (flat a.table a.rows.now) _ (said valid_says e.in-Valid.is e.accept-lent.ensures) in
     let a = c.args in
     let g = accepted_both (flat a.table a.rows.now) _ (said valid_says c.in-Valid.is c.accept-lent.ensures) in
     (g.0, g.1, to_numbered a.table a.rows.now a.year a.month a.day _ g.0 (sym (said number_says c.in-Number.is c.day_of-number.ensures)))
@@ -27,16 +25,12 @@ returns-in-Refused c =
 
 pub returns-in-Refused-number : goal.returns-in-Refused-number
 returns-in-Refused-number c =
-    let both : let a = e.args in (accepted a.table a.rows.now ≡ true) × (accepted_rules a.rules.now ≡ true) = let a = e.args in
-    accepted_both (flat a.table a.rows.now) _ (said valid_says e.in-Valid.is e.accept-lent.ensures) in
     let a = c.args in
     let g = accepted_both (flat a.table a.rows.now) _ (said valid_says c.in-Valid.is c.accept-lent.ensures) in
     no_day_law (flat a.table a.rows.now) a.rules.now a.year a.month a.day g.0 g.1 _ (sym (said number_says c.in-Refused-number.is c.day_of-number.ensures))
 
 pub returns-in-Number : goal.returns-in-Number
 returns-in-Number c =
-    let both : let a = e.args in (accepted a.table a.rows.now ≡ true) × (accepted_rules a.rules.now ≡ true) = let a = e.args in
-    accepted_both (flat a.table a.rows.now) _ (said valid_says e.in-Valid.is e.accept-lent.ensures) in
     let a = c.args in
     let g = accepted_both (flat a.table a.rows.now) _ (said valid_says c.in-Valid.is c.accept-lent.ensures) in
     told-on (flat a.table a.rows.now) a.rules.now a.year a.month a.day g.0 g.1 _ _ (sym (said number_says c.in-Number.is c.day_of-number.ensures)) c.reason_of.ensures
