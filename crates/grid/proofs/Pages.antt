@@ -75,7 +75,7 @@ module _ (f : ℕ → List ℕ) (g : ℕ → List Pair) (lead days : ℕ) (page�
         record {
           so_far = omega arith;
           few = omega (arith, l.few);
-          page_kept = ap length p ∙ length-sets page ((lead + d) * 12) (f d) ∙ l.page-kept;
+          page_kept = ap length p ∙ length-sets page ((lead + d) * 12) (f d) ∙ l.page_kept;
           lists_kept = ap length q ∙ length-sets lists (at * 2) (numbers (g d)) ∙ l.lists_kept;
           cells_left = rw p (cells_turn d days h f lead page n ∙ l.cells_left);
           lists_left = rw q (lists_turn d days h g at to lists e ∙ l.lists_left);

@@ -13,19 +13,19 @@ use Rattle.grid.proofs.lay_month.Goals as goal
 
 pub plan_of-plan-requires : goal.plan_of-plan-requires
 plan_of-plan-requires c =
-    (c.requires.0, said days_says c.in-Days.is c.month_days-days.ensures)
+    record { rows_value = c.requires.0; days_value = said days_says c.in-Days.is c.month_days-days.ensures }
 
 pub write_month-requires : goal.write_month-requires
 write_month-requires c =
     let h = said days_says c.in-Days.is c.month_days-days.ensures in
-    (c.requires.1, subst⁻¹ (λ (q : Plan). Planned q) c.plan_of-plan.ensures (planned c.args.table c.args.rows.now c.requires.0 _ _ _ h _ _))
+    record { rules_value = c.requires.1; planned = subst⁻¹ (λ (q : Plan). Planned q) c.plan_of-plan.ensures (planned c.args.table c.args.rows.now c.requires.0 _ _ _ h _ _) }
 
 pub returns-in-Refused : goal.returns-in-Refused
 returns-in-Refused c =
     let a = c.args in
     let e = then_not _ _ _ (sym (said days_says c.in-Refused.is c.month_days-days.ensures)) in
     let r = says_refused _ _ a.cells.now a.festivals.now e in
-    (r.answer, (r.first, r.second))
+    record { result_value = r.answer; cells_after = r.first; festivals_after = r.second }
 
 pub returns-in-Days : goal.returns-in-Days
 returns-in-Days c =
@@ -34,5 +34,5 @@ returns-in-Days c =
     let e = then_by _ _ _ (sym h) in
     let g = same-grid a.table a.rows.now c.requires.0 _ _ _ h a.rules.now c.requires.1 _ _ c.years_for-years.ensures _ c.plan_of-plan.ensures in
     let f = ap (λ (g : Grid). fitted g (length a.cells.now) (length a.festivals.now)) g in
-    let r = says_by (e ∙ f) (record { answer = c.write_month.ensures.0; first = c.write_month.ensures.1.0; second = c.write_month.ensures.1.1 }) in
-    (r.answer, (r.first, r.second))
+    let r = says_by (e ∙ f) (record { answer = c.write_month.ensures.result_value; first = c.write_month.ensures.cells_after; second = c.write_month.ensures.festivals_after }) in
+    record { result_value = r.answer; cells_after = r.first; festivals_after = r.second }

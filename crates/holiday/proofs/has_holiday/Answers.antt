@@ -19,4 +19,4 @@ returns c =
     let same : list_by (rules_of a.rules.now) c.day_numbered-day.result c.years_for-years.result ≡ day_list_of (flat a.table a.rows.now) (rules_of a.rules.now) a.bs a.number =
     rw (c.day_numbered-day.ensures, c.years_for-years.ensures)
     (two_years _ _ _ a.bs a.number (good_rules a.rules.now c.requires.1).counts.computed_few (numbered_from a.number c.requires.2)) in
-    c.any_holiday.ensures ∙ (shown _ _ _ 0 _ p.ensures.0 p.ensures.1.0 (omega (arith, p.ensures.1.1))).1 ∙ ap any_holiday same
+    c.any_holiday.ensures ∙ (shown _ _ _ 0 _ p.ensures.buf_after p.ensures.value (omega (arith, p.ensures.upper_bound))).1 ∙ ap any_holiday same

@@ -1,5 +1,5 @@
 -- `faults::lines::end_byte` meets its contract: the last byte is still to come. Assumes nothing.
-use Rattle.std.proofs.Common.{◌-◌, sym, refl, ◌∙◌}
+use Rattle.std.proofs.Common.{sym, refl, ◌∙◌}
 use Rattle.faults.proofs.Reasons.{end_over, end-here, end-turn}
 use Rattle.faults.proofs.lines.end_byte.Goals as goal
 

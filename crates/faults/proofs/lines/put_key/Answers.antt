@@ -1,5 +1,5 @@
 -- `faults::lines::put_key` meets its contract. Assumes nothing.
-use Rattle.rulefile.proofs.Dues.{at_last}
+use Rattle.std.proofs.Common.{◌≡◌, ◌%◌, arith}
 use Rattle.faults.proofs.Reasons.{key_at}
 use Rattle.faults.proofs.lines.put_key.Goals as goal
 
@@ -25,4 +25,6 @@ pub returns-in-6 : goal.returns-in-6
 returns-in-6 c = rw (key_at _ 6 c.in-6.is) c.put-in-6.ensures
 
 pub returns-in_default : goal.returns-in_default
-returns-in_default c = rw (key_at _ 7 (at_last _ c.in_default.rest)) c.put-in_default.ensures
+returns-in_default c =
+    let e : c.args.i % 8 ≡ 7 = omega arith in
+    rw (key_at _ 7 e) c.put-in_default.ensures

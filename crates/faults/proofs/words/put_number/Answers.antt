@@ -5,4 +5,4 @@ use Rattle.faults.proofs.words.put_number.Goals as goal
 
 pub returns : goal.returns
 unfolding number_text
-returns c = rw (← c.wrapping_add_u64.ensures) (then c.put-a.ensures c.put_decimal.ensures)
+returns c = rw (← c.wrapping_add_u64.ensures.value) (then c.put-a.ensures c.put_decimal.ensures)

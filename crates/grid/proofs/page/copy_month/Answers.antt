@@ -16,16 +16,16 @@ returns-then-cells-total c =
     let g = grid_by a.rules.now a.plan in
     let h = no_cells g (length a.cells.now) (length a.festivals.now) (omega (arith, c.if-cells-total.true, c.cell_count-total.ensures, cell_numbers_length a.rules.now a.plan)) in
     let r = says_refused _ NoRoom a.cells.now a.festivals.now h in
-    (r.answer, (r.first, r.second))
+    record { result_value = r.answer; cells_after = r.first; festivals_after = r.second }
 
 pub returns-then-festivals-count : goal.returns-then-festivals-count
 returns-then-festivals-count c =
     let a = c.args in
     let g = grid_by a.rules.now a.plan in
-    let n = c.fill-count.ensures.1.1.0 ∙ ap length (sym (festivals_are a.rules.now a.plan)) in
+    let n = c.fill-count.ensures.value ∙ ap length (sym (festivals_are a.rules.now a.plan)) in
     let h = no_festivals g (length a.cells.now) (length a.festivals.now) (omega (arith, c.if-festivals-count.true, n, festival_numbers_length a.rules.now a.plan)) in
     let r = says_refused _ NoRoom a.cells.now a.festivals.now h in
-    (r.answer, (r.first, r.second))
+    record { result_value = r.answer; cells_after = r.first; festivals_after = r.second }
 
 pub returns : goal.returns
 returns c =
@@ -35,13 +35,13 @@ returns c =
     let g = grid_by rules p in
     let e = c.cell_count-total.ensures in
     let f = c.fill-count.ensures in
-    let n = f.1.1.0 ∙ ap length (sym (festivals_are rules p)) in
+    let n = f.value ∙ ap length (sym (festivals_are rules p)) in
     let room : length (cell_numbers g) ≤ length a.cells.now = omega (arith, c.if-cells-total.false, e, cell_numbers_length rules p) in
     let space : length (festival_numbers g) ≤ length a.festivals.now = omega (arith, c.if-festivals-count.false, n, festival_numbers_length rules p) in
     let h = fits g (length a.cells.now) (length a.festivals.now) room space in
-    let page = c.fill-count.new.1.1.0 in
-    let lists = c.fill-count.new.1.1.1.0 in
-    let cells-front = ap (λ (k : ℕ). take (k * 12) page) e ∙ page_front rules p a.page.now page c.requires.1.1 f.0 (omega (arith, c.requires.1.0)) in
-    let festivals-front = lists_front rules p a.lists.now lists c.fill-count.result f.1.0 f.1.1.0 (omega (arith, f.1.1.1, c.requires.1.0.1.festivals)) in
+    let page = c.fill-count.new.page in
+    let lists = c.fill-count.new.lists in
+    let cells-front = ap (λ (k : ℕ). take (k * 12) page) e ∙ page_front rules p a.page.now page c.requires.page_value f.page_after (omega (arith, c.requires.planned)) in
+    let festivals-front = lists_front rules p a.lists.now lists c.fill-count.result f.lists_after f.value (omega (arith, f.upper_bound, c.requires.planned.1.festivals)) in
     let r = says_grid _ g a.cells.now a.festivals.now _ _ c.month_of.result h (month_is rules p _ _ _ c.month_of.ensures e n) cells-front festivals-front room space in
-    (r.answer, (c.put_front.ensures ∙ r.first, c.put_front-2.ensures ∙ r.second))
+    record { result_value = r.answer; cells_after = c.put_front.ensures ∙ r.first; festivals_after = c.put_front-2.ensures ∙ r.second }

@@ -15,7 +15,7 @@ use Rattle.grid.proofs.page.put_cell.Goals as goal
 
 pub put_at-requires : goal.put_at-requires
 put_at-requires c =
-    omega (arith, ap length c.day_cell-cell.ensures ∙ cell_length _ _ _ _ _, c.lead_of.ensures, c.requires.1)
+    omega (arith, ap length c.day_cell-cell.ensures ∙ cell_length _ _ _ _ _, c.lead_of.ensures, c.requires.planned, c.requires.roomy)
 
 pub returns : goal.returns
 returns c =
@@ -24,13 +24,14 @@ returns c =
     let q = c.day_on-day.result in
     let e = c.day_on-day.ensures in
     let p = c.put_day_list-end in
-    let t = shown (list q) a.lists.now p.new.1.1.1.0 a.at p.result p.ensures.0 p.ensures.1.0 (omega (arith, p.ensures.1.1, c.requires.1)) in
-    let k = cell_of_law a.plan.today q (list q) (reading_on q) c.reading_on-reading.result _ _ t.0 (c.is_holiday-holiday.ensures ∙ ap (λ (b : Bool). saturday q.number || b) t.1) c.reading_on-reading.ensures in (
-      c.put_at.ensures
+    let t = shown (list q) a.lists.now p.new.buf a.at p.result p.ensures.buf_after p.ensures.value (omega (arith, p.ensures.upper_bound, c.requires.planned, c.requires.roomy)) in
+    let k = cell_of_law a.plan.today q (list q) (reading_on q) c.reading_on-reading.result _ _ t.0 (c.is_holiday-holiday.ensures ∙ ap (λ (b : Bool). saturday q.number || b) t.1) c.reading_on-reading.ensures in
+    record {
+      page_after =
+          c.put_at.ensures
           ∙ sets_same a.page.now _ _ _ _ (ap (λ (z : ℕ). (z + a.d) * 12) c.lead_of.ensures)
-          (c.day_cell-cell.ensures ∙ k ∙ ap (λ (x : Day). day_cell a.plan.today x (list x) (reading_on x)) e),
-      (
-        p.ensures.0 ∙ ap (λ (x : Day). sets a.lists.now (a.at * 2) (numbers (list x))) e,
-        (p.ensures.1.0 ∙ ap (λ (x : Day). a.at + length (list x)) e, p.ensures.1.1),
-      ),
-    )
+          (c.day_cell-cell.ensures ∙ k ∙ ap (λ (x : Day). day_cell a.plan.today x (list x) (reading_on x)) e);
+      lists_after = p.ensures.buf_after ∙ ap (λ (x : Day). sets a.lists.now (a.at * 2) (numbers (list x))) e;
+      value = p.ensures.value ∙ ap (λ (x : Day). a.at + length (list x)) e;
+      upper_bound = p.ensures.upper_bound;
+    }

@@ -4,4 +4,4 @@ use Rattle.grid.proofs.page.write_month.Goals as goal
 
 pub copy_month-requires : goal.copy_month-requires
 copy_month-requires c =
-    (c.requires.0, ((c.requires.1, record { cells = lit≤ tt; festivals = lit≤ tt }), refl))
+    record { rules_value = c.requires.rules_value; planned = (c.requires.planned, record { cells = lit≤ tt; festivals = lit≤ tt }); page_value = refl }

@@ -6,8 +6,8 @@ use Rattle.grid.proofs.plan.plan_of.Goals as goal
 
 pub first_of-first-requires : goal.first_of-first-requires
 first_of-first-requires c =
-    let k = in_year c.args.table c.args.rows.now c.requires.0 _ _ _ c.requires.1 in
-    (c.requires.0, (k.0, k.1, refl))
+    let k = in_year c.args.table c.args.rows.now c.requires.rows_value _ _ _ c.requires.days_value in
+    record { rows_value = c.requires.rows_value; year_in = (k.0, k.1, refl) }
 
 pub returns : goal.returns
 returns c =

@@ -1,5 +1,4 @@
 -- `rulefile::writing::has_room` meets its contract: what is left of the room and of the file. Assumes nothing.
-use Prim.Native.Nat.{◌-◌}
 use mathlib.Core.Path.{sym}
 use native.Mathlib.Omega.{arith}
 use borrow.Author.Tests.{le-leb, lt-leb}

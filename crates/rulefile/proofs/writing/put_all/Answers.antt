@@ -1,5 +1,4 @@
 -- `rulefile::writing::put_all` meets its contract: what is written and what is left are the file. Assumes nothing.
-use Prim.Native.Nat.{◌-◌}
 use native.Mathlib.Omega.{arith}
 use Rattle.text.proofs.Texts.{cut, over}
 use Rattle.keyed.proofs.Walks.{laid_start, laid-turn, laid_end, laid-long}

@@ -19,4 +19,4 @@ pub returns : goal.returns
 returns c =
     let a = c.args in
     all-written a.rules.now a.out.now (sym c.accepts_rules.ensures ∙ c.if-not-accepts_rules.false)
-    (sym c.has_room.ensures ∙ c.if-not-has_room.false) c.put_all_lem.ensures
+    (sym c.has_room.ensures ∙ c.if-not-has_room.false) c.put_all.ensures
