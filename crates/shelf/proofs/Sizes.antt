@@ -1,10 +1,10 @@
 -- How many numbers the lists of a state have, and where they stand. Assumes nothing.
 use Prim.Native.Nat.{ℕ, ◌+◌, ◌≤◌, ◌<◌}
 use mathlib.Core.Path.{◌≡◌, sym, ap, ◌∙◌}
-use mathlib.Core.List.{List, ◌++◌}
+use mathlib.Core.List.{List, ◌++◌, map}
 use native.Mathlib.Omega.{arith}
 use borrow.Author.Tests.{le-leb, lt-leb}
-use lib.ListN.{length, take, drop, replicate, length-append, length-take}
+use lib.ListN.{length, take, drop, replicate, length-map, length-append, length-take}
 use lib.Seq.{sets}
 use Rattle.paper.proofs.Stores.{sets_append, sets_front}
 use Rattle.kept.specs.declared.Kept.{Kept}
@@ -13,6 +13,10 @@ use Rattle.kept.proofs.Records.{zeros_front}
 use Rattle.shelf.specs.Numbers.{halves, head_of, numbers_of}
 use Rattle.shelf.specs.Inner.{placed}
 use Rattle.shelf.proofs.Halves.{length_halves}
+
+-- the length of an array that a function is given
+pub sized : (l : List ℕ) (n : ℕ) → length (map (λ (v : ℕ). v) l) ≡ n → length l ≡ n
+sized l n e = sym (length-map l (λ (v : ℕ). v)) ∙ e
 
 -- a state's arrays
 pub record Sized (k : Kept) : Type 0 where
