@@ -4,7 +4,7 @@ use Rattle.files.proofs.Made.{store_first, store_turn, store_over}
 use Rattle.files.proofs.reading.store.Goals as goal
 
 pub loop-i-init : goal.loop-i-init
-loop-i-init c = let a = c.args in (omega arith, refl, store_first a.rows.now a.t3 a.at 13 (omega (arith, c.requires)))
+loop-i-init c = let a = c.args in (omega arith, refl, store_first a.rows.now a.values a.at 13 (omega (arith, c.requires)))
 
 pub offset_bounds-values-i : goal.offset_bounds-values-i
 offset_bounds-values-i c = omega arith
@@ -30,7 +30,7 @@ loop-i-smaller c = omega arith
 pub loop-i-preserved : goal.loop-i-preserved
 loop-i-preserved c = let a = c.args in
     let l = c.loop-i in
-    (omega arith, simp length-set l.invariant.1, store_turn l.rows a.t3 a.at 13 (omega (arith, c.requires)) l.i c.loop-i-test.true ∙ l.invariant.2)
+    (omega arith, simp length-set l.invariant.1, store_turn l.rows a.values a.at 13 (omega (arith, c.requires)) l.i c.loop-i-test.true ∙ l.invariant.2)
 
 pub shape_of-rows : goal.shape_of-rows
 shape_of-rows c = c.loop-i.invariant.1
@@ -38,4 +38,4 @@ shape_of-rows c = c.loop-i.invariant.1
 pub returns : goal.returns
 returns c = let a = c.args in
     let l = c.loop-i in
-    store_over l.rows a.t3 a.at 13 (omega (arith, c.requires)) l.i c.loop-i-test.false ∙ l.invariant.2
+    store_over l.rows a.values a.at 13 (omega (arith, c.requires)) l.i c.loop-i-test.false ∙ l.invariant.2

@@ -5,4 +5,4 @@ pub returns-in-Line : goal.returns-in-Line
 returns-in-Line c = rw c.in-Line.is
 
 pub returns-in-OtherYear : goal.returns-in-OtherYear
-returns-in-OtherYear c = rw c.in-OtherYear.is c.Says-other.ensures
+returns-in-OtherYear c = rw c.in-OtherYear.is c.says_other.ensures

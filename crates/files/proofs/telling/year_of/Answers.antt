@@ -9,4 +9,4 @@ returns-then-before-eq0 c = rw (eq-eqb _ _ c.if-before-eq0.true)
 
 pub returns : goal.returns
 unfolding year_of
-returns c = rw (ne_eqb _ _ c.if-before-eq0.false) c.wrapping_add_u64.ensures
+returns c = rw (ne_eqb _ _ c.if-before-eq0.false) c.wrapping_add_u64.ensures.value
