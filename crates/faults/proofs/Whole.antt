@@ -1,6 +1,6 @@
 -- Nothing is broken exactly where the list of rules is accepted. Assumes nothing.
 use Rattle.std.proofs.Common.{◌≡◌, ℕ, zero, suc, ◌+◌, ◌-◌, ◌%◌, ◌<◌, ◌≤◌, Bool, true, false, cond, not, ◌&&◌, ◌||◌, eqb, ltb, leb, List, [], ◌∷◌, length, sym, refl, ap, ◌∙◌, ⊎_elim, add-one, arith, le-ltb, lt-ltb, eq-eqb, ne_eqb, le-leb}
-use mathlib.Core.Bool.{and_assoc, and_comm, and_true, and_false, or_false}
+use mathlib.Core.Bool.{and_assoc, and_comm, and-true, and-false, or-false}
 use borrow.Author.Tests.{lt-leb}
 use lib.Dec.{leb-zero, leb-suc-suc}
 use Rattle.paper.proofs.Tests.{split}
@@ -55,7 +55,7 @@ chain r =
     ∙ ap (λ (b : Bool). fits r field.Month && b) (next r field.Day _ refl
     ∙ ap (λ (b : Bool). fits r field.Day && b) (next r field.Half _ refl
     ∙ ap (λ (b : Bool). fits r field.Half && b) (next r field.Kala _ refl
-    ∙ ap (λ (b : Bool). fits r field.Kala && b) (next r field.Holiday field.Nothing refl ∙ and_true (fits r field.Holiday)))))))
+    ∙ ap (λ (b : Bool). fits r field.Kala && b) (next r field.Holiday field.Nothing refl ∙ and-true (fits r field.Holiday)))))))
 
 -- the last of some tests may be asked first
 last_first : (y a b c d h k l : Bool) → (y && (a && (b && (c && (d && (h && (k && l))))))) ≡ (l && (y && (a && (b && (c && (d && (h && k)))))))
@@ -69,15 +69,15 @@ module _ (r : Rule) where
 
   fixed_rule : r.kind ≡ 1 → is_nothing (first_field r) ≡ rule_good r
   unfolding rule_good most_day only_in
-  fixed_rule e = chain r ∙ rw e (simp (leb-zero, only_zero, or_false, and_assoc) (dated (eqb r.year 0) (eqb r.half 0) (eqb r.kala 0) 32))
+  fixed_rule e = chain r ∙ rw e (simp (leb-zero, only_zero, or-false, and_assoc) (dated (eqb r.year 0) (eqb r.half 0) (eqb r.kala 0) 32))
 
   gregorian_rule : r.kind ≡ 2 → is_nothing (first_field r) ≡ rule_good r
   unfolding rule_good most_day only_in
-  gregorian_rule e = chain r ∙ rw e (simp (leb-zero, only_zero, or_false, and_assoc) (dated (eqb r.year 0) (eqb r.half 0) (eqb r.kala 0) 31))
+  gregorian_rule e = chain r ∙ rw e (simp (leb-zero, only_zero, or-false, and_assoc) (dated (eqb r.year 0) (eqb r.half 0) (eqb r.kala 0) 31))
 
   computed_rule : r.kind ≡ 3 → is_nothing (first_field r) ≡ rule_good r
   unfolding rule_good most_day only_in
-  computed_rule e = chain r ∙ rw e (simp (leb-zero, only_zero, or_false, and_assoc) (dated (eqb r.year 0) (leb r.half 1) (leb r.kala 5) 15))
+  computed_rule e = chain r ∙ rw e (simp (leb-zero, only_zero, or-false, and_assoc) (dated (eqb r.year 0) (leb r.half 1) (leb r.kala 5) 15))
 
   override_rule : r.kind ≡ 4 → is_nothing (first_field r) ≡ rule_good r
   unfolding rule_good most_day only_in
@@ -87,7 +87,7 @@ module _ (r : Rule) where
 
   no_rule : r.kind ≡ 0 → is_nothing (first_field r) ≡ rule_good r
   unfolding rule_good
-  no_rule e = chain r ∙ rw e (sym (and_false (leb r.holiday 1)))
+  no_rule e = chain r ∙ rw e (sym (and-false (leb r.holiday 1)))
 
   other_rule : 4 < r.kind → is_nothing (first_field r) ≡ rule_good r
   unfolding rule_good
@@ -97,7 +97,7 @@ module _ (r : Rule) where
       let two = ne_eqb r.kind 2 (λ q. omega arith) in
       let three = ne_eqb r.kind 3 (λ q. omega arith) in
       let four = ne_eqb r.kind 4 (λ q. omega arith) in
-      chain r ∙ rw (low, lt-leb r.kind 4 h, one, two, three, four) (sym (and_false (leb r.holiday 1)))
+      chain r ∙ rw (low, lt-leb r.kind 4 h, one, two, three, four) (sym (and-false (leb r.holiday 1)))
 
 -- no field of a rule breaks a rule exactly where it is good
 pub rule_whole : (r : Rule) → is_nothing (first_field r) ≡ rule_good r

@@ -2,8 +2,8 @@
 // Gregorian date.
 #![tactic(auto)]
 
-mod lines;
 mod reasons;
+mod said;
 
 use commands::words::{Asked, Words};
 use commands::{refusals, words};
@@ -46,7 +46,7 @@ fn refuse(why: Refusal, asked: Asked) {
 // Writes yes or no, and why, to standard output.
 fn tell(reason: Reason, names: &[u8]) {
     let mut line = [0u8; 65600];
-    let n = lines::put_reason(&mut line, 0, reason, names);
+    let n = said::put_reason(&mut line, 0, reason, names);
     if !io::write_all(STDOUT, &line[..n]) {
         io::write_all(STDERR, b"gate: standard output could not be written\n");
     }

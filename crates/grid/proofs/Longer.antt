@@ -60,15 +60,15 @@ module _ (c e : Calendar) (x : Extends c e) (w : Filled c) (ok : Bool) (list oth
   pub grid_longer : (g : Grid) → month_grid c ok list reading today y m a b ≡ answered g → month_grid e ok other reading today y m a b ≡ answered g
   grid_longer g h =
       let t = told c ok list reading today y m a b g h in
-      by_length e ok other reading today y m a b t.rules t.is-date
-      ∙ then_longer (month_len c y m) (month_len e y m) _ _ (len_longer c e x y m) fitted_same g (sym (by_length c ok list reading today y m a b t.rules t.is-date) ∙ h)
+      by_length e ok other reading today y m a b t.rules t.is_date_law
+      ∙ then_longer (month_len c y m) (month_len e y m) _ _ (len_longer c e x y m) fitted_same g (sym (by_length c ok list reading today y m a b t.rules t.is_date_law) ∙ h)
 
   pub grid_added : (g : Grid) → month_grid e ok other reading today y m a b ≡ answered g → RefusedIf (month_grid c ok list reading today y m a b) NoYear (Added c y)
   grid_added g h =
       let t = told e ok other reading today y m a b g h in
-      let q = sym (by_length e ok other reading today y m a b t.rules t.is-date) ∙ h in
+      let q = sym (by_length e ok other reading today y m a b t.rules t.is_date_law) ∙ h in
       let n = then_told (month_len e y m) _ q in
-      rw (by_length c ok list reading today y m a b t.rules t.is-date)
+      rw (by_length c ok list reading today y m a b t.rules t.is_date_law)
       (then_added (month_len c y m) (month_len e y m) _ _ (len_longer c e x y m) fitted_same NoYear (Added c y) n.0 g n.1.0 (len_added c e x y m n.0 n.1.0) q)
 
 -- ---- over Kathmandu

@@ -45,7 +45,7 @@ file_form rs s w =
 
 module _ (s : List ℕ) (e : InForm s) where
   writing : Writing rule_form 0 s (file_lines s).numbers
-  writing = forms.in-form rule_form 0 s e
+  writing = forms.in_form_law rule_form 0 s e
 
   form_file : FileOf (rules_in s) s
   form_file =
@@ -57,7 +57,7 @@ module _ (s : List ℕ) (e : InForm s) where
       }
 
 same_bytes : (s t : List ℕ) → InForm s → InForm t → rules_in s ≡ rules_in t → s ≡ t
-same_bytes s t e f q = (form-file s e).same ∙ ap rules_text q ∙ sym (form-file t f).same
+same_bytes s t e f q = (form_file s e).same ∙ ap rules_text q ∙ sym (form_file t f).same
 
 -- ---- the line that is told
 
@@ -90,7 +90,7 @@ told_out s room k h = go (file_lines s).whole refl h
 
 out_told : (s : List ℕ) (room k : ℕ) → OutAt rule_form 0 s k → rules_read s room ≡ refused (OutOfForm k)
 unfolding rules_read given
-out_told s room k w = let o = forms.told-only rule_form 0 s k w in rw (o.0, o.1)
+out_told s room k w = let o = forms.told_only rule_form 0 s k w in rw (o.0, o.1)
 
 -- ---- there and back
 
@@ -158,7 +158,7 @@ one says only w r q a b e f =
 pub rule_files : RuleFiles
 rule_files =
     record {
-      form_file = form-file;
+      form_file = form_file;
       file_form = file_form;
       same_bytes = same_bytes;
       told_out = told_out;

@@ -8,7 +8,7 @@ pub returns-in-Take : goal.returns-in-Take
 unfolding asked_of
 returns-in-Take c = λ ready.
     let put = c.put_done.ensures in
-    rw c.in-Take.is (says_done (c.take_rules.ensures ready) put.1 put.0)
+    rw c.in-Take.is (says_done (c.take_rules.ensures ready) put.keeper_value put.gathers)
 
 pub returns-in-Append : goal.returns-in-Append
 unfolding asked_of

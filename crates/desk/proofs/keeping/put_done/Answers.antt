@@ -3,4 +3,4 @@ use mathlib.Core.Path.{refl}
 use Rattle.desk.proofs.keeping.put_done.Goals as goal
 
 pub returns : goal.returns
-returns c = (rw (← c.done_of.ensures) c.put.ensures, refl)
+returns c = record { gathers = rw (← c.done_of.ensures) c.put.ensures; keeper_value = refl }

@@ -10,7 +10,7 @@ returns-then-state-lt4488 c = refuses c.if-state-lt4488.true c.number.ensures
 pub returns : goal.returns
 returns c =
     let a = c.args in
-    let today = date a.today-year a.today-month a.today-day in
+    let today = date a.today_year a.today_month a.today_day in
     answers c.if-state-lt4488.false (λ σ m.
     handed_month m c.kept_of.ensures _ (λ (τ : State). ask_month τ today a.year a.month a.cells.now a.festivals.now) _ c.ask_month-asked.ensures c.give_grid.ensures
     c.keep_month.ensures)

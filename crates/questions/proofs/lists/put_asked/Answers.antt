@@ -4,4 +4,4 @@ use Rattle.questions.proofs.lists.put_asked.Goals as goal
 pub returns : goal.returns
 returns c =
     let asked = c.asked-answer.ensures in
-    rw (← asked.0, ← asked.1) c.put_listed.ensures
+    rw (← asked.answer, ← asked.buffer) c.put_listed.ensures

@@ -14,7 +14,7 @@ slice_bounds-put_written-end c = sym (length-take-le c.small-n.result _ (search 
 pub returns-then-w-eq1 : goal.returns-then-w-eq1
 unfolding write_rules_words
 returns-then-w-eq1 c = let n = c.small-n in
-    rw (eq-eqb _ _ c.if-w-eq1.true, ← n.ensures, ← taken {A = ℕ} n.result 65535 7 (search rules)) c.Put-written.ensures
+    rw (eq-eqb _ _ c.if-w-eq1.true, ← n.ensures, ← taken {A = ℕ} n.result 65535 7 (search rules)) c.put_written.ensures
 
 pub returns : goal.returns
 unfolding write_rules_words

@@ -1,6 +1,6 @@
--- `gate::lines::put_festival` meets its contract. Assumes nothing.
+-- `gate::said::put_festival` meets its contract. Assumes nothing.
 use Rattle.text.proofs.Writes.{then}
-use Rattle.gate.proofs.lines.put_festival.Goals as goal
+use Rattle.gate.proofs.said.put_festival.Goals as goal
 
 pub returns : goal.returns
 returns c =

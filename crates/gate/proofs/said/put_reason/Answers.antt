@@ -1,5 +1,5 @@
--- `gate::lines::put_reason` meets its contract: the text of each reason is put. Assumes nothing.
-use Rattle.gate.proofs.lines.put_reason.Goals as goal
+-- `gate::said::put_reason` meets its contract: the text of each reason is put. Assumes nothing.
+use Rattle.gate.proofs.said.put_reason.Goals as goal
 
 pub returns-in-Nothing : goal.returns-in-Nothing
 returns-in-Nothing c = rw c.in-Nothing.is c.put.ensures

@@ -1,0 +1,6 @@
+-- The rules in the text of the file.
+use Rattle.files.proofs.Whole.{reads_text}
+use Rattle.files.proofs.listing.rules_named.Goals as goal
+
+pub returns-in-Is : goal.returns-in-Is
+returns-in-Is g c = reads_text c.rules_in.ensures
