@@ -1,7 +1,7 @@
 -- A page drawn in a buffer of its own, and laid in another. Assumes nothing.
 use Prim.Native.Nat.{ℕ, ◌≤◌, ◌<◌}
 use mathlib.Core.Path.{◌≡◌, refl, sym, ap, ◌∙◌}
-use mathlib.Core.Bool.{Bool, true, false, cond, ◌&&◌, and_false}
+use mathlib.Core.Bool.{Bool, true, false, cond, ◌&&◌, and-false}
 use mathlib.Core.List.{List}
 use mathlib.Core.Logic.{⊎_elim}
 use native.Mathlib.Omega.{arith}
@@ -46,7 +46,7 @@ module _ (text out : List ℕ) where
 
   pub longer : length out < length text → Lays (laid (answered text) out) out (L.Refused R.NoRoom)
   unfolding laid
-  longer h = rw (lt-leb (length text) (length out) h, and_false (leb (length text) 262143)) (record { says = refl; stored = refl })
+  longer h = rw (lt-leb (length text) (length out) h, and-false (leb (length text) 262143)) (record { says = refl; stored = refl })
 
   -- a page that has room
   pub fits : {after : List ℕ} {n : ℕ} → length text ≤ 262143 → length text ≤ length out → Wrote out 0 text after n → Lays (laid (answered text) out) after (L.Bytes n)

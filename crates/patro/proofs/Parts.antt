@@ -1,7 +1,7 @@
 -- The page of a part of a month: its refusals, and what the engine's month makes of it. Assumes nothing.
 use Prim.Native.Nat.{ℕ, ◌≤◌, ◌<◌}
 use mathlib.Core.Path.{◌≡◌, refl, sym, ap}
-use mathlib.Core.Bool.{and_false}
+use mathlib.Core.Bool.{and-false}
 use mathlib.Core.List.{List}
 use native.Mathlib.Omega.{arith}
 use borrow.Author.Tests.{le-leb, lt-leb}
@@ -33,7 +33,7 @@ module _ (names : List ℕ) (y m d : ℕ) (x : Month) (cells festivals : List �
 
   pub day_past : x.days < d → part_page names y m (P.Day d) x cells festivals ≡ refused NoDay
   unfolding part_page
-  day_past h = given_off _ NoDay _ (rw (lt-leb d x.days h) (and_false (leb 1 d)))
+  day_past h = given_off _ NoDay _ (rw (lt-leb d x.days h) (and-false (leb 1 d)))
 
   pub day_in : (d ≡ 0 → ⊥) → d ≤ x.days → part_page names y m (P.Day d) x cells festivals ≡ answered (day_page y m (cell_of d cells) names cells festivals)
   unfolding part_page

@@ -8,17 +8,17 @@ pub draw_part-requires : goal.draw_part-requires
 draw_part-requires c =
     let a = c.args in
     let g = c.month_grid.ensures in
-    (few_cells a.table a.rows.now a.rules.now a.today a.year a.month g.0 c.in-Is.is, search rules)
+    (few_cells a.table a.rows.now a.rules.now a.today a.year a.month g.result_value c.in-Is.is, search rules)
 
 pub returns-in-Is : goal.returns-in-Is
 returns-in-Is c =
     let a = c.args in
     let g = c.month_grid.ensures in
-    let e = bs_page a.table a.rows.now a.rules.now a.today a.year a.month g.0 a.names.now a.part c.in-Is.is in
-    rw (e, ← g.1.0, ← g.1.1) c.draw_part.ensures
+    let e = bs_page a.table a.rows.now a.rules.now a.today a.year a.month g.result_value a.names.now a.part c.in-Is.is in
+    rw (e, ← g.cells_after, ← g.festivals_after) c.draw_part.ensures
 
 pub returns-in-Refused : goal.returns-in-Refused
 returns-in-Refused c =
     let a = c.args in
     let g = c.month_grid.ensures in
-    draws_refused (bs_refused a.table a.rows.now a.rules.now a.today a.year a.month g.0 a.names.now a.part c.in-Refused.is)
+    draws_refused (bs_refused a.table a.rows.now a.rules.now a.today a.year a.month g.result_value a.names.now a.part c.in-Refused.is)

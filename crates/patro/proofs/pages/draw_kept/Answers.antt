@@ -4,6 +4,7 @@ use Rattle.patro.specs.declared.pages.Part.TheVariants.{Whole}
 use Rattle.patro.proofs.Drawing.{draws_refused}
 use Rattle.patro.proofs.Parts.{few_cells, bs_page, bs_refused}
 use Rattle.patro.proofs.Months.{asked-answer, asked-cells, asked-festivals, asked-same}
+use borrow.Author.Rules.{rules}
 use Rattle.patro.proofs.pages.draw_kept.Goals as goal
 
 pub draw_part-requires : goal.draw_part-requires
@@ -11,7 +12,7 @@ draw_part-requires c =
     let a = c.args in
     let σ = held a.state in
     let p = asked-answer σ a.today a.year a.month c.requires.1 (c.ask_month-asked.ensures c.requires.0) in
-    (few_cells σ.table σ.rows σ.rules a.today a.year a.month p c.in-Is.is, c.cells-2-1.given)
+    (few_cells σ.table σ.rows σ.rules a.today a.year a.month p c.in-Is.is, search rules)
 
 pub returns-in-Is : goal.returns-in-Is
 returns-in-Is c =

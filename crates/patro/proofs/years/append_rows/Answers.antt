@@ -27,7 +27,7 @@ loop-at-preserved c =
     let l = c.loop-at in
     let t = c.loop-at-test.true in
     let h = row_left a.state.table a.rows.now l.at c.requires.1 t l.invariant.1 in
-    (omega arith, omega (arith, l.invariant.1), next_held a.state.table a.rows.now l.at c.requires.1 t l.invariant.1 l.auto l.invariant.2 _ refl _ c.append_row-done.ensures)
+    (omega arith, omega (arith, l.invariant.1), next_held a.state.table a.rows.now l.at c.requires.1 t l.invariant.1 l.kept l.invariant.2 _ refl _ c.append_row-done.ensures)
 
 pub returns : goal.returns
 returns c = let l = c.loop-at in rw (take_all l.at c.args.rows.now c.loop-at-test.false) at l.invariant.2
