@@ -1,7 +1,7 @@
--- `doubt::run` is proved: what was read lies in the lent buffers. Assumes nothing.
+-- What was read lies in the lent buffers.
 use Rattle.std.proofs.Common.{sym, length-take-le}
 use Rattle.files.proofs.Fits.{table_fits}
-use Rattle.files.proofs.Whole.{rules_fits, names_fits}
+use Rattle.files.proofs.Whole.{rules_fits}
 use Rattle.doubt.proofs.run.Goals as goal
 
 pub slice_bounds-answer-end : goal.slice_bounds-answer-end
@@ -15,9 +15,3 @@ slice_bounds-answer-end-3 g c = rules_fits c.rules_asked.ensures c.in-Are.is
 
 pub slice_bounds-answer-end-4 : goal.slice_bounds-answer-end-4
 slice_bounds-answer-end-4 g c = sym (length-take-le _ _ (rules_fits c.rules_asked.ensures c.in-Are.is))
-
-pub slice_bounds-answer-end-5 : goal.slice_bounds-answer-end-5
-slice_bounds-answer-end-5 g c = names_fits c.names_asked.ensures c.in-Are-names_asked.is
-
-pub slice_bounds-answer-end-6 : goal.slice_bounds-answer-end-6
-slice_bounds-answer-end-6 g c = sym (length-take-le _ _ (names_fits c.names_asked.ensures c.in-Are-names_asked.is))

@@ -1,6 +1,6 @@
 -- `spring::answer_with` is proved: what was read lies in the lent buffers. Assumes nothing.
 use Rattle.std.proofs.Common.{sym, length-take-le}
-use Rattle.files.proofs.Whole.{rules_fits, names_fits}
+use Rattle.files.proofs.Whole.{rules_fits}
 use Rattle.spring.proofs.answer_with.Goals as goal
 
 pub slice_bounds-answer-end : goal.slice_bounds-answer-end
@@ -8,9 +8,3 @@ slice_bounds-answer-end g c = rules_fits c.rules_asked.ensures c.in-Are.is
 
 pub slice_bounds-answer-end-2 : goal.slice_bounds-answer-end-2
 slice_bounds-answer-end-2 g c = sym (length-take-le _ _ (rules_fits c.rules_asked.ensures c.in-Are.is))
-
-pub slice_bounds-answer-end-3 : goal.slice_bounds-answer-end-3
-slice_bounds-answer-end-3 g c = names_fits c.names_asked.ensures c.in-Are-names_asked.is
-
-pub slice_bounds-answer-end-4 : goal.slice_bounds-answer-end-4
-slice_bounds-answer-end-4 g c = sym (length-take-le _ _ (names_fits c.names_asked.ensures c.in-Are-names_asked.is))
