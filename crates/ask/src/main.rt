@@ -1,6 +1,8 @@
 // Answers the lines of standard input over the year table and the rules that two files hold: ask TABLE RULES.
 #![tactic(auto)]
 
+ghost use Rattle.std.specs.Prelude.{◌≡◌, length};
+
 use conversion::Table;
 use files::{RulesRead, TableRead};
 use lending::Lent;
@@ -25,6 +27,13 @@ fn is_in_form(read: RulesRead) -> bool {
     }
 }
 
+// The text that lines lend, with no byte lent yet: zeros. Its length is what lending it needs.
+fn no_text() -> [u8; 524288]
+    ensures { 524288 ≡ length result }
+{
+    [0; 524288]
+}
+
 // Reads the rules and answers over them, the table and a text that is empty at first.
 fn over_rules<R: Env + Files + Input>(rt: &R, table: Table, cells: usize, rows: &mut [u16]) {
     let mut rules = [0u16; 2600];
@@ -32,7 +41,7 @@ fn over_rules<R: Env + Files + Input>(rt: &R, table: Table, cells: usize, rows: 
     if !is_in_form(read) {
         return;
     }
-    let mut text = [0u8; 524288];
+    let mut text = no_text();
     let lent = Lent {
         table,
         cells,
