@@ -9,6 +9,5 @@ use Rattle.spring.proofs.answer_both.Goals as goal
 pub write_page-requires : goal.write_page-requires
 write_page-requires g c =
     let e = c.shared-n.ensures in
-    let f = c.if-n-old.false in
     let h : length c.args.old.now ≤ shared c.args.old.now c.args.new.now = omega arith in
     (c.requires.0, record { first = c.requires.1; rows = shared_begins c.args.old.now c.args.new.now h })
