@@ -1,2 +1,0 @@
--- What the contracts of `doubt` are written in.
-pub mod Range

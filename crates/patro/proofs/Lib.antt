@@ -1,5 +1,0 @@
-pub mod Drawing
-pub mod Parts
-pub mod Rows
-pub mod Months
-pub mod Unique
