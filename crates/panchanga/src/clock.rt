@@ -30,7 +30,7 @@ pub fn minutes_of(fraction: f64) -> u16
 fn fraction(x: f64) -> f64
     ensures { result ≡ fraction x }
 {
-    let r = x % 1.0;
+    let r = sky::division::remainder(x, 1);
     if r < 0.0 { r + 1.0 } else { r }
 }
 

@@ -17,3 +17,8 @@ pub mod Asked
 pub mod OffsetRange
 pub mod Running
 pub mod Meeus
+pub mod Scaling
+pub mod OwnFraction
+pub mod Patterns
+pub mod Remainders
+pub mod Digits

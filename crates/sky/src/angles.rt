@@ -2,6 +2,8 @@
 ghost use Rattle.std.specs.Prelude.{◌≡◌};
 ghost use Rattle.sky.specs.Angles.{norm360};
 
+use crate::division;
+
 // A degree in radians.
 pub const DEG: f64 = 3.141592653589793 / 180.0;
 
@@ -9,6 +11,6 @@ pub const DEG: f64 = 3.141592653589793 / 180.0;
 pub fn norm360(x: f64) -> f64
     ensures { result ≡ norm360 x }
 {
-    let r = x % 360.0;
+    let r = division::remainder(x, 360);
     if r < 0.0 { r + 360.0 } else { r }
 }

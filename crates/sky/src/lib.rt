@@ -3,6 +3,7 @@
 #![tactic(auto)]
 
 pub mod angles;
+pub mod division;
 pub mod moon;
 pub mod search;
 pub mod sun;

@@ -1,0 +1,2 @@
+-- What the contracts of `doubt` are written in.
+pub mod Range

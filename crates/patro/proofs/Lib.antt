@@ -1,0 +1,5 @@
+pub mod Drawing
+pub mod Parts
+pub mod Rows
+pub mod Months
+pub mod Unique
