@@ -1,8 +1,8 @@
 /*
  * The calendar engine for C and C++.
  *
- * Link target/staticlib/libpanel.a, which `rt staticlib panel` writes (x86-64), and the C library's mathematics, -lm: of other code the engine calls
- * fmod, memcpy and memset alone. It has no heap, no state of its own and no threads, and each call ends.
+ * Link target/staticlib/libpanel.a, which `scripts/build panel` writes (x86-64): of other code the engine calls memcpy and memset alone.
+ * It has no heap, no state of its own and no threads, and each call ends.
  *
  * Every call answers 0 and writes what was asked for, or answers the number of a refusal and writes nothing; but 7 writes by how many days a date lies outside
  * the table, and 12 the number of a line, each to places of its own, which every other number leaves as they were, 0 too:
