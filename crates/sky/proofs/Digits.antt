@@ -2,7 +2,7 @@
 use mathlib.Core.Path.{◌≡◌, sym, ap, ◌∙◌, subst}
 use mathlib.Core.Bool.{true, false, not}
 use Prim.Native.Nat.{ℕ, ◌+◌, ◌-◌, ◌*◌, ◌/◌, ◌%◌, ◌^◌, ◌≤◌, ◌<◌}
-use native.Mathlib.Nat.{mod-eq_of_lt, mod-le, mul-pos, one-mul, lt_of_lt_of_le, le_of_lt, le_trans}
+use native.Mathlib.Nat.{mod-eq_of_lt, mod-le, mul-pos, one-mul, lt_of_lt_of_le, lt_of_le_of_lt, le_of_lt}
 use native.Mathlib.Omega.{arith}
 use lib.IntN.{pos}
 use lib.Dec.{T, le→leb, lit≤}
@@ -11,8 +11,9 @@ use lib.Ieee.{Float, nan, inf, fin, binary64, div, rem, lt, fits, is_nan, of_int
 use lib.Ieee.Exact.{HasValue}
 use Rattle.std.specs.Float.{float_is_finite}
 use Rattle.paper.specs.Floats.{whole}
+use Rattle.gregorian.proofs.Instants.{whole_value}
 use Rattle.sky.proofs.Patterns.{Pattern, pattern_is}
-use Rattle.sky.proofs.Remainders.{whole_value, at_least, div_value, few, from, places_lt, within, near_left, far_left}
+use Rattle.sky.proofs.Remainders.{at_least, div_value, few, from, places_lt, within, near_left, far_left}
 
 pub number : (x : Float) → float_is_finite x ≡ true → T (not (is_nan x))
 unfolding float_is_finite is_nan
@@ -20,7 +21,7 @@ number nan f = subst T (sym f) tt
 number (inf s) f = tt
 number (fin s m e) f = tt
 
-pub in_place : (n : ℕ) → n ≤ 2 ^ 53 → T (in_float binary64 (pos n))
+in_place : (n : ℕ) → n ≤ 2 ^ 53 → T (in_float binary64 (pos n))
 unfolding in_float
 in_place n h = le→leb n (2 ^ 53) h
 
@@ -62,9 +63,9 @@ module _ (x : Float) (n : ℕ) (F : fits binary64 x ≡ true) (N : 0 < n) (W : n
     pub near_is : div binary64 (whole (pos (digits % (n * 2 ^ places % 2 ^ 64)))) (whole (pos (1 * 2 ^ places % 2 ^ 64))) ≡ rem binary64 x (whole (pos n))
     near_is =
         let r = digits % (n * 2 ^ places) in
-        let small : r ≤ 2 ^ 53 = le_trans (mod-le digits (n * 2 ^ places)) (le_of_lt (few N p)) in
+        let small : r < 2 ^ 53 = lt_of_le_of_lt (mod-le digits (n * 2 ^ places)) (few N p) in
         (λ i. div binary64 (whole (pos (digits % divisor_is i))) (whole (pos (power_is i))))
-        ∙ div_value (whole (pos r)) (whole (pos (2 ^ places))) r (2 ^ places) (pow_pos places) (whole_value r small) (whole_value (2 ^ places) (le_of_lt power_lt))
+        ∙ div_value (whole (pos r)) (whole (pos (2 ^ places))) r (2 ^ places) (pow_pos places) (whole_value r small) (whole_value (2 ^ places) power_lt)
         ∙ sym (near_left N p h (whole (pos n)) w)
 
   pub far_is : 1075 ≤ b / 2 ^ 52 → (r : ℕ) → r ≡ digits * 2 ^ (b / 2 ^ 52 - 1075) % n → whole (pos r) ≡ rem binary64 x (whole (pos n))

@@ -1,4 +1,4 @@
--- What a float of binary64 leaves after whole multiples of a natural number, from the float's value as a fraction. Assumes nothing.
+-- A float that binary64 holds is its own value, rounded. Assumes nothing.
 use mathlib.Core.Path.{◌≡◌, refl, sym, ap, ◌∙◌}
 use mathlib.Core.Bool.{Bool, cond, ◌&&◌}
 use Prim.Native.Nat.{ℕ, zero, suc, ◌+◌, ◌-◌, ◌*◌, ◌/◌, ◌%◌, ◌^◌, ◌≤◌, ◌<◌}
@@ -42,9 +42,9 @@ whole_units s m e j a b h =
     (mul_assoc m (up e) (2 ^ 1074) ∙ ap (λ (k : ℕ). m * k) (sym h) ∙ sym (mul_assoc m (2 ^ j) (down e)))
 
 -- what `fits` says of a number that is not zero
-small : (s : Bool) (m : ℕ) (e : ℤ) → T (fits binary64 (fin s (suc m) e)) → (suc m < 2 ^ 53) × (down e ≤ 2 ^ 1074) × (suc m * up e < 2 ^ 1024 * down e)
+pub fits_parts : (s : Bool) (m : ℕ) (e : ℤ) → T (fits binary64 (fin s (suc m) e)) → (suc m < 2 ^ 53) × (down e ≤ 2 ^ 1074) × (suc m * up e < 2 ^ 1024 * down e)
 unfolding fits
-small s m e f =
+fits_parts s m e f =
     let last = and_l (eqb (suc m % 2) 1 && ltb (suc m) (2 ^ 53) && leb (down e) (2 ^ 1074)) (ltb (suc m * up e) (2 ^ 1024 * down e)) f in
     let first = and_l (eqb (suc m % 2) 1 && ltb (suc m) (2 ^ 53)) (leb (down e) (2 ^ 1074)) last in (
       ltb→lt (suc m) (2 ^ 53) (and_r (eqb (suc m % 2) 1) (ltb (suc m) (2 ^ 53)) first),
@@ -65,13 +65,13 @@ own_fraction : (s : Bool) (m : ℕ) (e : ℤ) → T (fits binary64 (fin s m e)) 
 own_fraction s zero e f = round_exact binary64 s (0 * up e) (down e) 0 0 (down_pos e) (lit< tt) (lit< tt) (omega arith)
 own_fraction s (suc m) (pos k) f =
     let q = suc m in
-    let p = small s m (pos k) f in
+    let p = fits_parts s m (pos k) f in
     let b : q * 2 ^ (k + 1074) < 2 ^ 2098 =
     lt_of_le_of_lt (le_of_eq (ap (λ (z : ℕ). q * z) (pow-add 2 k 1074) ∙ sym (mul_assoc q (2 ^ k) (2 ^ 1074)))) (mul-lt-mul_of_pos_right (lt_of_lt_of_le p.2 (le_of_eq (mul-one (2 ^ 1024)))) (pow_pos 1074)) in
     whole_units s q (pos k) (k + 1074) p.0 b (mul-one (2 ^ (k + 1074)) ∙ pow-add 2 k 1074)
 own_fraction s (suc m) (negsuc k) f =
     let q = suc m in
-    let p = small s m (negsuc k) f in
+    let p = fits_parts s m (negsuc k) f in
     let l : suc k ≤ 1074 = pow_le_back (suc k) 1074 p.1 in
     let b : q * 2 ^ (1074 - suc k) < 2 ^ 2098 = lt_of_lt_of_le (shl_lt 53 (1074 - suc k) p.0) (pow_mono (room (suc k))) in
     whole_units s q (negsuc k) (1074 - suc k) p.0 b (sym (pow-add 2 (1074 - suc k) (suc k)) ∙ ap (λ (z : ℕ). 2 ^ z) (join (suc k) l) ∙ sym (one-mul (2 ^ 1074)))

@@ -7,25 +7,23 @@ use native.Mathlib.Omega.{arith}
 use lib.IntN.{ℤ, pos}
 use lib.Dec.{T, ltb, eqb, lt→ltb, lit<}
 use lib.Pow.{pow-add, pow_pos, pow_mono, shl_lt}
-use borrow.Author.Tests.{ltb-true, ltb-false, le-ltb, ne_eqb}
-use lib.Ieee.{Float, nan, inf, fin, binary64, up, down, round, div, rem, neg, lt, fits, of_bits, of_int, unlike}
+use borrow.Author.Tests.{ltb-true, ltb-false, ne_eqb}
+use lib.Ieee.{Float, nan, inf, fin, binary64, up, down, round, div, rem, neg, lt, fits, of_bits, unlike}
 use lib.Ieee.Fits.{up_pos, down_pos}
 use lib.Ieee.Exact.{HasValue}
-use lib.Ieee.Back.{round_whole}
 use lib.Ieee.Scale.{round_same}
 use lib.Ieee.Positive.{num, den, positive}
 use Rattle.std.specs.Float.{float_is_finite}
 use Rattle.paper.specs.Floats.{◌⊕◌, ◌⊘◌, dec, bits, whole}
+use Rattle.paper.proofs.Tests.{never}
 use Rattle.paper.proofs.Within.{round_neg}
+use Rattle.gregorian.proofs.Instants.{whole_value}
+use Rattle.trig.proofs.Signs.{neg_neg, neg_lt_zero, not_both}
 use Rattle.sky.proofs.Scaling.{scaled}
 use Rattle.sky.proofs.OwnFraction.{own_round}
 use Rattle.sky.proofs.Patterns.{Pattern}
 
 -- ---- by fractions
-
-pub whole_value : (n : ℕ) → n ≤ 2 ^ 53 → HasValue (whole (pos n)) false n 1
-unfolding of_int
-whole_value n h = round_whole binary64 false n h
 
 not_zero : (p u n d : ℕ) → 0 < n → 0 < d → p * u * 1 ≡ n * d → p ≡ 0 → ⊥
 not_zero p u n d N D h e =
@@ -250,18 +248,10 @@ none_of_zero x (suc n) h = absurd (omega arith)
 
 -- ---- below zero
 
-twice_turned : (x : Float) → neg (neg x) ≡ x
-unfolding neg
-twice_turned nan = refl
-twice_turned (inf true) = refl
-twice_turned (inf false) = refl
-twice_turned (fin true m e) = refl
-twice_turned (fin false m e) = refl
-
 turned_round : (b s : Bool) (a c : ℕ) → neg (cond b nan (round binary64 (not s) a c)) ≡ cond b nan (round binary64 s a c)
 turned_round true s a c = unfold neg in refl
 turned_round false true a c = sym (round_neg binary64 a c)
-turned_round false false a c = ap neg (round_neg binary64 a c) ∙ twice_turned (round binary64 false a c)
+turned_round false false a c = ap neg (round_neg binary64 a c) ∙ neg_neg (round binary64 false a c)
 
 pub turned : (x y : Float) → neg (rem binary64 (neg x) y) ≡ rem binary64 x y
 unfolding rem neg
@@ -272,16 +262,8 @@ turned (fin true m e) (inf t) = refl
 turned (fin false m e) (inf t) = refl
 turned (fin s m e) (fin t n d) = turned_round (eqb n 0) s (m * up e * down d % (n * up d * down e)) (down e * down d)
 
-turned_up : (x : Float) → lt x (fin false 0 (pos 0)) ≡ true → lt (neg x) (fin false 0 (pos 0)) ≡ false
-unfolding lt neg
-turned_up nan h = refl
-turned_up (inf true) h = refl
-turned_up (inf false) h = absurd (true≢false (sym h))
-turned_up (fin true m e) h = le-ltb (m * up e * 1) (0 * down e) (omega arith)
-turned_up (fin false m e) h = let l = ltb-true (m * up e * 1) (0 * down e) h in absurd (omega arith)
-
 pub above_turned : (x : Float) → lt x (bits 0) ≡ true → lt (neg x) (bits 0) ≡ false
-above_turned x h = ap (lt (neg x)) zero_is ∙ turned_up x (sym (ap (lt x) zero_is) ∙ h)
+above_turned x h = neg_lt_zero x ∙ never (lt (bits 0) x) (λ (p : lt (bits 0) x ≡ true). not_both x p h)
 
 -- ---- brought up from below zero
 

@@ -1,7 +1,7 @@
 -- Remainders of natural numbers. Assumes nothing.
 use mathlib.Core.Path.{◌≡◌, sym, ap, ◌∙◌}
 use Prim.Native.Nat.{ℕ, ◌+◌, ◌*◌, ◌/◌, ◌%◌, ◌^◌, ◌<◌}
-use native.Mathlib.Nat.{add-mul, add_comm, mul_assoc, mul_comm, mul-one, div-add-mod', add-mul-mod_self_right, mod-eq_of_lt, mod-lt, mul-lt-mul_of_pos_right}
+use native.Mathlib.Nat.{add-mul, add_comm, mul_assoc, mul_comm, div-add-mod', add-mul-mod_self_right, mod-eq_of_lt, mod-lt, mul-lt-mul_of_pos_right}
 use lib.Pow.{pow-add}
 
 -- a * c and b * c leave c times what a and b leave
@@ -19,9 +19,7 @@ multiple a b n =
     ∙ ap (λ (k : ℕ). a % n * b + k) (mul_assoc (a / n) n b ∙ ap (λ (k : ℕ). a / n * k) (mul_comm n b) ∙ sym (mul_assoc (a / n) b n)) in
     sym (ap (λ (k : ℕ). k % n) parts ∙ add-mul-mod_self_right (a % n * b) (a / n * b) n)
 
-pub no_doubling : (d n : ℕ) → d % n ≡ d * 2 ^ 0 % n
-no_doubling d n = ap (λ (k : ℕ). k % n) (sym (mul-one d))
-
+-- a step of a loop that doubles
 pub doubling : (d k n left : ℕ) → left ≡ d * 2 ^ k % n → left * 2 % n ≡ d * 2 ^ (k + 1) % n
 doubling d k n left h =
     ap (λ (l : ℕ). l * 2 % n) h ∙ multiple (d * 2 ^ k) 2 n ∙ ap (λ (l : ℕ). l % n) (mul_assoc d (2 ^ k) 2 ∙ ap (λ (l : ℕ). d * l) (sym (pow-add 2 k 1)))

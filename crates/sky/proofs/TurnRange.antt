@@ -1,20 +1,20 @@
 -- One turn is enough: from -348 to 360 the turned offset lies above -180 and at most at 180. Assumes nothing.
 use mathlib.Core.Path.{◌≡◌, refl, sym, subst}
 use mathlib.Core.Bool.{Bool, true, false, cond, ◌&&◌}
-use Prim.Native.Nat.{ℕ, zero, suc, ◌+◌, ◌-◌, ◌*◌, ◌%◌, ◌^◌, ◌≤◌, ◌<◌}
+use Prim.Native.Nat.{ℕ, zero, suc, ◌+◌, ◌-◌, ◌*◌, ◌^◌, ◌≤◌, ◌<◌}
 use native.Mathlib.Omega.{arith}
 use borrow.Author.Tests.{lt-ltb, ltb-false, leb-true, leb-false, ltb-true, ne_eqb}
 use lib.Dec.{T, ltb, eqb, leb, ltb→lt, lt→ltb, eqb→eq, lit<}
 use lib.IntN.{ℤ, pos, negsuc}
 use lib.Pow.{pow_mono}
-use lib.Ieee as Ieee
-use lib.Ieee.{emax, Float, nan, inf, fin, binary64, up, down, fits, level, lt, le, neg, add, sub, sum, round}
+use lib.Ieee.{Float, nan, inf, fin, binary64, up, down, fits, level, lt, le, neg, add, sub, sum, round}
 use lib.Ieee.Order.{round_mono}
-use lib.Ieee.Fits.{down_pos, and_l, and_r}
+use lib.Ieee.Fits.{down_pos, and_l}
 use Rattle.paper.specs.Floats.{◌⊕◌, ◌⊖◌, near, dec}
 use Rattle.paper.proofs.Within.{or_cases, or_l, up_to, down_to, to_le, round_neg}
 use Rattle.sky.specs.Search.{turned}
 use Rattle.sky.proofs.Orders.{le_not_above, total}
+use Rattle.sky.proofs.OwnFraction.{fits_parts}
 
 -- ---- a turn more
 module _ (m : ℕ) (e : ℤ) (low : 180 * down e ≤ m * up e) (high : m * up e ≤ 348 * down e) where
@@ -125,13 +125,8 @@ module _ (m : ℕ) (e : ℤ) (low : 180 * down e * 2 ^ 45 + down e ≤ m * up e 
 
 -- ---- both
 mantissa : (m : ℕ) (e : ℤ) → T (fits binary64 (fin false m e)) → m < 2 ^ 53
-unfolding fits
 mantissa zero e t = lit< tt
-mantissa (suc m) e t =
-    ltb→lt (suc m) (2 ^ 53)
-    (and_r (eqb (suc m % 2) 1) (ltb (suc m) (2 ^ 53))
-    (and_l (eqb (suc m % 2) 1 && ltb (suc m) (2 ^ 53)) (leb (down e) (2 ^ Ieee.low binary64))
-    (and_l (eqb (suc m % 2) 1 && ltb (suc m) (2 ^ 53) && leb (down e) (2 ^ Ieee.low binary64)) (ltb (suc m * up e) (2 ^ suc (emax binary64) * down e)) t)))
+mantissa (suc m) e t = (fits_parts false m e t).0
 
 abbrev Range : Float → Type 0
 Range y = (lt (neg (dec 180 0)) y ≡ true) × T (le y (dec 180 0))
