@@ -94,6 +94,7 @@ fn warn_with<R: Env + Files>(rt: &R, rules: &[u16], names: &mut [u8], table: Tab
 }
 
 // Warns by the table in the second file. One that cannot be read has no year.
+#[tactic(auto, using(files::proofs::Fits::table_fits, files::proofs::Fits::table_taken))]
 fn warn_by<R: Env + Files>(rt: &R, rules: &[u16], rows: &mut [u16], names: &mut [u8]) {
     match files::table_at(rt, 2, rows) {
         TableRead::Is(table, n) => warn_with(rt, rules, names, table, &rows[..n]),
@@ -110,6 +111,7 @@ fn warn_by<R: Env + Files>(rt: &R, rules: &[u16], rows: &mut [u16], names: &mut 
 }
 
 // Reads the rules, shows their counts and warns.
+#[tactic(auto, using(files::proofs::Whole::rules_fits, files::proofs::Whole::rules_taken))]
 fn run<R: Env + Files>(rt: &R, rules: &mut [u16], rows: &mut [u16], names: &mut [u8]) {
     if files::argument_count(rt) != 4 {
         io::write_all(STDERR, b"expected arguments: RULES TABLE NAMES\n");

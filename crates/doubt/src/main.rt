@@ -113,6 +113,7 @@ fn year_in<R: Env>(rt: &R, i: usize) -> Whole {
 }
 
 // Reads what the arguments name, and answers over the parts of the lent buffers that were read.
+#[tactic(auto, using(files::proofs::Fits::table_fits, files::proofs::Fits::table_taken, files::proofs::Whole::rules_fits, files::proofs::Whole::rules_taken))]
 fn run<R: Env + Files>(
     rt: &R,
     rows: &mut [u16],

@@ -1,5 +1,5 @@
 -- What was read lies in the lent list: the count of its numbers is at most the list's length. Assumes nothing.
-use Rattle.std.proofs.Common.{◌≡◌, ℕ, ◌+◌, ◌<◌, ◌≤◌, Bool, true, false, cond, ltb, List, [], ◌∷◌, length, sym, ◌∙◌, ⊎_elim, arith, le-leb}
+use Rattle.std.proofs.Common.{◌≡◌, ℕ, ◌+◌, ◌<◌, ◌≤◌, Bool, true, false, cond, ltb, List, [], ◌∷◌, length, length-take-le, take, sym, ◌∙◌, ⊎_elim, arith, le-leb}
 use borrow.Author.Tests.{lt-leb}
 use lib.Seq.{length-sets}
 use Rattle.paper.proofs.Tests.{split}
@@ -84,3 +84,7 @@ table_fits {rows} {left} {t} r {table} {n} e =
     let c : n ≡ x.reading.count = table_count x.reading (wrong_with x.reading) (sym e ∙ r.told) in
     let f = file_fits rows r.file in
     rw r.stored (omega arith)
+
+-- so many are taken from it
+pub table_taken : {rows left : List ℕ} {t : TableRead} → ReadsTable rows t left → {table : Table} {n : ℕ} → t ≡ table_read.Is table n → n ≡ length (take n left)
+table_taken r e = sym (length-take-le _ _ (table_fits r e))

@@ -1,5 +1,5 @@
 -- What was read of a text lies in the lent list, and is that of some text. Assumes nothing.
-use Rattle.std.proofs.Common.{◌≡◌, ℕ, ◌*◌, ◌/◌, ◌≤◌, Bool, true, false, cond, eqb, List, ◌++◌, length, take, drop, sym, ap, ◌∙◌, arith, length-append, eq-eqb, ne_eqb}
+use Rattle.std.proofs.Common.{◌≡◌, ℕ, ◌*◌, ◌/◌, ◌≤◌, Bool, true, false, cond, eqb, List, ◌++◌, length, take, drop, sym, ap, ◌∙◌, arith, length-append, length-take-le, eq-eqb, ne_eqb}
 use Rattle.paper.specs.declared.Refusal.{Refusal}
 use Rattle.paper.specs.Refusals.{number}
 use Rattle.paper.specs.Answers.{Answer, answered, refused}
@@ -61,6 +61,10 @@ text_fits (holds s) rules e f = as_fits (rules_read s (length rules)) rules e f
 pub rules_fits : {rules left : List ℕ} {t : RulesRead} → ReadsRules rules t left → {n : ℕ} → t ≡ rules_answer.Are n → n ≤ length left
 rules_fits {rules} r e =
     text_fits r.text rules (sym e ∙ ap (λ (x : RulesRead × List ℕ). x.0) r.same) (ap (λ (x : RulesRead × List ℕ). x.1) r.same)
+
+-- so many are taken from it
+pub rules_taken : {rules left : List ℕ} {t : RulesRead} → ReadsRules rules t left → {n : ℕ} → t ≡ rules_answer.Are n → n ≡ length (take n left)
+rules_taken r e = sym (length-take-le _ _ (rules_fits r e))
 
 -- ---- what comes of a reading
 

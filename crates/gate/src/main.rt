@@ -61,6 +61,7 @@ fn show(asked: Asked, table: Table, rows: &[u16], rules: &[u16], names: &[u8]) {
 }
 
 // Reads the three files and writes what is answered.
+#[tactic(auto, using(files::proofs::Fits::table_fits, files::proofs::Fits::table_taken, files::proofs::Whole::rules_fits, files::proofs::Whole::rules_taken))]
 fn run<R: Env + Files>(
     rt: &R,
     asked: Asked,

@@ -76,6 +76,7 @@ fn show<R: Env>(rt: &R, wanted: Wanted, table: Table, rows: &[u16], rules: &[u16
 }
 
 // Reads the three files and writes what is wanted.
+#[tactic(auto, using(files::proofs::Fits::table_fits, files::proofs::Fits::table_taken, files::proofs::Whole::rules_fits, files::proofs::Whole::rules_taken))]
 fn run<R: Env + Files>(
     rt: &R,
     wanted: Wanted,

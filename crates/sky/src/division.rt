@@ -55,7 +55,7 @@ fn size_remainder(size: f64, n: u32) -> f64
     0.0 / 0.0
 }
 
-// Rust's `x % n`, exact and with the sign of x: no number for no number, for an infinity and for an n of 0.
+// Rust's `x % n as f64`, exact and with the sign of x: no number for no number, for an infinity and for an n of 0.
 pub fn remainder(x: f64, n: u32) -> f64
     ensures { result ≡ rem binary64 x (whole (pos n)) }
 {

@@ -130,6 +130,7 @@ fn answer<R: Env>(
 }
 
 // Reads the rules and the names that are asked, and answers over them and two tables.
+#[tactic(auto, using(files::proofs::Whole::rules_fits, files::proofs::Whole::rules_taken))]
 fn answer_with<R: Env + Files>(
     rt: &R,
     table: Table,
@@ -160,6 +161,7 @@ fn answer_with<R: Env + Files>(
 }
 
 // Reads the tables that the arguments name, and answers over the parts of the lent buffers that were read.
+#[tactic(auto, using(files::proofs::Fits::table_fits, files::proofs::Fits::table_taken))]
 fn run<R: Env + Files>(
     rt: &R,
     old: &mut [u16],
