@@ -1,6 +1,5 @@
 -- What the questions about a date's sun, kalas and reading are answered. Assumes nothing.
-use Rattle.std.specs.Prelude.{ℕ, cond, ◌&&◌, List, [], ◌∷◌, eqb, Float}
-use Rattle.std.proofs.Math.Option.{Option}
+use Rattle.std.specs.Prelude.{ℕ, cond, ◌&&◌, List, [], ◌∷◌, eqb, Float, Option}
 use Rattle.paper.specs.Answers.{Answer}
 use Rattle.gregorian.specs.declared.Date.{Date}
 use Rattle.panchanga.specs.Answers.{events_answer, rise_answer, set_answer, nishita_answer, kala_answer, reading_answer}

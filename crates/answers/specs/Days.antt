@@ -1,6 +1,6 @@
 -- What the questions about Gregorian dates and instants are answered. Assumes nothing.
-use Rattle.std.specs.Prelude.{ℕ, ◌||◌, List, [], ◌∷◌, eqb}
-use Rattle.paper.specs.Answers.{Answer, answered, refused}
+use Rattle.std.specs.Prelude.{ℕ, ◌||◌, List, [], ◌∷◌, eqb, Err, Ok}
+use Rattle.paper.specs.Answers.{Answer}
 use Rattle.gregorian.specs.declared.Date.{Date}
 use Rattle.gregorian.specs.Answers.{number_answer, weekday_answer, next_answer, date_answer}
 use Rattle.gregorian.specs.Instants.{julian_answer, npt_answer}
@@ -13,10 +13,10 @@ use Rattle.replies.specs.Replies.{said, dated, formed, among, date_in}
 
 -- a day number, a weekday, and the next date or none
 abbrev pub day_of : Answer ℕ → Answer ℕ → Answer Date → Reply
-day_of (answered n) (answered k) (answered x) = R.Day n k x
-day_of (answered n) (answered k) (refused e) = R.LastDay n k
-day_of (answered n) (refused e) x = R.Refused e
-day_of (refused e) k x = R.Refused e
+day_of (Ok n) (Ok k) (Ok x) = R.Day n k x
+day_of (Ok n) (Ok k) (Err e) = R.LastDay n k
+day_of (Ok n) (Err e) x = R.Refused e
+day_of (Err e) k x = R.Refused e
 
 -- by tag; a day number may be larger than 65,535
 abbrev pub days_rows : Words → List (ℕ × Reply)

@@ -1,6 +1,5 @@
 -- What the questions about an instant, a day of terrestrial time, a year, an elongation or a fraction of a day are answered. Assumes nothing.
-use Rattle.std.specs.Prelude.{ℕ, List, [], ◌∷◌, eqb, Float}
-use Rattle.std.proofs.Math.Option.{Option}
+use Rattle.std.specs.Prelude.{ℕ, List, [], ◌∷◌, eqb, Float, Option}
 use Rattle.paper.specs.Answers.{Answer}
 use Rattle.sky.specs.Time.{delta_t}
 use Rattle.sky.specs.Tithi.{tithi_of}

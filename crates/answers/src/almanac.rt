@@ -1,36 +1,22 @@
 // Questions about a date's sun, kalas and reading: `events`, `rise`, `set`, `kala`, `nishita` and `read`.
 ghost use Rattle.std.specs.Prelude.{◌≡◌};
-ghost use Rattle.panchanga.specs.Answers.{span_says, reading_says, kala_answer};
-ghost use Rattle.replies.specs.Replies.{said, among};
+ghost use Rattle.panchanga.specs.Answers.{span_says, kala_answer};
+ghost use Rattle.replies.specs.Replies.{among};
 ghost use Rattle.answers.specs.Heavens.{instant_reply};
 ghost use Rattle.answers.specs.Almanac.{span_reply, date_rows, kala_rows, almanac_reply};
-ghost use Rattle.replies.specs.declared.Reply.TheVariants as R;
 
 use crate::heavens;
 use asked::{Words, tags};
 use gregorian::Date;
-use panchanga::{Kala, ReadingAnswer, SpanAnswer};
+use panchanga::{Kala, Span};
+use paper::Answer;
 use replies::Reply;
 
 // The reply of two instants, or of none.
-fn span(a: SpanAnswer) -> Reply
+fn span(a: Answer<Option<Span>>) -> Reply
     ensures { result ≡ span_reply (span_says a) }
 {
-    match a {
-        SpanAnswer::Is { from, to } => Reply::Span(from.0, to.0),
-        SpanAnswer::Nothing => Reply::Nothing,
-        SpanAnswer::Refused(e) => Reply::Refused(e),
-    }
-}
-
-// The reply of a reading.
-fn reading(a: ReadingAnswer) -> Reply
-    ensures { result ≡ said R.Reading (reading_says a) }
-{
-    match a {
-        ReadingAnswer::Is(r) => Reply::Reading(r),
-        ReadingAnswer::Refused(e) => Reply::Refused(e),
-    }
+    Reply::said(a, |x| Reply::perhaps(x, |s| Reply::Span(s.from.0, s.to.0)))
 }
 
 // The reply to a line with a date, by its tag.
@@ -42,7 +28,7 @@ fn of_date(tag: u64, d: Date) -> Reply
         tags::RISE => heavens::instant(panchanga::sunrise(d)),
         tags::SET => heavens::instant(panchanga::sunset(d)),
         tags::NISHITA => span(panchanga::nishita_window(d)),
-        tags::READ => reading(panchanga::reading(d)),
+        tags::READ => Reply::said(panchanga::reading(d), Reply::Reading),
         _ => Reply::Unformed,
     }
 }
@@ -70,6 +56,7 @@ fn kala(d: Date, k: u16) -> Reply
 }
 
 // The reply to a line in form, or a question mark.
+#[tactic(auto, unfolding(crate::specs::Almanac::almanac_reply))]
 pub fn reply(w: Words) -> Reply
     ensures { result ≡ almanac_reply w }
 {

@@ -1,14 +1,11 @@
 // Questions about the lent table: `check`, `bs`, `ad`, `len` and `valid`.
 ghost use Rattle.std.specs.Prelude.{◌≡◌};
-ghost use Rattle.conversion.specs.Answers.{bs_says, days_says, valid_says};
 ghost use Rattle.conversion.specs.Flat.{flat};
-ghost use Rattle.replies.specs.Replies.{said};
-ghost use Rattle.answers.specs.Conversions.{checked, bs_dated, bs_in, conversions_reply};
-ghost use Rattle.replies.specs.declared.Reply.TheVariants as R;
+ghost use Rattle.answers.specs.Conversions.{bs_in, conversions_reply};
 
 use crate::days;
 use asked::{Words, tags};
-use conversion::{BsAnswer, BsDate, MonthDays, Table, Validity};
+use conversion::{BsDate, Table};
 use paper::Refusal;
 use replies::Reply;
 
@@ -23,47 +20,6 @@ fn bs_date(w: Words) -> BsDate
     }
 }
 
-// The reply of a table that is accepted or not.
-fn check(accepted: bool) -> Reply
-    ensures { result ≡ checked accepted }
-{
-    if accepted {
-        Reply::Good
-    } else {
-        Reply::Refused(Refusal::BadTable)
-    }
-}
-
-// The reply of a BS date.
-fn bs(a: BsAnswer) -> Reply
-    ensures { result ≡ said bs_dated (bs_says a) }
-{
-    match a {
-        BsAnswer::Is(b) => Reply::Date(b.year, b.month, b.day),
-        BsAnswer::Refused(e) => Reply::Refused(e),
-    }
-}
-
-// The reply of a month's days.
-fn len(a: MonthDays) -> Reply
-    ensures { result ≡ said R.Number (days_says a) }
-{
-    match a {
-        MonthDays::Days(n) => Reply::Number(n as u64),
-        MonthDays::Refused(e) => Reply::Refused(e),
-    }
-}
-
-// The reply of a date's check.
-fn valid(a: Validity) -> Reply
-    ensures { result ≡ said (λ good. R.Good) (valid_says a) }
-{
-    match a {
-        Validity::Valid => Reply::Good,
-        Validity::Refused(e) => Reply::Refused(e),
-    }
-}
-
 // The reply to a line in form, or a question mark.
 pub fn reply(w: Words, table: Table, rows: &[u16]) -> Reply
     ensures { result ≡ conversions_reply (flat table rows.now) w }
@@ -73,7 +29,7 @@ pub fn reply(w: Words, table: Table, rows: &[u16]) -> Reply
     match tag {
         tags::CHECK => {
             if form == 0 {
-                return check(conversion::accepts(table, rows));
+                return Reply::passed(conversion::accepts(table, rows), Refusal::BadTable);
             }
         }
         tags::BS => {
@@ -83,17 +39,22 @@ pub fn reply(w: Words, table: Table, rows: &[u16]) -> Reply
         }
         tags::AD => {
             if form == 111 {
-                return bs(conversion::ad_to_bs(table, rows, w.small(1), w.small(2), w.small(3)));
+                let date = conversion::ad_to_bs(table, rows, w.small(1), w.small(2), w.small(3));
+                return Reply::said(date, |b| Reply::Date(b.year, b.month, b.day));
             }
         }
         tags::LEN => {
             if form == 11 {
-                return len(conversion::bs_month_len(table, rows, w.small(1), w.small(2)));
+                let days = conversion::bs_month_len(table, rows, w.small(1), w.small(2));
+                return Reply::said(days, |n| Reply::Number(n as u64));
             }
         }
         tags::VALID => {
             if form == 111 {
-                return valid(conversion::validate_bs_date(table, rows, bs_date(w)));
+                return Reply::said(
+                    conversion::validate_bs_date(table, rows, bs_date(w)),
+                    |()| Reply::Good,
+                );
             }
         }
         _ => {}

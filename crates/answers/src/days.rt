@@ -1,33 +1,31 @@
 // Questions about Gregorian dates and instants: `day`, `date`, `jd` and `npt`.
-ghost use Rattle.std.specs.Prelude.{◌≡◌};
-ghost use Rattle.paper.specs.Answers.{answered};
-ghost use Rattle.gregorian.specs.Answers.{date_says, number_says, number_answer, weekday_answer, next_answer};
-ghost use Rattle.gregorian.specs.Instants.{julian_says};
+ghost use Rattle.std.specs.Prelude.{◌≡◌, Ok};
+ghost use Rattle.gregorian.specs.Answers.{number_answer, weekday_answer, next_answer};
 ghost use Rattle.replies.specs.Replies.{said, dated};
 ghost use Rattle.answers.specs.Days.{day_of, days_reply};
-ghost use Rattle.replies.specs.declared.Reply.TheVariants as R;
 
 use asked::{Words, tags};
-use gregorian::{Date, DateAnswer, JulianAnswer, NumberAnswer, UtDay};
+use gregorian::{Date, UtDay};
+use paper::Answer;
 use replies::Reply;
 
 // The reply of a day number and a weekday, with the next date or none.
-fn followed(n: u32, k: u32, next: DateAnswer) -> Reply
-    ensures { result ≡ day_of (answered «n») (answered k) (date_says next) }
+fn followed(n: u32, k: u32, next: Answer<Date>) -> Reply
+    ensures { result ≡ day_of (Ok «n») (Ok k) next }
 {
     match next {
-        DateAnswer::Is(d) => Reply::Day(n, k, d),
-        DateAnswer::Refused(_) => Reply::LastDay(n, k),
+        Ok(d) => Reply::Day(n, k, d),
+        Err(_) => Reply::LastDay(n, k),
     }
 }
 
 // The same where the weekday is an answer.
-fn with_weekday(n: u32, weekday: NumberAnswer, next: DateAnswer) -> Reply
-    ensures { result ≡ day_of (answered «n») (number_says weekday) (date_says next) }
+fn with_weekday(n: u32, weekday: Answer<u32>, next: Answer<Date>) -> Reply
+    ensures { result ≡ day_of (Ok «n») weekday next }
 {
     match weekday {
-        NumberAnswer::Number(k) => followed(n, k, next),
-        NumberAnswer::Refused(e) => Reply::Refused(e),
+        Ok(k) => followed(n, k, next),
+        Err(e) => Reply::Refused(e),
     }
 }
 
@@ -35,31 +33,17 @@ fn with_weekday(n: u32, weekday: NumberAnswer, next: DateAnswer) -> Reply
 fn day(d: Date) -> Reply
     ensures { result ≡ day_of (number_answer d) (weekday_answer d) (next_answer d) }
 {
-    let a = d.day_number();
-    match a {
-        NumberAnswer::Number(n) => with_weekday(n, d.weekday(), d.next()),
-        NumberAnswer::Refused(e) => Reply::Refused(e),
+    match d.day_number() {
+        Ok(n) => with_weekday(n, d.weekday(), d.next()),
+        Err(e) => Reply::Refused(e),
     }
 }
 
 // The reply of a Gregorian date.
-pub fn date(a: DateAnswer) -> Reply
-    ensures { result ≡ said dated (date_says a) }
+pub fn date(a: Answer<Date>) -> Reply
+    ensures { result ≡ said dated a }
 {
-    match a {
-        DateAnswer::Is(d) => Reply::Date(d.year, d.month, d.day),
-        DateAnswer::Refused(e) => Reply::Refused(e),
-    }
-}
-
-// The reply of an instant.
-fn julian(a: JulianAnswer) -> Reply
-    ensures { result ≡ said R.Float (julian_says a) }
-{
-    match a {
-        JulianAnswer::At(t) => Reply::Float(t.0),
-        JulianAnswer::Refused(e) => Reply::Refused(e),
-    }
+    Reply::said(a, |d| Reply::Date(d.year, d.month, d.day))
 }
 
 // The reply to a line in form, or a question mark.
@@ -81,7 +65,8 @@ pub fn reply(w: Words) -> Reply
         }
         tags::JD => {
             if form == 1114 {
-                return julian(gregorian::julian_day(replies::date_of(w), w.float(4)));
+                let at = gregorian::julian_day(replies::date_of(w), w.float(4));
+                return Reply::said(at, |t| Reply::Float(t.0));
             }
         }
         tags::NPT => {

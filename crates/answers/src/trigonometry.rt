@@ -21,6 +21,7 @@ fn of_float(tag: u64, x: f64) -> Reply
 }
 
 // The reply to a line in form, or a question mark.
+#[tactic(auto, unfolding(crate::specs::Trigonometry::trigonometry_reply))]
 pub fn reply(w: Words) -> Reply
     ensures { result ≡ trigonometry_reply w }
 {

@@ -4,26 +4,18 @@
 ghost use Rattle.std.specs.Prelude.{◌≡◌, length};
 
 use conversion::Table;
-use files::{RulesRead, TableRead};
+use files::RulesFault;
 use lending::Lent;
 use output::STDERR;
 use std::rt::{Env, Files};
 
-// How many numbers of the rules are lent, of rules that are refused one, which is no list of rules: what needs them is refused with 2.
-fn lent_numbers(read: RulesRead) -> usize {
+// How many numbers of the rules are lent, of rules that are refused one, which is no list of rules: what needs them is refused with 2. None of a file that
+// could not be read or is out of form.
+fn lent_numbers(read: Result<usize, RulesFault>) -> Option<usize> {
     match read {
-        RulesRead::Are(n) => n,
-        RulesRead::Refused => 1,
-        RulesRead::Not => 0,
-    }
-}
-
-// Whether a file of rules could be read and is in form.
-fn is_in_form(read: RulesRead) -> bool {
-    match read {
-        RulesRead::Are(_) => true,
-        RulesRead::Refused => true,
-        RulesRead::Not => false,
+        Ok(n) => Some(n),
+        Err(RulesFault::Refused) => Some(1),
+        Err(RulesFault::NotRead) => None,
     }
 }
 
@@ -37,15 +29,14 @@ fn no_text() -> [u8; 524288]
 // Reads the rules and answers over them, the table and a text that is empty at first.
 fn over_rules<R: Env + Files + Input>(rt: &R, table: Table, cells: usize, rows: &mut [u16]) {
     let mut rules = [0u16; 2600];
-    let read = files::rules_at(rt, 2, &mut rules);
-    if !is_in_form(read) {
+    let Some(numbers) = lent_numbers(files::rules_at(rt, 2, &mut rules)) else {
         return;
-    }
+    };
     let mut text = no_text();
     let lent = Lent {
         table,
         cells,
-        numbers: lent_numbers(read),
+        numbers,
         octets: 0,
     };
     desk::answer_from(&mut rt.reader(), lent, rows, &mut rules, &mut text);
@@ -54,7 +45,7 @@ fn over_rules<R: Env + Files + Input>(rt: &R, table: Table, cells: usize, rows: 
 // Reads the table, then the rules, and answers; or says what is wrong with the first file that is out of form.
 fn over_files<R: Env + Files + Input>(rt: &R) {
     let mut rows = [0u16; 1700];
-    let TableRead::Is(table, cells) = files::table_at(rt, 1, &mut rows) else {
+    let Ok((table, cells)) = files::table_at(rt, 1, &mut rows) else {
         return;
     };
     over_rules(rt, table, cells, &mut rows);

@@ -1,9 +1,9 @@
 -- The bytes of a line `octets`: each turn of the loop over plain variables, and that what is held is what the line has. Assumes nothing.
+use Rattle.std.specs.Prelude.{None, Option, Some}
 use Prim.Native.Nat.{ℕ, zero, suc, ◌+◌, ◌-◌, ◌*◌, ◌≤◌, ◌<◌}
 use mathlib.Core.Path.{◌≡◌, refl, sym, ◌∙◌, subst}
 use mathlib.Core.Bool.{Bool, true, false, cond}
 use mathlib.Core.List.{List, [], ◌∷◌}
-use mathlib.Core.Option.{Option, some, none}
 use native.Mathlib.Nat.{add-zero, zero-add}
 use native.Mathlib.Numerals.{add-one}
 use native.Mathlib.Omega.{arith}
@@ -14,8 +14,6 @@ use Rattle.paper.proofs.Stores.{front_of}
 use Rattle.text.specs.Digits.{Got, got, no, found, past, fixed, digit, worth, is_end}
 use Rattle.text.specs.Quoted.{bytes}
 use Rattle.text.specs.declared.reading.Cursor.{Cursor}
-use Rattle.text.specs.declared.reading.Read.{Read}
-use Rattle.text.specs.declared.reading.Read.TheVariants.{Number}
 use Rattle.text.proofs.Runs.{never, run_fixed}
 use Rattle.text.specs.Written.{Wrote}
 use Rattle.text.proofs.Texts.{cut, over}
@@ -79,23 +77,23 @@ module _ (s : List ℕ) (at : ℕ) where
 pub octet_small : (s : List ℕ) (n : ℕ) (t : List ℕ) → fixed 16 2 0 s ≡ got n t → n ≤ 255
 octet_small s n t e = let r = run_fixed 16 2 0 s n t (omega arith) e in omega (arith, r.small, r.value)
 
-pub value_small : (r : Read) {n : ℕ} {next : Cursor} → read_value r ≤ 255 → r ≡ Number n next → n ≤ 255
-value_small r h q = subst (λ (x : Read). read_value x ≤ 255) q h
+pub value_small : (r : Option (ℕ × Cursor)) {n : ℕ} {next : Cursor} → read_value r ≤ 255 → r ≡ Some (n, next) → n ≤ 255
+value_small r h q = subst (λ (x : Option (ℕ × Cursor)). read_value x ≤ 255) q h
 
 -- ---- the bytes
 
 -- those to come behind those that stand at the places below k
 abbrev pub held_from : ℕ → List ℕ → Option (List ℕ) → Octets
-held_from k values (some bs) = record { count = k + length bs; bytes = sets values k bs }
-held_from k values none = held []
+held_from k values (Some bs) = record { count = k + length bs; bytes = sets values k bs }
+held_from k values None = held []
 
 held_all : (x : Option (List ℕ)) → held_from 0 (replicate 64 0) x ≡ held (known x)
-held_all (some bs) = rw (zero-add (length bs))
-held_all none = refl
+held_all (Some bs) = rw (zero-add (length bs))
+held_all None = refl
 
 led_held : (k b : ℕ) (values : List ℕ) (x : Option (List ℕ)) → held_from (k + 1) (set values k b) x ≡ held_from k values (led b x)
-led_held k b values (some bs) = let e : k + 1 + length bs ≡ k + suc (length bs) = omega arith in rw (e, add-one)
-led_held k b values none = refl
+led_held k b values (Some bs) = let e : k + 1 + length bs ≡ k + suc (length bs) = omega arith in rw (e, add-one)
+led_held k b values None = refl
 
 -- the bytes from a place on, behind those so far
 abbrev pub Left : List ℕ → ℕ → ℕ → List ℕ → Octets
@@ -105,7 +103,7 @@ module _ (s : List ℕ) where
   pub left_first : (at : ℕ) → Left s at 0 (replicate 64 0) ≡ held (known (octets 64 (drop at s)))
   left_first at = held_all (octets 64 (drop at s))
 
-  octets_over : (most : ℕ) → octets most [] ≡ some []
+  octets_over : (most : ℕ) → octets most [] ≡ Some []
   unfolding octets
   octets_over zero = refl
   octets_over (suc most) = refl
@@ -161,16 +159,16 @@ either_most true n a b p q = p
 either_most false n a b p q = q
 
 led_most : (b n : ℕ) (x : Option (List ℕ)) → length (known x) ≤ n → length (known (led b x)) ≤ suc n
-led_most b n (some bs) h = omega arith
-led_most b n none h = omega arith
+led_most b n (Some bs) h = omega arith
+led_most b n None h = omega arith
 
 octets_most : (most : ℕ) (s : List ℕ) → length (known (octets most s)) ≤ most
 unfolding octets
-octets_most zero s = either_most (is_end s) 0 (some []) none (omega arith) (omega arith)
+octets_most zero s = either_most (is_end s) 0 (Some []) None (omega arith) (omega arith)
 octets_most (suc most) s =
-    either_most (is_end s) (suc most) (some []) (found (fixed 16 2 0 s) (λ b t. led b (octets most t)) none) (omega arith) (at (fixed 16 2 0 s) (octets_most most))
+    either_most (is_end s) (suc most) (Some []) (found (fixed 16 2 0 s) (λ b t. led b (octets most t)) None) (omega arith) (at (fixed 16 2 0 s) (octets_most most))
   where
-    at : (g : Got ℕ) → ((t : List ℕ) → length (known (octets most t)) ≤ most) → length (known (found g (λ b t. led b (octets most t)) none)) ≤ suc most
+    at : (g : Got ℕ) → ((t : List ℕ) → length (known (octets most t)) ≤ most) → length (known (found g (λ b t. led b (octets most t)) None)) ≤ suc most
     at (got b t) h = led_most b most (octets most t) (h t)
     at no h = omega arith
 

@@ -1,4 +1,8 @@
 -- How a line is taken apart: each turn of the loops over plain variables. Assumes nothing.
+use Rattle.std.specs.Prelude.{None, Option, Some, Result, Ok, Err, ℤ}
+use Rattle.std.specs.Result.{OkIff, result_unwrap_or, result_ok}
+use mir.Syntax.{w32}
+use mir.Val.{SFits}
 use Prim.Native.Nat.{ℕ, zero, suc, ◌+◌, ◌-◌, ◌*◌, ◌≤◌, ◌<◌}
 use mathlib.Core.Path.{◌≡◌, refl, sym, ap, ◌∙◌, subst}
 use mathlib.Core.Bool.{Bool, true, false, cond}
@@ -14,13 +18,9 @@ use Rattle.text.specs.Digits.{Got, got, no, past, fixed, decimal, is_end}
 use Rattle.text.specs.Quoted.{bytes}
 use Rattle.text.specs.Reading.{Says, read_says, read_end}
 use Rattle.text.specs.declared.reading.Cursor.{Cursor}
-use Rattle.text.specs.declared.reading.Read.{Read}
-use Rattle.text.specs.declared.reading.Read.TheVariants.{Number, NotOne}
+use Rattle.text.proofs.Signs.{word_fits}
 use Rattle.text.proofs.Texts.{cut, over}
 use Rattle.asked.specs.Line.{letter, letters, kind_of, item, Item, word, with_kind, cons, others, packed, unformed, words_of, zeros, kinded, found_says, found_end, found_kind, fitting, whole_of}
-use Rattle.asked.specs.declared.words.Found.{Found}
-use Rattle.asked.specs.declared.words.Found.TheVariants.{Word, Not}
-use Rattle.asked.specs.declared.words.Whole.TheVariants.{Is, TooLarge}
 use Rattle.asked.specs.declared.words.Words.{Words}
 
 -- ---- a tag
@@ -60,22 +60,22 @@ module _ (s : List ℕ) where
     word_number f = rw (e, f)
 
 -- what of_kind makes of a reading
-kinded_says : (s : List ℕ) (k : ℕ) (r : Read) (g : Got ℕ) → Says s (read_says s r) (read_end r) g
+kinded_says : (s : List ℕ) (k : ℕ) (r : Option (ℕ × Cursor)) (g : Got ℕ) → Says s (read_says s r) (read_end r) g
     → Says s (found_says s (kinded k r)) (found_end (kinded k r)) (item (λ n. k) g)
-kinded_says s k (Number n next) g p = record { same = ap (item (λ m. k)) p.same; inside = p.inside }
-kinded_says s k NotOne g p = record { same = ap (item (λ m. k)) p.same; inside = p.inside }
+kinded_says s k (Some (n, next)) g p = record { same = ap (item (λ m. k)) p.same; inside = p.inside }
+kinded_says s k None g p = record { same = ap (item (λ m. k)) p.same; inside = p.inside }
 
-kinded_small : (k : ℕ) (r : Read) → k ≤ 9 → found_kind (kinded k r) ≤ 9
-kinded_small k (Number n next) h = h
-kinded_small k NotOne h = omega arith
+kinded_small : (k : ℕ) (r : Option (ℕ × Cursor)) → k ≤ 9 → found_kind (kinded k r) ≤ 9
+kinded_small k (Some (n, next)) h = h
+kinded_small k None h = omega arith
 
-abbrev pub WordSaid : List ℕ → Found → List ℕ → Type 0
+abbrev pub WordSaid : List ℕ → Option (ℕ × ℕ × Cursor) → List ℕ → Type 0
 WordSaid s f x = Says s (found_says s f) (found_end f) (word x) × (found_kind f ≤ 9)
 
-pub of_kind_said : (s x : List ℕ) (k : ℕ) (r : Read) (f : Found) {g : Got ℕ} → k ≤ 9 → f ≡ kinded k r → Says s (read_says s r) (read_end r) g
+pub of_kind_said : (s x : List ℕ) (k : ℕ) (r : Option (ℕ × Cursor)) (f : Option (ℕ × ℕ × Cursor)) {g : Got ℕ} → k ≤ 9 → f ≡ kinded k r → Says s (read_says s r) (read_end r) g
     → word x ≡ item (λ n. k) g → WordSaid s f x
 of_kind_said s x k r f {g} h e p w =
-    subst (λ (y : Found). WordSaid s y x) (sym e)
+    subst (λ (y : Option (ℕ × ℕ × Cursor)). WordSaid s y x) (sym e)
     (rw w (kinded_says s k r g p), kinded_small k r h)
 
 kind_small : (n : ℕ) → kind_of n ≤ 9
@@ -87,23 +87,23 @@ kind_small n = go (leb n 65535)
     go false = omega arith
 
 pub number_said_as : (s x : List ℕ) (k n : ℕ) (next : Cursor) {g : Got ℕ} → k ≡ kind_of n → g ≡ got n (drop next.at s) → next.at ≤ length s
-    → word x ≡ item kind_of g → WordSaid s (Word k n next) x
+    → word x ≡ item kind_of g → WordSaid s (Some (k, n, next)) x
 number_said_as s x k n next {g} e p h w =
     (record { same = rw (e, w, p); inside = h }, rw e (kind_small n))
 
-pub no_word : (s x : List ℕ) {g : Got ℕ} → g ≡ no → word x ≡ item kind_of g → WordSaid s Not x
+pub no_word : (s x : List ℕ) {g : Got ℕ} → g ≡ no → word x ≡ item kind_of g → WordSaid s None x
 no_word s x e w = (record { same = rw (w, e); inside = omega arith }, omega arith)
 
 -- what read_word's answer tells
-module _ {s : List ℕ} {g : Got Item} (f : Found) (p : Says s (found_says s f) (found_end f) g) where
-  pub word_said : {k n : ℕ} {next : Cursor} → f ≡ Word k n next → g ≡ got (record { kind = k; value = n }) (drop next.at s)
+module _ {s : List ℕ} {g : Got Item} (f : Option (ℕ × ℕ × Cursor)) (p : Says s (found_says s f) (found_end f) g) where
+  pub word_said : {k n : ℕ} {next : Cursor} → f ≡ Some (k, n, next) → g ≡ got (record { kind = k; value = n }) (drop next.at s)
   word_said q = sym p.same ∙ ap (found_says s) q
 
-  pub word_unsaid : f ≡ Not → g ≡ no
+  pub word_unsaid : f ≡ None → g ≡ no
   word_unsaid q = sym p.same ∙ ap (found_says s) q
 
-pub word_kind : (f : Found) {k n : ℕ} {next : Cursor} → found_kind f ≤ 9 → f ≡ Word k n next → k ≤ 9
-word_kind f h q = subst (λ (y : Found). found_kind y ≤ 9) q h
+pub word_kind : (f : Option (ℕ × ℕ × Cursor)) {k n : ℕ} {next : Cursor} → found_kind f ≤ 9 → f ≡ Some (k, n, next) → k ≤ 9
+word_kind f h q = subst (λ (y : Option (ℕ × ℕ × Cursor)). found_kind y ≤ 9) q h
 
 -- ---- a line
 
@@ -182,33 +182,28 @@ below_most k h n = ⊎_elim (λ l. absurd (n (omega arith))) (λ l. l) (split 40
 
 -- ---- a word's value
 
-pub fitting_fits : (most v : ℕ) → v ≤ most → v ≡ fitting most v
+-- a number that is converted where the type holds it, and 0 where it does not
+pub fitting_from : {E : Type 0} (most bound v : ℕ) (r : Result ℕ E) → bound ≡ suc most → OkIff r (v < bound) v → result_unwrap_or r 0 ≡ fitting most v
 unfolding fitting
-fitting_fits most v h = rw (le-leb v most h)
+fitting_from most bound v (Ok x) e (h, q) = rw (q, le-leb v most (omega arith))
+fitting_from most bound v (Err k) e n = rw (lt-leb v most (omega (arith, n)))
 
-pub fitting_large : (most v : ℕ) → most < v → 0 ≡ fitting most v
-unfolding fitting
-fitting_large most v h = rw (lt-leb v most h)
+pub above_from : {E : Type 0} (v : ℕ) (r : Result ℤ E) → OkIff r (SFits w32 (pos v)) (pos v) → result_ok r ≡ whole_of false v
+unfolding whole_of
+above_from v (Ok x) (h, q) = let l : v ≤ 2147483647 = omega (arith, h.sfits) in rw (q, le-leb v 2147483647 l)
+above_from v (Err k) n =
+    ⊎_elim (λ l. absurd (n (word_fits (pos v) l))) (λ l. rw (lt-leb v 2147483647 l)) (split v 2147483647)
 
-module _ (v : ℕ) where
-  pub above_fits : v ≤ 2147483647 → Is (pos v) ≡ whole_of false v
-  unfolding whole_of
-  above_fits h = rw (le-leb v 2147483647 h)
-
-  pub above_large : 2147483647 < v → TooLarge ≡ whole_of false v
-  unfolding whole_of
-  above_large h = rw (lt-leb v 2147483647 h)
-
-pub below_nought : (v : ℕ) → v ≡ 0 → Is (pos 0) ≡ whole_of true v
+pub below_nought : (v : ℕ) → v ≡ 0 → Some (pos 0) ≡ whole_of true v
 unfolding whole_of
 below_nought v e = rw e
 
-pub below_fits : (v : ℕ) → (v ≡ 0 → ⊥) → v ≤ 2147483648 → Is (negsuc (v - 1)) ≡ whole_of true v
+pub below_fits : (v : ℕ) → (v ≡ 0 → ⊥) → v ≤ 2147483648 → Some (negsuc (v - 1)) ≡ whole_of true v
 unfolding whole_of
 below_fits zero n h = absurd (n refl)
 below_fits (suc v) n h = let e : suc v - 1 ≡ v = omega arith in rw (e, le-leb v 2147483647 (omega arith))
 
-pub below_large : (v : ℕ) → 2147483648 < v → TooLarge ≡ whole_of true v
+pub below_large : (v : ℕ) → 2147483648 < v → None ≡ whole_of true v
 unfolding whole_of
 below_large zero h = absurd (let bad : ⊥ = omega arith in bad)
 below_large (suc v) h = rw (lt-leb v 2147483647 (omega arith))

@@ -1,17 +1,12 @@
 -- The line language: a tag of letters, then words with one space before each. Assumes nothing.
-use Rattle.std.specs.Prelude.{ℕ, zero, suc, ◌+◌, ◌-◌, ◌*◌, Bool, true, false, cond, ◌&&◌, List, [], ◌∷◌, leb, ltb, eqb, Float, pos, negsuc, drop, replicate, get_or}
+use Rattle.std.specs.Prelude.{ℕ, ℤ, zero, suc, ◌+◌, ◌-◌, ◌*◌, Bool, true, false, cond, ◌&&◌, List, [], ◌∷◌, leb, ltb, eqb, Float, pos, negsuc, drop, replicate, get_or, None, Option, Some}
 use Rattle.std.specs.Float.{binary64}
 use Rattle.std.specs.Float.Ieee.{of_bits}
 use Rattle.std.proofs.lemmas.List.Edits.{sets}
 use Rattle.text.specs.Digits.{Got, got, no, found, past, fixed, decimal, is_end}
 use Rattle.text.specs.Quoted.{bytes}
-use Rattle.text.specs.declared.reading.Read.{Read}
-use Rattle.text.specs.declared.reading.Read.TheVariants.{Number, NotOne}
-use Rattle.asked.specs.declared.words.Found.{Found}
-use Rattle.asked.specs.declared.words.Found.TheVariants.{Word, Not}
-use Rattle.asked.specs.declared.words.Whole.{Whole}
-use Rattle.asked.specs.declared.words.Whole.TheVariants.{Is, TooLarge}
 use Rattle.asked.specs.declared.words.Words.{Words}
+use Rattle.text.specs.declared.reading.Cursor.{Cursor}
 
 -- ---- a tag
 
@@ -91,21 +86,21 @@ words_of s = found (letters 0 s) (λ tag t. packed tag 0 zeros 1 (others 4095 t)
 
 -- ---- what the code's answers say
 
-abbrev pub kinded : ℕ → Read → Found
-kinded kind (Number n next) = Word kind n next
-kinded kind NotOne = Not
+abbrev pub kinded : ℕ → Option (ℕ × Cursor) → Option (ℕ × ℕ × Cursor)
+kinded kind (Some (n, next)) = Some (kind, n, next)
+kinded kind None = None
 
-abbrev pub found_says : List ℕ → Found → Got Item
-found_says s (Word kind n next) = got (record { kind = kind; value = n }) (drop next.at s)
-found_says s Not = no
+abbrev pub found_says : List ℕ → Option (ℕ × ℕ × Cursor) → Got Item
+found_says s (Some (kind, n, next)) = got (record { kind = kind; value = n }) (drop next.at s)
+found_says s None = no
 
-abbrev pub found_end : Found → ℕ
-found_end (Word kind n next) = next.at
-found_end Not = 0
+abbrev pub found_end : Option (ℕ × ℕ × Cursor) → ℕ
+found_end (Some (kind, n, next)) = next.at
+found_end None = 0
 
-abbrev pub found_kind : Found → ℕ
-found_kind (Word kind n next) = kind
-found_kind Not = 0
+abbrev pub found_kind : Option (ℕ × ℕ × Cursor) → ℕ
+found_kind (Some (kind, n, next)) = kind
+found_kind None = 0
 
 -- the value at a place, and 0 past the sixteen places
 abbrev pub value_at : Words → ℕ → ℕ
@@ -126,7 +121,7 @@ abbrev pub float : Words → ℕ → Float
 float w i = of_bits binary64 (value_at w i)
 
 -- a whole number of an i32, behind a minus sign or not
-unfoldable pub whole_of : Bool → ℕ → Whole
-whole_of false v = cond (leb v 2147483647) (Is (pos v)) TooLarge
-whole_of true zero = Is (pos 0)
-whole_of true (suc v) = cond (leb v 2147483647) (Is (negsuc v)) TooLarge
+unfoldable pub whole_of : Bool → ℕ → Option ℤ
+whole_of false v = cond (leb v 2147483647) (Some (pos v)) None
+whole_of true zero = Some (pos 0)
+whole_of true (suc v) = cond (leb v 2147483647) (Some (negsuc v)) None

@@ -1,27 +1,25 @@
 -- The line `octets`: 1 to 64 bytes, two hexadecimal digits each. Assumes nothing.
-use Rattle.std.specs.Prelude.{ℕ, zero, suc, cond, List, [], ◌∷◌, ◌++◌, ltb, length, get_or, replicate}
-use Rattle.std.proofs.Math.Option.{Option, some, none}
+use Rattle.std.specs.Prelude.{ℕ, zero, suc, cond, List, [], ◌∷◌, ◌++◌, ltb, length, get_or, replicate, None, Option, Some}
 use Rattle.std.proofs.lemmas.List.Edits.{sets}
 use Rattle.text.specs.Digits.{found, past, fixed, is_end}
 use Rattle.text.specs.Quoted.{bytes}
-use Rattle.text.specs.declared.reading.Read.{Read}
-use Rattle.text.specs.declared.reading.Read.TheVariants.{Number, NotOne}
 use Rattle.asked.specs.declared.bytes.Octets.{Octets}
+use Rattle.text.specs.declared.reading.Cursor.{Cursor}
 
 -- a byte and those behind it
 abbrev pub led : ℕ → Option (List ℕ) → Option (List ℕ)
-led b (some bs) = some (b ∷ bs)
-led b none = none
+led b (Some bs) = Some (b ∷ bs)
+led b None = None
 
 -- at most so many bytes, to the text's end
 unfoldable pub octets : ℕ → List ℕ → Option (List ℕ)
-octets zero s = cond (is_end s) (some []) none
-octets (suc most) s = cond (is_end s) (some []) (found (fixed 16 2 0 s) (λ b t. led b (octets most t)) none)
+octets zero s = cond (is_end s) (Some []) None
+octets (suc most) s = cond (is_end s) (Some []) (found (fixed 16 2 0 s) (λ b t. led b (octets most t)) None)
 
 -- no byte where there are none
 abbrev pub known : Option (List ℕ) → List ℕ
-known (some bs) = bs
-known none = []
+known (Some bs) = bs
+known None = []
 
 -- the bytes of a line; a line with no byte is no line `octets`
 unfoldable pub octets_in : List ℕ → List ℕ
@@ -45,6 +43,6 @@ first_of x (suc n) = first_of x n ++ (octet_of x n ∷ [])
 abbrev pub bytes_of : Octets → List ℕ
 bytes_of x = first_of x x.count
 
-abbrev pub read_value : Read → ℕ
-read_value (Number n next) = n
-read_value NotOne = 0
+abbrev pub read_value : Option (ℕ × Cursor) → ℕ
+read_value (Some (n, next)) = n
+read_value None = 0

@@ -5,7 +5,7 @@ ghost use Rattle.text.specs.Reading.{Says, read_says, read_end};
 ghost use Rattle.text.specs.Written.{Wrote};
 ghost use Rattle.asked.specs.Octets.{octets, known, octets_in, held, octet_of, bytes_of, read_value};
 
-use text::{Cursor, Passed, Read};
+use text::Cursor;
 
 // So many bytes, at the front of the places; the places behind them hold 0.
 #[derive(Clone, Copy)]
@@ -24,24 +24,22 @@ fn no_octets() -> Octets
 }
 
 // The byte that two hexadecimal digits are: they are read as the last of sixteen.
-fn octet_at(s: &[u8], c: Cursor) -> Read
+fn octet_at(s: &[u8], c: Cursor) -> Option<(u64, Cursor)>
     ensures says { Says s.now (read_says s.now result) (read_end result) (fixed 16 2 0 (drop c.at s.now)) }
     ensures result_bound { read_value result ≤ 255 }
 {
     let at = c.at;
     if s.len() <= at {
-        return Read::NotOne;
+        return None;
     }
     if s.len() - at < 2 {
-        return Read::NotOne;
+        return None;
     }
     let mut digits = [48u8; 16];
     digits[14] = s[at];
     digits[15] = s[at + 1];
-    match text::start().hex(&digits) {
-        Read::Number(n, _) => Read::Number(n, Cursor { at: at + 2 }),
-        Read::NotOne => Read::NotOne,
-    }
+    let (n, _) = text::start().hex(&digits)?;
+    Some((n, Cursor { at: at + 2 }))
 }
 
 // The bytes from a place to the end, at most 64; none where the text has another form.
@@ -55,7 +53,7 @@ fn read_octets(s: &[u8], c: Cursor) -> Octets
         if count == 64 {
             return no_octets();
         }
-        let Read::Number(b, next) = octet_at(s, Cursor { at }) else {
+        let Some((b, next)) = octet_at(s, Cursor { at }) else {
             return no_octets();
         };
         bytes[count] = b as u8;
@@ -69,7 +67,7 @@ fn read_octets(s: &[u8], c: Cursor) -> Octets
 fn octets_of(s: &[u8]) -> Octets
     ensures { result ≡ held (octets_in s.now) }
 {
-    let Passed::To(c) = text::start().pass(s, b"octets ") else {
+    let Some(c) = text::start().pass(s, b"octets ") else {
         return no_octets();
     };
     read_octets(s, c)
@@ -90,23 +88,16 @@ impl Octets {
     fn octet(self, i: usize) -> u8
         ensures { result ≡ octet_of self i }
     {
-        if i < 64 {
-            return self.bytes[i];
-        }
-        0
+        self.bytes.get(i).copied().unwrap_or(0)
     }
 
     // Stores the bytes in out, from a place on, and answers the place after them.
     pub fn put(self, out: &mut [u8], from: usize) -> usize
         ensures { Wrote out.old from (bytes_of self) out.new result }
     {
-        let count = self.count;
         let mut at = from;
-        let mut i: usize = 0;
-        while i < count {
-            let one = [self.octet(i)];
-            at = text::put(out, at, &one);
-            i += 1;
+        for i in 0..self.count {
+            at = text::put(out, at, &[self.octet(i)]);
         }
         at
     }

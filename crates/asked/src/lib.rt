@@ -9,4 +9,4 @@ mod words;
 
 pub use bytes::{Octets, octets_in};
 pub use input::{Turn, first_turn, next_turn};
-pub use words::{Whole, Words, split};
+pub use words::{Words, split};

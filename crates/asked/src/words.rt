@@ -5,7 +5,7 @@ ghost use Rattle.asked.specs.Line as Line;
 ghost use Rattle.asked.specs.Line.{letter, letters, kind_of, with_kind, kinded, found_says, found_end, found_kind, unformed, words_of, whole_of};
 
 use crate::floats;
-use text::{Cursor, Passed, Read};
+use text::Cursor;
 
 // The tag's code, the kinds of the words after it as decimal digits, the first first, and the value of each of the first fifteen words at its place, from 1
 // on. The kinds are 1 for a number up to 65,535, 2 for a larger one, 3 for one with a minus sign, 4 for the bits of a float. Numbers up to 65,535 behind
@@ -17,20 +17,6 @@ pub struct Words {
     pub values: [u64; 16],
 }
 
-// A whole number, or that it does not fit an i32.
-#[derive(Clone, Copy)]
-pub enum Whole {
-    Is(i32),
-    TooLarge,
-}
-
-// A word's kind and value and the place after it, or that none stands there.
-#[derive(Clone, Copy)]
-pub enum Found {
-    Word(u64, u64, Cursor),
-    Not,
-}
-
 fn is_letter(b: u8) -> bool
     ensures { result ≡ letter b }
 {
@@ -38,24 +24,22 @@ fn is_letter(b: u8) -> bool
 }
 
 // The letters that a line begins with, as a tag's code.
-fn read_tag(s: &[u8]) -> Read
+fn read_tag(s: &[u8]) -> Option<(u64, Cursor)>
     ensures { Says s.now (read_says s.now result) (read_end result) (letters 0 s.now) }
 {
     let mut v: u64 = 0;
-    let mut i = 0;
-    while i < s.len() {
+    for i in 0..s.len() {
         let b = s[i];
         if !is_letter(b) {
-            return Read::Number(v, Cursor { at: i });
+            return Some((v, Cursor { at: i }));
         }
         let d = (b - 96) as u64;
         if (18446744073709551615 - d) / 64 < v {
-            return Read::NotOne;
+            return None;
         }
         v = v * 64 + d;
-        i += 1;
     }
-    Read::Number(v, Cursor { at: i })
+    Some((v, Cursor { at: s.len() }))
 }
 
 // The kind of a number.
@@ -66,30 +50,26 @@ fn kind_of(n: u64) -> u64
 }
 
 // A reading as a word of a kind.
-fn of_kind(kind: u64, r: Read) -> Found
+fn of_kind(kind: u64, r: Option<(u64, Cursor)>) -> Option<(u64, u64, Cursor)>
     ensures { result ≡ kinded kind r }
 {
-    match r {
-        Read::Number(n, next) => Found::Word(kind, n, next),
-        Read::NotOne => Found::Not,
-    }
+    let (n, next) = r?;
+    Some((kind, n, next))
 }
 
 // A word after the tag.
-fn read_word(s: &[u8], c: Cursor) -> Found
+fn read_word(s: &[u8], c: Cursor) -> Option<(u64, u64, Cursor)>
     ensures says { Says s.now (found_says s.now result) (found_end result) (Line.word (drop c.at s.now)) }
     ensures result_bound { found_kind result ≤ 9 }
 {
-    if let Passed::To(d) = c.pass(s, b"0x") {
+    if let Some(d) = c.pass(s, b"0x") {
         return of_kind(4, d.hex(s));
     }
-    if let Passed::To(d) = c.pass(s, b"-") {
+    if let Some(d) = c.pass(s, b"-") {
         return of_kind(3, d.decimal(s, 2147483648));
     }
-    match c.decimal(s, 4294967295) {
-        Read::Number(n, next) => Found::Word(kind_of(n), n, next),
-        Read::NotOne => Found::Not,
-    }
+    let (n, next) = c.decimal(s, 4294967295)?;
+    Some((kind_of(n), n, next))
 }
 
 fn out_of_form() -> Words
@@ -129,7 +109,7 @@ fn set_at(values: &mut [u64], i: usize, x: u64)
 fn split_all(s: &[u8]) -> Words
     ensures { result ≡ words_of s.now }
 {
-    let Read::Number(tag, after) = read_tag(s) else {
+    let Some((tag, after)) = read_tag(s) else {
         return out_of_form();
     };
     let mut at = after.at;
@@ -140,10 +120,10 @@ fn split_all(s: &[u8]) -> Words
         if k == 4096 {
             return out_of_form();
         }
-        let Passed::To(c) = (Cursor { at }).pass(s, b" ") else {
+        let Some(c) = (Cursor { at }).pass(s, b" ") else {
             return out_of_form();
         };
-        let Found::Word(kind, value, next) = read_word(s, c) else {
+        let Some((kind, value, next)) = read_word(s, c) else {
             return out_of_form();
         };
         form = form_with(form, kind);
@@ -169,32 +149,21 @@ impl Words {
     fn value(self, i: usize) -> u64
         ensures { result ≡ Line.value_at self i }
     {
-        if i < 16 {
-            return self.values[i];
-        }
-        0
+        self.values.get(i).copied().unwrap_or(0)
     }
 
     // The word at a place, if it is a number up to 65,535; else 0.
     pub fn small(self, i: usize) -> u16
         ensures { result ≡ Line.small self i }
     {
-        let v = self.value(i);
-        if v <= 65535 {
-            return v as u16;
-        }
-        0
+        u16::try_from(self.value(i)).unwrap_or(0)
     }
 
     // The word at a place, if it is a number that a u32 holds; else 0.
     pub fn large(self, i: usize) -> u32
         ensures { result ≡ Line.large self i }
     {
-        let v = self.value(i);
-        if v <= 4294967295 {
-            return v as u32;
-        }
-        0
+        u32::try_from(self.value(i)).unwrap_or(0)
     }
 
     // The word at a place, as the bits of a float.
@@ -205,7 +174,7 @@ impl Words {
     }
 
     // The word at a place, with its sign.
-    pub fn whole(self, i: usize, minus: bool) -> Whole
+    pub fn whole(self, i: usize, minus: bool) -> Option<i32>
         ensures { result ≡ whole_of minus (Line.value_at self i) }
     {
         let v = self.value(i);
@@ -217,24 +186,21 @@ impl Words {
 }
 
 // A number from zero on.
-fn above(v: u64) -> Whole
+fn above(v: u64) -> Option<i32>
     ensures { result ≡ whole_of false v }
 {
-    if v <= 2147483647 {
-        return Whole::Is(v as i32);
-    }
-    Whole::TooLarge
+    i32::try_from(v).ok()
 }
 
 // A number behind a minus sign.
-fn below(v: u64) -> Whole
+fn below(v: u64) -> Option<i32>
     ensures { result ≡ whole_of true v }
 {
     if v == 0 {
-        return Whole::Is(0);
+        return Some(0);
     }
     if v <= 2147483648 {
-        return Whole::Is(-1 - (v - 1) as i32);
+        return Some(-1 - (v - 1) as i32);
     }
-    Whole::TooLarge
+    None
 }

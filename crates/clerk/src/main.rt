@@ -8,7 +8,6 @@ ghost use Rattle.rules.specs.Rules.{rules_of, count_kind};
 ghost use Rattle.clerk.specs.Counts.{count_text, counts_text};
 
 use conversion::Table;
-use files::{NamesRead, RulesRead, TableRead};
 use output::{STDERR, STDOUT};
 use std::rt::{Env, Files};
 
@@ -16,16 +15,11 @@ use std::rt::{Env, Files};
 fn count_kind(rules: &[u16], k: u16) -> usize
     ensures { result ≡ count_kind k (rules_of rules.now) }
 {
-    let n = rules.len() / 8;
     let mut count = 0;
-    let mut i = 0;
-    while i < n {
-        let r = rules::rule_at(rules, i);
-        i += 1;
-        if r.kind != k {
-            continue;
+    for i in 0..rules.len() / 8 {
+        if rules::rule_at(rules, i).kind == k {
+            count += 1;
         }
-        count += 1;
     }
     count
 }
@@ -50,6 +44,7 @@ fn put_counts(out: &mut [u8], at: usize, rules: &[u16]) -> usize
 }
 
 // Writes the counts to standard output.
+#[tactic(auto, using(files::proofs::Fits::front_taken))]
 fn show(rules: &[u16]) {
     let mut out = [0u8; 256];
     let n = put_counts(&mut out, 0, rules);
@@ -63,33 +58,29 @@ fn warn_of<R: Env>(
     rt: &R,
     rules: &[u16],
     j: usize,
-    named: bool,
-    names: &[u8],
+    names: Option<&[u8]>,
     table: Table,
     rows: &[u16],
 ) {
     let mut path = [0u8; 4096];
     let mut out = [0u8; 24576];
     let p = files::argument(rt, 1, &mut path);
-    let n = warnings::put_warnings(&mut out, 0, &path[..p], rules, j, named, names, table, rows);
+    let n = warnings::put_warnings(&mut out, 0, &path[..p], rules, j, names, table, rows);
     io::write_all(STDERR, &out[..n]);
 }
 
 // Writes the warnings of all rules, in their order.
-fn warn<R: Env>(rt: &R, rules: &[u16], named: bool, names: &[u8], table: Table, rows: &[u16]) {
-    let n = rules.len() / 8;
-    let mut j = 0;
-    while j < n {
-        warn_of(rt, rules, j, named, names, table, rows);
-        j += 1;
+fn warn<R: Env>(rt: &R, rules: &[u16], names: Option<&[u8]>, table: Table, rows: &[u16]) {
+    for j in 0..rules.len() / 8 {
+        warn_of(rt, rules, j, names, table, rows);
     }
 }
 
 // Warns by the names in the third file, where they can be read.
 fn warn_with<R: Env + Files>(rt: &R, rules: &[u16], names: &mut [u8], table: Table, rows: &[u16]) {
     match files::names_at(rt, 3, names) {
-        NamesRead::Are(m) => warn(rt, rules, true, &names[..m], table, rows),
-        NamesRead::Not => warn(rt, rules, false, &names[..0], table, rows),
+        Some(m) => warn(rt, rules, Some(&names[..m]), table, rows),
+        None => warn(rt, rules, None, table, rows),
     }
 }
 
@@ -97,8 +88,8 @@ fn warn_with<R: Env + Files>(rt: &R, rules: &[u16], names: &mut [u8], table: Tab
 #[tactic(auto, using(files::proofs::Fits::table_fits, files::proofs::Fits::table_taken))]
 fn warn_by<R: Env + Files>(rt: &R, rules: &[u16], rows: &mut [u16], names: &mut [u8]) {
     match files::table_at(rt, 2, rows) {
-        TableRead::Is(table, n) => warn_with(rt, rules, names, table, &rows[..n]),
-        TableRead::Not(_) => {
+        Ok((table, n)) => warn_with(rt, rules, names, table, &rows[..n]),
+        Err(_) => {
             let table = Table {
                 first_year: 0,
                 year: 0,
@@ -117,7 +108,7 @@ fn run<R: Env + Files>(rt: &R, rules: &mut [u16], rows: &mut [u16], names: &mut 
         io::write_all(STDERR, b"expected arguments: RULES TABLE NAMES\n");
         return;
     }
-    let RulesRead::Are(k) = files::rules_at(rt, 1, rules) else {
+    let Ok(k) = files::rules_at(rt, 1, rules) else {
         return;
     };
     show(&rules[..k]);

@@ -1,6 +1,6 @@
 -- How far outside the table a Gregorian date lies, in words. Assumes nothing.
-use Rattle.std.specs.Prelude.{ℕ, ◌+◌, ◌-◌, ◌%◌, ◌^◌, cond, List, ◌++◌, ◌==◌}
-use Rattle.paper.specs.Answers.{Answer, answered, refused}
+use Rattle.std.specs.Prelude.{ℕ, ◌+◌, ◌-◌, ◌%◌, ◌^◌, cond, List, ◌++◌, ◌==◌, Err, Ok}
+use Rattle.paper.specs.Answers.{Answer}
 use Rattle.text.specs.Digits.{run, digits}
 use Rattle.text.specs.Quoted.{bytes}
 use Rattle.gregorian.specs.declared.Date.{Date}
@@ -17,16 +17,16 @@ count_text k = digits k ++ cond (k == 1) (bytes " day") (bytes " days")
 
 -- 14 April 1943, of a day number
 abbrev pub dated_text : Answer Date → List ℕ
-dated_text (answered d) = full_date d.year d.month d.day
-dated_text (refused k) = bytes "no date"
+dated_text (Ok d) = full_date d.year d.month d.day
+dated_text (Err k) = bytes "no date"
 
 unfoldable pub day_text : ℕ → List ℕ
 day_text n = dated_text (date_answer n)
 
 -- the number of a date, 0 of what is none
 abbrev pub or_zero : Answer ℕ → ℕ
-or_zero (answered n) = n
-or_zero (refused k) = 0
+or_zero (Ok n) = n
+or_zero (Err k) = 0
 
 abbrev pub number_of : Date → ℕ
 number_of d = or_zero (number_answer d)

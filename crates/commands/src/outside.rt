@@ -3,7 +3,7 @@ ghost use Rattle.std.specs.Prelude.{◌≡◌};
 ghost use Rattle.text.specs.Written.{Wrote};
 ghost use Rattle.commands.specs.Outside.{dashed_text, count_text, day_text, number_of, later, earlier, side_text, before_text, after_text};
 
-use gregorian::{Date, DateAnswer, NumberAnswer};
+use gregorian::Date;
 use std::num::wrapping_add_u32;
 
 // Writes a date as YYYY-MM-DD.
@@ -29,12 +29,13 @@ fn put_count(out: &mut [u8], at: usize, days: u32) -> usize
 }
 
 // Writes the Gregorian date of a day number in full.
+#[tactic(auto, unfolding(crate::specs::Outside::day_text))]
 fn put_day(out: &mut [u8], at: usize, n: u32) -> usize
     ensures { Wrote out.old at (day_text «n») out.new result }
 {
     match Date::from_day_number(n) {
-        DateAnswer::Is(d) => wall::put_full_date(out, at, d.year, d.month, d.day),
-        DateAnswer::Refused(_) => text::put(out, at, b"no date"),
+        Ok(d) => wall::put_full_date(out, at, d.year, d.month, d.day),
+        Err(_) => text::put(out, at, b"no date"),
     }
 }
 
@@ -42,10 +43,7 @@ fn put_day(out: &mut [u8], at: usize, n: u32) -> usize
 fn number_of(date: Date) -> u32
     ensures { result ≡ number_of date }
 {
-    match date.day_number() {
-        NumberAnswer::Number(n) => n,
-        NumberAnswer::Refused(_) => 0,
-    }
+    date.day_number().unwrap_or(0)
 }
 
 // The number of the day so many days after a date.
@@ -59,11 +57,7 @@ fn later_day(date: Date, days: u32) -> u32
 fn earlier_day(date: Date, days: u32) -> u32
     ensures { result ≡ earlier date days }
 {
-    let n = number_of(date);
-    if n < days {
-        return 0;
-    }
-    n - days
+    number_of(date).saturating_sub(days)
 }
 
 // Writes a date, how many days, and on which side of which day they lie.
@@ -78,6 +72,7 @@ fn put_side(out: &mut [u8], at: usize, date: Date, days: u32, side: &[u8], n: u3
 }
 
 // Writes that a date lies so many days before the first day of the table, and which day that is.
+#[tactic(auto, unfolding(crate::specs::Outside::before_text))]
 pub fn put_before(out: &mut [u8], at: usize, date: Date, days: u32) -> usize
     ensures { Wrote out.old at (before_text date days) out.new result }
 {
@@ -93,6 +88,7 @@ pub fn put_before(out: &mut [u8], at: usize, date: Date, days: u32) -> usize
 }
 
 // Writes that a date lies so many days after the last day of the table, and which day that is.
+#[tactic(auto, unfolding(crate::specs::Outside::after_text))]
 pub fn put_after(out: &mut [u8], at: usize, date: Date, days: u32) -> usize
     ensures { Wrote out.old at (after_text date days) out.new result }
 {

@@ -1,28 +1,32 @@
 -- What an accepted year table is known to hold, and what follows for the columns that the code reads. Assumes nothing.
-use Prim.Native.Nat.{ℕ, zero, suc, ◌+◌, ◌-◌, ◌*◌, ◌≤◌, ◌<◌}
+use Rattle.std.specs.Prelude.{Err, Ok, Option, Some, None}
+use Rattle.std.proofs.lemmas.Option.{cond_some, none-some}
+use Prim.Native.Nat.{ℕ, zero, suc, ◌+◌, ◌-◌, ◌*◌, ◌/◌, ◌≤◌, ◌<◌}
 use mathlib.Core.Path.{◌≡◌, refl, sym, ap, ◌∙◌, subst⁻¹}
-use mathlib.Core.Bool.{Bool, true, false, not, cond, true≢false}
+use mathlib.Core.Bool.{true, false, ◌&&◌, true≢false}
 use mathlib.Core.Logic.{⊎_elim}
 use mathlib.Core.List.{List}
 use native.Mathlib.Nat.{add_comm, one-mul}
 use native.Mathlib.Omega.{arith}
 use lib.ListN.{length, get_or}
 use lib.Dec.{T, leb, eqb}
-use borrow.Author.Tests.{leb-true, le-leb, eqb-true, eq-eqb, ne_eqb}
-use Rattle.paper.specs.declared.Refusal.TheVariants.{NoSuchDate}
+use borrow.Author.Tests.{leb-true, le-leb, eqb-true, eq-eqb}
+use Rattle.paper.specs.declared.Refusal.TheVariants.{BadTable, NoSuchDate}
 use Rattle.paper.specs.declared.Refusal.{Refusal}
-use Rattle.paper.specs.Answers.{answered, refused, given}
+use Rattle.paper.specs.Answers.{Answer, given}
 use Rattle.paper.specs.Sums.{sum, all}
 use Rattle.paper.proofs.Sums.{sum_zero, sum_suc, sum_ext, sum_mono, sum_step, all_at, all_every}
 use Rattle.paper.proofs.Tests.{and_left, and_right, split, never}
-use Rattle.paper.proofs.Answers.{answered_same, refused_answered}
+use Rattle.paper.proofs.Answers.{given_on, given_told, given_refused}
 use Rattle.gregorian.specs.Calendar.{is_date, day_number}
-use Rattle.gregorian.proofs.Laws.{real_of, number_above, number_below, all_number}
+use Rattle.gregorian.specs.Answers.{number_answer}
+use Rattle.gregorian.proofs.Laws.{real_of, number_below, all_number}
 use Rattle.conversion.specs.declared.Table.{Table}
-use Rattle.conversion.specs.declared.check.Passed.{Passed}
 use Rattle.conversion.specs.Calendar.{Calendar, valid_bs}
 use Rattle.conversion.specs.Flat.{row_count, lens, row_ok, row_days, first_day, date, accepted, flat}
-use Rattle.conversion.specs.Inner.{number_or_zero, first_number, untested, Frame, FrameSays, PlacedIn, RowsSay, Reached, Begun, column, Inside, FoundAt}
+use Rattle.conversion.specs.Inner.{untested, Frame, frame_ok, frame_answer, passed, pass_of_rows, pass_answer, Begins, PlacedIn, Reached, Begun, column, Inside, FoundAt}
+use Rattle.conversion.specs.declared.check.Passed.{Passed}
+use Rattle.conversion.proofs.Passes.{pass_days, pass_reached}
 use Rattle.conversion.proofs.Places.{Within}
 use Rattle.conversion.proofs.Rows.{row_total, row_most}
 
@@ -82,63 +86,79 @@ accepted_by t rows f =
 pub accepted_not : (t : Table) (rows : List ℕ) → (Facts t rows → ⊥) → accepted t rows ≡ false
 accepted_not t rows h = never (accepted t rows) (λ e. h (facts t rows e))
 
--- a pass over an accepted table finds its days
-pub days_found : (t : Table) (rows : List ℕ) (until day : ℕ) (p : Passed) → Facts t rows → RowsSay rows (row_count rows) until day p → p.days ≡ 0 → ⊥
-days_found t rows until day p f s z = true≢false (sym (all_every (row_ok rows) (row_count rows) f.row) ∙ s.bad z)
+-- what else is asked than the rows is asked by one test
+pub frame_told : (t : Table) (n : ℕ) → frame_ok t n ≡ true → Frame t n
+frame_told t n e =
+    let y = leb 1 t.first_year in
+    let z = leb t.first_year 3000 in
+    let w = eqb n (13 * (n / 13)) in
+    let l = leb 1 (n / 13) in
+    let m = leb (n / 13) 128 in
+    let r = is_date t.year t.month t.day in
+    let s = leb 2415386 (day_number (first_day t)) in
+    let a = and_left (y && z && (w && l && m) && r) s e in
+    let b = and_left (y && z && (w && l && m)) r a in
+    let c = and_left (y && z) (w && l && m) b in
+    let d = and_right (y && z) (w && l && m) b in
+    record {
+      year_from = leb-true _ _ (and_left y z c);
+      year_to = leb-true _ _ (and_right y z c);
+      whole = eqb-true _ _ (and_left w l (and_left (w && l) m d));
+      some = leb-true _ _ (and_right w l (and_left (w && l) m d));
+      few = leb-true _ _ (and_right (w && l) m d);
+      real = and_right (y && z && (w && l && m)) r a;
+      day_from = leb-true _ _ (and_right (y && z && (w && l && m) && r) s e);
+    }
 
--- what a number that is 0 or not tells
-pub by_zero : (n : ℕ) (b : Bool) → (n ≡ 0 → b ≡ false) → ((n ≡ 0 → ⊥) → b ≡ true) → not (eqb n 0) ≡ b
-by_zero zero b h k = sym (h refl)
-by_zero (suc n) b h k =
-    let l : suc n ≡ 0 → ⊥ = λ z. omega arith in
-    rw (ne_eqb (suc n) 0 l) (sym (k l))
+pub frame_all : (t : Table) (n : ℕ) → Frame t n → frame_ok t n ≡ true
+frame_all t n f =
+    simp (le-leb _ _ f.year_from, le-leb _ _ f.year_to, eq-eqb _ _ f.whole, le-leb _ _ f.some, le-leb _ _ f.few, f.real, le-leb _ _ f.day_from)
 
--- 0 says that the frame breaks a rule
-pub frame_no : (t : Table) (n : ℕ) → (Frame t n → ⊥) → FrameSays t n 0
-frame_no t n h = record { bad = λ z f. h f; good = λ z. absurd (z refl); start = λ z. absurd (z refl); small = omega arith }
+-- what the frame of a table answers: the number of the first day, or 1 for a table that is not accepted
+pub frame_is : (t : Table) (rows : List ℕ) (s : ℕ) → Ok s ≡ frame_answer t (length rows) → Begins t rows s
+frame_is t rows s e = let g = given_told _ _ _ _ e in record { frame = frame_told t (length rows) g.0; first = g.1 }
 
--- what `number_or_zero` reads off the answer
-pub number_told : (b : Bool) (v n : ℕ) → answered n ≡ given b NoSuchDate (answered v) → n ≡ cond b v 0
-unfolding given
-number_told true v n e = answered_same e
-number_told false v n e = absurd (refused_answered e refl)
+pub frame_refused : (t : Table) (rows : List ℕ) (k : Refusal) → Err k ≡ frame_answer t (length rows) → (accepted t rows ≡ false) × (k ≡ BadTable)
+frame_refused t rows k e =
+    let g = given_refused _ _ _ _ e in
+    (accepted_not t rows (λ f. true≢false (sym (frame_all t (length rows) f.frame) ∙ g.0)), g.1)
 
-pub number_none : (b : Bool) (v : ℕ) (k : Refusal) → refused k ≡ given b NoSuchDate (answered v) → 0 ≡ cond b v 0
-unfolding given
-number_none true v k e = absurd (refused_answered (sym e) refl)
-number_none false v k e = refl
+-- what a pass over the rows tells of a table
+module _ (t : Table) (rows : List ℕ) (n until day : ℕ) (r : Option Passed) (h : n ≡ row_count rows) (q : r ≡ pass_of_rows rows n until day) where
+  whole : r ≡ pass_of_rows rows (row_count rows) until day
+  whole = rw h at q
 
--- a number that is not 0 is a date's, and each is small
-module _ (y m d : ℕ) where
-  pub number_real : (n : ℕ) → n ≡ number_or_zero y m d → 0 < n → (is_date y m d ≡ true) × (n ≡ day_number (date y m d))
-  number_real n e h = go (is_date y m d) e
-    where
-      go : (b : Bool) → n ≡ cond b (day_number (date y m d)) 0 → (b ≡ true) × (n ≡ day_number (date y m d))
-      go true q = (refl, q)
-      go false q = absurd (omega arith)
+  pub pass_none : r ≡ None → accepted t rows ≡ false
+  pass_none e = accepted_not t rows (λ f. none-some _ (rw (all_every (row_ok rows) (row_count rows) f.row) at (sym e ∙ whole)))
 
-  pub number_no : number_or_zero y m d ≡ 0 → is_date y m d ≡ false
-  number_no e = go (is_date y m d) e
-    where
-      go : (b : Bool) → cond b (day_number (date y m d)) 0 ≡ 0 → b ≡ false
-      go true q = absurd (omega (arith, number_above (date y m d)))
-      go false q = refl
+  pub pass_some : (p : Passed) → r ≡ Some p
+      → (all (row_ok rows) (row_count rows) ≡ true) × ((p ≡ passed rows (row_count rows) until day) × (p.days ≡ row_days rows (row_count rows)))
+  pass_some p e =
+      let g = cond_some (all (row_ok rows) (row_count rows)) _ p (sym whole ∙ e) in
+      (g.0, (sym g.1, ap (λ (q : Passed). q.days) (sym g.1) ∙ pass_days rows (row_count rows) until day))
 
-  pub number_small : number_or_zero y m d < 2506332
-  number_small = go (is_date y m d) refl
-    where
-      go : (b : Bool) → is_date y m d ≡ b → cond b (day_number (date y m d)) 0 < 2506332
-      go true e =
-          let r = real_of (date y m d) (subst⁻¹ T e tt) in
-          omega (arith, number_below (date y m d) r, all_number)
-      go false e = omega arith
+-- what a pass over a table answers
+pub pass_is : (t : Table) (rows : List ℕ) (until day : ℕ) (p : Passed) → Ok p ≡ pass_answer t rows until day
+    → (accepted t rows ≡ true) × ((p.days ≡ row_days rows (row_count rows)) × Reached rows (row_count rows) until day p.row p.before)
+pass_is t rows until day p e =
+    let n = row_count rows in
+    let g = given_told _ _ _ _ e in
+    (g.0, (ap (λ (q : Passed). q.days) g.1 ∙ pass_days rows n until day, rw g.1 (pass_reached rows n until day)))
 
--- the number of an accepted table's first day
-pub starts : (t : Table) (n : ℕ) → Frame t n → first_number t ≡ day_number (first_day t)
-starts t n f = simp f.real
+-- a table that is not accepted is refused with 1, whatever is asked
+pub refused_table : {A : Type 0} (t : Table) (rows : List ℕ) (k : Refusal) (a : Answer A) → (accepted t rows ≡ false) × (k ≡ BadTable) → Err k ≡ given (accepted t rows) BadTable a
+refused_table t rows k a e = rw (e.0, e.1)
+
+-- a table whose frame is refused is not accepted
+pub frame_wrong : (t : Table) (rows : List ℕ) (k : Refusal) → Err k ≡ frame_answer t (length rows) → accepted t rows ≡ true → ⊥
+frame_wrong t rows k e g = true≢false (sym g ∙ (frame_refused t rows k e).0)
+
+-- the number of the first day that a table has
+pub starts : (t : Table) (n : ℕ) → Frame t n → number_answer (first_day t) ≡ Ok (day_number (first_day t))
+starts t n f = given_on _ NoSuchDate _ f.real
 
 pub first_small : (t : Table) (n : ℕ) → Frame t n → day_number (first_day t) < 2506332
-first_small t n f = omega (arith, starts t n f, number_small t.year t.month t.day)
+first_small t n f = omega (arith, number_below (first_day t) (real_of (first_day t) (subst⁻¹ T f.real tt)), all_number)
 
 pub months_in : (rows : List ℕ) (i m : ℕ) → 13 * i + 13 ≤ length rows → m ≤ 12 → Inside rows (13 * i) 1 m
 months_in rows i m h l = record { few = omega arith; small = omega arith; inside = λ k b. omega arith }
@@ -159,9 +179,6 @@ module _ (t : Table) (rows : List ℕ) (f : Facts t rows) where
 
 pub months_are : (rows : List ℕ) (i m : ℕ) → column rows (13 * i) 1 m ≡ lens rows i m
 months_are rows i m = ap (λ (k : ℕ). get_or rows (13 * i + k) 0) (one-mul m)
-
-pub months_sum : (rows : List ℕ) (i m : ℕ) → sum (column rows (13 * i) 1) m ≡ sum (lens rows i) m
-months_sum rows i m = sum_ext _ _ m (λ k l. months_are rows i k)
 
 -- what `find` found, for a function that agrees with the one it was asked for
 pub found_ext : (f g : ℕ → ℕ) (n r i s : ℕ) → ((k : ℕ) → k < n → f k ≡ g k) → FoundAt f n r i s → FoundAt g n r i s
@@ -229,6 +246,13 @@ placed_by t rows start n i s f e p =
       short = λ l. omega (arith, p.within l, row_most rows i (f.row i l));
       found = λ g. p;
     }
+
+-- by what a pass over it reached
+pub placed_pass : (t : Table) (rows : List ℕ) (start n until off : ℕ) (p : Passed) → Begins t rows start → until ≡ row_count rows → off ≡ n - start → Ok p ≡ pass_answer t rows until off
+    → PlacedIn t rows start n p.row (off - p.before)
+placed_pass t rows start n until off p b u o e =
+    let g = pass_is t rows until off p e in
+    placed_by t rows start n _ _ (facts t rows g.0) b.first (rw (← o) (day_reached _ _ _ _ _ (rw u at g.1.1)))
 
 -- what `find` found from row i on is found in all rows
 sum_on : (f g : ℕ → ℕ) (i n : ℕ) → ((k : ℕ) → f (i + k) ≡ g k) → sum f (i + n) ≡ sum f i + sum g n

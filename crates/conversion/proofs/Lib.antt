@@ -6,4 +6,3 @@ pub mod Days
 pub mod Ad
 pub mod Longer
 pub mod Theorems
-pub mod Unique

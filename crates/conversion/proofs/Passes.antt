@@ -1,29 +1,19 @@
 -- The one pass over a table's rows: what it says where a row breaks a rule, and how far it reaches. Assumes nothing.
-use Prim.Native.Nat.{ℕ, ◌+◌, ◌*◌, ◌≤◌, ◌<◌}
-use mathlib.Core.Path.{◌≡◌, refl, sym, ◌∙◌}
+use Prim.Native.Nat.{ℕ, zero, suc, ◌+◌, ◌≤◌, ◌<◌}
+use mathlib.Core.Path.{◌≡◌, refl, sym}
 use mathlib.Core.Bool.{Bool, true, false, ◌&&◌}
 use mathlib.Core.List.{List}
 use mathlib.Core.Logic.{◌⊎◌, inl, inr, ⊎_elim}
+use native.Mathlib.Numerals.{add-one}
 use native.Mathlib.Omega.{arith}
 use borrow.Author.Tests.{leb-true, leb-false}
 use lib.Dec.{leb}
-use Rattle.paper.specs.Sums.{sum, all}
-use Rattle.paper.proofs.Sums.{sum_zero, sum_step, all_zero, all_step}
+use Rattle.paper.specs.Sums.{sum}
+use Rattle.paper.proofs.Sums.{sum_zero, sum_suc}
 use Rattle.paper.proofs.Tests.{split}
 use Rattle.conversion.specs.declared.check.Passed.{Passed}
-use Rattle.conversion.specs.Flat.{lens, row_ok, row_days}
-use Rattle.conversion.specs.Inner.{advance, further_of, Reached, RowSays, RowsSay}
-
--- no days say that a row breaks a rule
-pub say_no : (rows : List ℕ) (n until day row before : ℕ) → all (row_ok rows) n ≡ false → RowsSay rows n until day (record { days = 0; row = row; before = before })
-say_no rows n until day row before e =
-    record {
-      bad = λ z. e;
-      good = λ h. absurd (h refl);
-      days = λ h. absurd (h refl);
-      most = omega arith;
-      reached = λ h. absurd (h refl);
-    }
+use Rattle.conversion.specs.Flat.{lens, row_days}
+use Rattle.conversion.specs.Inner.{advance, further_of, passed, Reached}
 
 -- before the first row
 pub reached_none : (rows : List ℕ) (until day : ℕ) → Reached rows 0 until day 0 0
@@ -53,41 +43,26 @@ module _ (rows : List ℕ) (i until day : ℕ) (p : Passed) (r : Reached rows i 
       go true f false g = stays (inr (rw (← e) (leb-false _ _ g)))
       go false f b g = stays (inl (let l : until < i + 1 = leb-false _ _ f in omega arith))
 
--- a pass that has gone over i good rows
-pub record Going (rows : List ℕ) (i until day : ℕ) (p : Passed) : Type 0 where
-  pub good : all (row_ok rows) i ≡ true
-  pub days : p.days ≡ row_days rows i
-  pub least : i ≤ p.days
-  pub most : p.days ≤ 384 * i
-  pub reached : Reached rows i until day p.row p.before
-
-pub going_none : (rows : List ℕ) (until day : ℕ) → Going rows 0 until day (record { days = 0; row = 0; before = 0 })
-going_none rows until day =
-    record { good = all_zero _; days = sym (sum_zero _); least = omega arith; most = omega arith; reached = reached_none rows until day }
-
 further_days : (b : Bool) (p : Passed) (i days : ℕ) → (advance b p i days).days ≡ days
 further_days true p i days = refl
 further_days false p i days = refl
 
-pub going_more : (rows : List ℕ) (i until day len : ℕ) (p : Passed) → Going rows i until day p → RowSays rows i len → (len ≡ 0 → ⊥) → Going rows (i + 1) until day (further_of p (i + 1) (p.days + len) until day)
-going_more rows i until day len p g s h =
-    let e : p.days + len ≡ row_days rows (i + 1) = omega (arith, g.days, s.days h, sum_step (λ k. sum (lens rows k) 12) i) in
-    let f = further_days (leb (i + 1) until && leb (p.days + len) day) p (i + 1) (p.days + len) in
-    record {
-      good = all_step (row_ok rows) i g.good (s.good h);
-      days = f ∙ e;
-      least = rw f (omega (arith, g.least));
-      most = rw f (omega (arith, g.most, s.most));
-      reached = reached_more rows i until day p g.reached (p.days + len) e;
-    }
+-- what a pass finds: the days of its rows, and how far it reached
+pub pass_days : (rows : List ℕ) (n until day : ℕ) → (passed rows n until day).days ≡ row_days rows n
+unfolding passed
+pass_days rows zero until day = sym (sum_zero _)
+pass_days rows (suc n) until day = further_days _ (passed rows n until day) (suc n) (row_days rows (suc n))
 
--- and over all of them
-pub going_all : (rows : List ℕ) (n until day : ℕ) (p : Passed) → 1 ≤ n → Going rows n until day p → RowsSay rows n until day p
-going_all rows n until day p l g =
-    record {
-      bad = λ z. absurd (omega (arith, g.least));
-      good = λ z. g.good;
-      days = λ z. g.days;
-      most = g.most;
-      reached = λ z. g.reached;
-    }
+pub pass_reached : (rows : List ℕ) (n until day : ℕ) → let p = passed rows n until day in Reached rows n until day p.row p.before
+unfolding passed
+pass_reached rows zero until day = reached_none rows until day
+pass_reached rows (suc n) until day =
+    rw add-one at (reached_more rows n until day (passed rows n until day) (pass_reached rows n until day) (row_days rows (n + 1)) refl)
+
+-- a turn of the loop
+pub pass_turn : (rows : List ℕ) (n until day len : ℕ) (p : Passed) → p ≡ passed rows n until day → len ≡ sum (lens rows n) 12
+    → further_of p (n + 1) (p.days + len) until day ≡ passed rows (n + 1) until day
+unfolding passed
+pass_turn rows n until day len p e h =
+    let d : p.days + len ≡ row_days rows (suc n) = rw e (omega (arith, h, pass_days rows n until day, sum_suc (λ k. sum (lens rows k) 12) n)) in
+    rw (d, e, add-one)

@@ -1,7 +1,7 @@
 -- What is proved of conversion, for every accepted year table. It matches the BS dates of the table and the days from its first to its last
 -- one to one and in order, and refuses all else with the exact number. And it is steady: rows added to a table change no answer, and the
 -- shorter table refuses exactly what lies in an added year. Assumes nothing.
-use Prim.Native.Nat.{ℕ, ◌+◌}
+use Prim.Native.Nat.{ℕ}
 use mathlib.Core.Path.{◌≡◌, ◌∙◌}
 use mathlib.Core.Bool.{true, false}
 use mathlib.Core.List.{List, ◌++◌}

@@ -1,16 +1,14 @@
 -- What conversion means, over any calendar: a first year, a first day, a number of years and the length of each month of each year.
 -- `start` is the Julian day number of the first day. Years, months and days are counted from 0 in `len`, `day_at` and `date_at`.
 -- Assumes nothing.
-use Rattle.std.specs.Prelude.{ℕ, zero, suc, ◌+◌, ◌-◌, Bool, cond, ◌&&◌, leb, ltb}
+use Rattle.std.specs.Prelude.{ℕ, zero, suc, ◌+◌, ◌-◌, Bool, cond, ◌&&◌, leb, ltb, Ok}
 use Rattle.paper.specs.declared.Refusal.{Refusal}
 use Rattle.paper.specs.declared.Refusal.TheVariants.{BadTable, NoSuchDate, NoYear, NoMonth, NoDay, Before, After}
-use Rattle.paper.specs.Answers.{Answer, answered, given}
+use Rattle.paper.specs.Answers.{Answer, given}
 use Rattle.paper.specs.Sums.{sum}
 use Rattle.gregorian.specs.declared.Date.{Date}
 use Rattle.gregorian.specs.Calendar.{is_date, day_number, date_of, Earlier}
 use Rattle.conversion.specs.declared.BsDate.{BsDate}
-use Rattle.conversion.specs.declared.Placed.{Placed}
-use Rattle.conversion.specs.declared.Placed.TheVariants as P
 
 -- whether the table behind it is accepted, the first BS year, the first day, how many years, and the lengths of the months
 pub record Calendar : Type 0 where
@@ -44,7 +42,7 @@ of_month c y m a = given c.good BadTable (given (year_ok c y) NoYear (given (mon
 
 -- what a question about a date answers: refusals 1, 4, 5, 6, else the value
 abbrev pub of_date : {A : Type 0} → Calendar → ℕ → ℕ → ℕ → A → Answer A
-of_date c y m d x = of_month c y m (given (day_ok c y m d) NoDay (answered x))
+of_date c y m d x = of_month c y m (given (day_ok c y m d) NoDay (Ok x))
 
 -- whether there is such a date: refusals 1, 4, 5, 6, else yes
 unfoldable pub valid_bs : Calendar → ℕ → ℕ → ℕ → Answer Unit
@@ -56,7 +54,7 @@ day_at c i m d = c.start + sum (year_len c) i + sum (c.len i) m + d
 
 -- the length of a month: refusals 1, 4, 5
 unfoldable pub month_len : Calendar → ℕ → ℕ → Answer ℕ
-month_len c y m = of_month c y m (answered (c.len (y - c.first) (m - 1)))
+month_len c y m = of_month c y m (Ok (c.len (y - c.first) (m - 1)))
 
 -- the number of a BS date's day: refusals 1, 4, 5, 6
 unfoldable pub to_day : Calendar → ℕ → ℕ → ℕ → Answer ℕ
@@ -87,13 +85,7 @@ outside c n = cond (ltb n c.start) (Before (c.start - n)) (After (n - end c + 1)
 
 -- the date of a day: refusals 1, 7
 unfoldable pub from_day : Calendar → ℕ → Answer BsDate
-from_day c n = given c.good BadTable (given (leb c.start n && ltb n (end c)) (outside c n) (answered (date_after c (n - c.start))))
-
--- where a day lies: a date, or so many days before the first day or after the last
-unfoldable pub placed : Calendar → ℕ → Placed
-placed c n =
-    cond (ltb n c.start) (P.Before (c.start - n))
-    (cond (ltb n (end c)) (P.Inside (date_after c (n - c.start))) (P.After (n - end c + 1)))
+from_day c n = given c.good BadTable (given (leb c.start n && ltb n (end c)) (outside c n) (Ok (date_after c (n - c.start))))
 
 -- ---- Gregorian dates
 

@@ -1,18 +1,13 @@
 -- What the inner functions ask and promise. Assumes nothing.
-use Rattle.std.specs.Prelude.{ℕ, ◌+◌, ◌-◌, ◌*◌, ◌/◌, ◌≤◌, ◌<◌, ◌≡◌, Bool, true, false, cond, ◌&&◌, List, length, get_or, leb}
+use Rattle.std.specs.Prelude.{ℕ, zero, suc, ◌+◌, ◌-◌, ◌*◌, ◌/◌, ◌≤◌, ◌<◌, ◌≡◌, Bool, true, false, cond, ◌&&◌, List, length, get_or, leb, eqb, Option, Some, None, Ok}
+use Rattle.paper.specs.declared.Refusal.TheVariants.{BadTable}
+use Rattle.paper.specs.Answers.{Answer, given}
 use Rattle.paper.specs.Sums.{sum, all}
 use Rattle.gregorian.specs.Calendar.{is_date, day_number}
 use Rattle.conversion.specs.declared.Table.{Table}
 use Rattle.conversion.specs.declared.check.Passed.{Passed}
 use Rattle.conversion.specs.Calendar.{Calendar}
-use Rattle.conversion.specs.Flat.{row_count, lens, row_ok, row_days, first_day, date, accepted}
-
--- the number of a date, 0 where there is none
-abbrev pub number_or_zero : ℕ → ℕ → ℕ → ℕ
-number_or_zero y m d = cond (is_date y m d) (day_number (date y m d)) 0
-
-abbrev pub first_number : Table → ℕ
-first_number t = number_or_zero t.year t.month t.day
+use Rattle.conversion.specs.Flat.{row_count, lens, row_ok, row_days, first_day, accepted}
 
 -- the calendar of a lent table whose rows are not tested
 abbrev pub untested : Table → List ℕ → Calendar
@@ -48,12 +43,9 @@ pub record FoundAt (f : ℕ → ℕ) (n r i s : ℕ) : Type 0 where
   pub whole : sum f i + s ≡ r
   pub within : i < n → s < f i
 
--- the days of row i, or 0 where it breaks a rule
-pub record RowSays (rows : List ℕ) (i r : ℕ) : Type 0 where
-  pub bad : r ≡ 0 → row_ok rows i ≡ false
-  pub good : (r ≡ 0 → ⊥) → row_ok rows i ≡ true
-  pub days : (r ≡ 0 → ⊥) → r ≡ sum (lens rows i) 12
-  pub most : r ≤ 384
+-- the days of row i, where it keeps its rules
+abbrev pub row_answer : List ℕ → ℕ → Option ℕ
+row_answer rows i = cond (row_ok rows i) (Some (sum (lens rows i) 12)) None
 
 -- a pass with one row more, which lies before what is asked for, or not: i rows have so many days
 abbrev pub advance : Bool → Passed → ℕ → ℕ → Passed
@@ -64,6 +56,15 @@ advance false p i days = record { days = days; row = p.row; before = p.before }
 abbrev pub further_of : Passed → ℕ → ℕ → ℕ → ℕ → Passed
 further_of p i days until day = advance (leb i until && leb days day) p i days
 
+-- what a pass over n rows finds
+unfoldable pub passed : List ℕ → ℕ → ℕ → ℕ → Passed
+passed rows zero until day = record { days = 0; row = 0; before = 0 }
+passed rows (suc n) until day = further_of (passed rows n until day) (suc n) (row_days rows (suc n)) until day
+
+-- none where a row breaks a rule
+abbrev pub pass_of_rows : List ℕ → ℕ → ℕ → ℕ → Option Passed
+pass_of_rows rows n until day = cond (all (row_ok rows) n) (Some (passed rows n until day)) None
+
 -- of i rows, the first `row` lie before row `until` and end at or before `day`, and the next does not
 pub record Reached (rows : List ℕ) (i until day row before : ℕ) : Type 0 where
   pub among : row ≤ i
@@ -71,14 +72,6 @@ pub record Reached (rows : List ℕ) (i until day row before : ℕ) : Type 0 whe
   pub days : before ≡ row_days rows row
   pub day_to : before ≤ day
   pub next : row < i → row < until → day < row_days rows (row + 1)
-
--- what a pass over n rows says
-pub record RowsSay (rows : List ℕ) (n until day : ℕ) (p : Passed) : Type 0 where
-  pub bad : p.days ≡ 0 → all (row_ok rows) n ≡ false
-  pub good : (p.days ≡ 0 → ⊥) → all (row_ok rows) n ≡ true
-  pub days : (p.days ≡ 0 → ⊥) → p.days ≡ row_days rows n
-  pub most : p.days ≤ 384 * n
-  pub reached : (p.days ≡ 0 → ⊥) → Reached rows n until day p.row p.before
 
 -- what is asked of a table besides its rows, which have n numbers
 pub record Frame (t : Table) (n : ℕ) : Type 0 where
@@ -108,18 +101,26 @@ pub record PlacedIn (t : Table) (rows : List ℕ) (start n i s : ℕ) : Type 0 w
   pub short : i < row_count rows → s < 65535
   pub found : accepted t rows ≡ true → FoundAt (λ k. sum (lens rows k) 12) (row_count rows) (n - start) i s
 
--- r is the number of the first day, or 0 where one of these fails
-pub record FrameSays (t : Table) (n r : ℕ) : Type 0 where
-  pub bad : r ≡ 0 → Frame t n → ⊥
-  pub good : (r ≡ 0 → ⊥) → Frame t n
-  pub start : (r ≡ 0 → ⊥) → r ≡ day_number (first_day t)
-  pub small : r < 2506332
+-- whether a table keeps what is asked besides its rows, which have n numbers
+abbrev pub frame_ok : Table → ℕ → Bool
+frame_ok t n =
+    leb 1 t.first_year
+    && leb t.first_year 3000
+    && (eqb n (13 * (n / 13)) && leb 1 (n / 13) && leb (n / 13) 128)
+    && is_date t.year t.month t.day
+    && leb 2415386 (day_number (first_day t))
 
--- what a pass over a table says
-pub record TableSays (t : Table) (rows : List ℕ) (until day : ℕ) (p : Passed) : Type 0 where
-  pub bad : p.days ≡ 0 → accepted t rows ≡ false
-  pub good : (p.days ≡ 0 → ⊥) → accepted t rows ≡ true
-  pub reached : (p.days ≡ 0 → ⊥) → Reached rows (row_count rows) until day p.row p.before
+-- the number of its first day; refused where it does not
+abbrev pub frame_answer : Table → ℕ → Answer ℕ
+frame_answer t n = given (frame_ok t n) BadTable (Ok (day_number (first_day t)))
+
+-- what a pass over a table finds; refused where the table is not accepted
+abbrev pub pass_answer : Table → List ℕ → ℕ → ℕ → Answer Passed
+pass_answer t rows until day = given (accepted t rows) BadTable (Ok (passed rows (row_count rows) until day))
+
+-- whether it is
+abbrev pub whole_answer : Table → List ℕ → Answer Unit
+whole_answer t rows = given (accepted t rows) BadTable (Ok tt)
 
 -- row i begins s days before day r, by the sums that the rows have
 pub record Begun (rows : List ℕ) (r i s : ℕ) : Type 0 where

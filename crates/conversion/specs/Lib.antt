@@ -2,6 +2,5 @@
 pub mod Calendar
 pub mod Flat
 pub mod Own
-pub mod Answers
 pub mod Inner
 pub mod Claims

@@ -15,12 +15,8 @@ pub fn span(rows: &[u16], at: usize, step: usize, count: usize) -> u32
     ensures { Summed (column rows.now at step) count result }
 {
     let mut total: u32 = 0;
-    let mut k = at;
-    let mut i = 0;
-    while i < count {
-        total += rows[k] as u32;
-        k += step;
-        i += 1;
+    for i in 0..count {
+        total += rows[at + step * i] as u32;
     }
     total
 }
@@ -38,11 +34,9 @@ pub fn months_span(rows: &[u16], at: usize, count: usize) -> u32
     ensures { Summed (column rows.now at 1) count result }
 {
     let mut total: u32 = 0;
-    let mut m = 0;
-    while m < 12 {
+    for m in 0..12 {
         let len = rows[at + m] as u32;
         total += counted(len, m < count);
-        m += 1;
     }
     total
 }
@@ -53,16 +47,12 @@ pub fn find(rows: &[u16], at: usize, step: usize, count: usize, day: u32) -> Spo
     ensures { FoundAt (column rows.now at step) count day result.index result.rest }
 {
     let mut rest = day;
-    let mut k = at;
-    let mut i = 0;
-    while i < count {
-        let len = rows[k] as u32;
+    for i in 0..count {
+        let len = rows[at + step * i] as u32;
         if rest < len {
             return Spot { index: i, rest };
         }
         rest -= len;
-        k += step;
-        i += 1;
     }
     Spot { index: count, rest }
 }

@@ -1,4 +1,5 @@
 -- No reply is longer than 80 bytes. Assumes nothing.
+use Rattle.std.specs.Prelude.{Err, None, Ok, Option, Some}
 use Prim.Native.Nat.{ℕ, zero, suc, ◌-◌, ◌^◌, ◌≤◌, ◌<◌}
 use mathlib.Core.Path.{◌≡◌, refl}
 use mathlib.Core.Bool.{true}
@@ -10,7 +11,7 @@ use lib.ListN.{length, length-append}
 use Rattle.paper.specs.declared.Refusal.{Refusal}
 use Rattle.paper.specs.declared.Refusal.TheVariants as R
 use Rattle.paper.specs.Refusals.{number, told}
-use Rattle.paper.specs.Answers.{Answer, answered, refused}
+use Rattle.paper.specs.Answers.{Answer}
 use Rattle.paper.specs.Sums.{sum, all}
 use Rattle.paper.proofs.Tests.{split}
 use Rattle.text.specs.Digits.{digits, places}
@@ -31,9 +32,7 @@ use Rattle.conversion.proofs.Ad.{served, is_real, ad_valid, ad_from_to, ad_refus
 use Rattle.gregorian.proofs.Laws.{all_number, number_above, number_below}
 use Rattle.convert.specs.Lines.{number_text, numbers_text, line_form, LineIs}
 use Rattle.convert.specs.declared.line.Line.{Line}
-use Rattle.convert.specs.declared.line.Line.TheVariants.{Bs, Ad, Other}
-use Rattle.convert.specs.declared.reply.Shown.{Shown}
-use Rattle.convert.specs.declared.reply.Shown.TheVariants as shown
+use Rattle.convert.specs.declared.line.Line.TheVariants.{Bs, Ad}
 use Rattle.convert.specs.declared.reply.Reply.{Reply}
 use Rattle.convert.specs.Replies.{from_bs, from_ad_date, bs_reply, ad_reply, shown_text, outside_text, reply_text, line_reply, reply_to}
 use Rattle.convert.proofs.Forms.{line_is}
@@ -45,7 +44,7 @@ unfolding accepted row_ok all sum is_date day_number
 good = refl
 
 -- a BS date of the own table has small numbers
-own_small : (y m d : ℕ) (t : BsDate) → from_ad own y m d ≡ answered t → (t.year < 65536) × (t.month < 65536) × (t.day < 65536)
+own_small : (y m d : ℕ) (t : BsDate) → from_ad own y m d ≡ Ok t → (t.year < 65536) × (t.month < 65536) × (t.day < 65536)
 own_small y m d t e =
     let s = served own_table own_rows good in
     let v = ad_valid own s t.year t.month t.day (date y m d) (ad_from_to own s y m d t e) in
@@ -104,8 +103,8 @@ numbers_short f o y m d hf ho hy hm hd =
     )
 
 -- YYYY-MM-DD, or none
-ad_shown : (x : Shown) → length (shown_text 4 2 x) ≤ 17
-ad_shown (shown.Date y m d) =
+ad_shown : (x : Option (ℕ × ℕ × ℕ)) → length (shown_text 4 2 x) ≤ 17
+ad_shown (Some (y, m, d)) =
     omega (
       arith,
       length_run 10 4 y,
@@ -114,10 +113,10 @@ ad_shown (shown.Date y m d) =
       length-append (number_text 4 y) ((dash ++ number_text 2 m) ++ (dash ++ number_text 2 d)),
       length-append (dash ++ number_text 2 m) (dash ++ number_text 2 d),
     )
-ad_shown shown.Nothing = omega arith
+ad_shown None = omega arith
 
 -- how far outside the own table a Gregorian date lies: no farther than all dates reach
-outside_short : (y m d : ℕ) (k : Refusal) → from_ad own y m d ≡ refused k → length (outside_text (told k)) ≤ 6
+outside_short : (y m d : ℕ) (k : Refusal) → from_ad own y m d ≡ Err k → length (outside_text (told k)) ≤ 6
 outside_short y m d R.BadTable e = omega arith
 outside_short y m d R.BadRules e = omega arith
 outside_short y m d R.NoSuchDate e = omega arith
@@ -156,23 +155,23 @@ bs_reply_short y m d hy hm hd = go (to_ad own y m d)
     bs = numbers_short 0 0 y m d (omega arith) (omega arith) hy hm hd
 
     go : (a : Answer Date) → length (reply_text (from_bs y m d a)) ≤ 80
-    go (answered x) = text_short (from_bs y m d (answered x)) bs (omega arith) (omega arith)
-    go (refused k) = text_short (from_bs y m d (refused k)) bs (refusal_small k) (omega arith)
+    go (Ok x) = text_short (from_bs y m d (Ok x)) bs (omega arith) (omega arith)
+    go (Err k) = text_short (from_bs y m d (Err k)) bs (refusal_small k) (omega arith)
 
 ad_reply_short : (y m d : ℕ) → length (reply_text (ad_reply y m d)) ≤ 80
 unfolding ad_reply
 ad_reply_short y m d = go (from_ad own y m d) refl
   where
     go : (a : Answer BsDate) → from_ad own y m d ≡ a → length (reply_text (from_ad_date y m d a)) ≤ 80
-    go (answered t) e =
+    go (Ok t) e =
         let s = own_small y m d t e in
-        text_short (from_ad_date y m d (answered t)) (numbers_short 0 0 t.year t.month t.day (omega arith) (omega arith) s.0 s.1 s.2) (omega arith) (omega arith)
-    go (refused k) e = text_short (from_ad_date y m d (refused k)) (omega arith) (refusal_small k) (outside_short y m d k e)
+        text_short (from_ad_date y m d (Ok t)) (numbers_short 0 0 t.year t.month t.day (omega arith) (omega arith) s.0 s.1 s.2) (omega arith) (omega arith)
+    go (Err k) e = text_short (from_ad_date y m d (Err k)) (omega arith) (refusal_small k) (outside_short y m d k e)
 
 pub reply_short : (s : List ℕ) → length (reply_to s) ≤ 80
 reply_short s = go (line_form s) (line_is s)
   where
-    go : (l : Line) → LineIs s l → length (line_reply l) ≤ 80
-    go (Bs y m d) k = bs_reply_short y m d (omega (arith, k.year)) (omega (arith, k.month)) (omega (arith, k.day))
-    go (Ad y m d) k = ad_reply_short y m d
-    go Other k = omega arith
+    go : (l : Option Line) → LineIs s l → length (line_reply l) ≤ 80
+    go (Some (Bs y m d)) k = bs_reply_short y m d (omega (arith, k.year)) (omega (arith, k.month)) (omega (arith, k.day))
+    go (Some (Ad y m d)) k = ad_reply_short y m d
+    go None k = omega arith

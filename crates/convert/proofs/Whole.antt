@@ -1,5 +1,6 @@
 -- A line too long to be kept has another form: the reply to what is kept of a line, where 20 bytes or more are kept, is the reply to the line.
 -- Assumes nothing.
+use Rattle.std.specs.Prelude.{None, Option, Some}
 use Prim.Native.Nat.{ℕ, ◌≤◌, ◌<◌}
 use mathlib.Core.Path.{◌≡◌, refl, sym, ap, ◌∙◌}
 use mathlib.Core.Bool.{Bool, true, false, cond}
@@ -13,7 +14,7 @@ use Rattle.text.proofs.Lines.{comes}
 use Rattle.lines.specs.Lines.{handed}
 use Rattle.convert.specs.Lines.{line_form, LineIs, IsBs, IsAd}
 use Rattle.convert.specs.declared.line.Line.{Line}
-use Rattle.convert.specs.declared.line.Line.TheVariants.{Bs, Ad, Other}
+use Rattle.convert.specs.declared.line.Line.TheVariants.{Bs, Ad}
 use Rattle.convert.specs.Replies.{line_reply, reply_to}
 use Rattle.convert.proofs.Forms.{line_is}
 use Rattle.convert.proofs.Short.{numbers_short}
@@ -34,15 +35,15 @@ ad_short s y m d h =
     let l = numbers_short 4 2 y m d (omega arith) (omega arith) (omega arith) (omega arith) (omega arith) in
     rw h.same (omega arith)
 
-pub long_other : (s : List ℕ) → 20 < length s → line_form s ≡ Other
+pub long_other : (s : List ℕ) → 20 < length s → line_form s ≡ None
 long_other s h = go (line_form s) (line_is s)
   where
-    go : (l : Line) → LineIs s l → l ≡ Other
-    go (Bs y m d) k = let x = bs_short s y m d k in absurd (let bad : ⊥ = omega arith in bad)
-    go (Ad y m d) k = let x = ad_short s y m d k in absurd (let bad : ⊥ = omega arith in bad)
-    go Other k = refl
+    go : (l : Option Line) → LineIs s l → l ≡ None
+    go (Some (Bs y m d)) k = let x = bs_short s y m d k in absurd (let bad : ⊥ = omega arith in bad)
+    go (Some (Ad y m d)) k = let x = ad_short s y m d k in absurd (let bad : ⊥ = omega arith in bad)
+    go None k = refl
 
-empty_other : line_form [] ≡ Other
+empty_other : line_form [] ≡ None
 unfolding line_form
 empty_other = refl
 

@@ -1,12 +1,10 @@
 -- The lines that `convert` reads: bs=Y-M-D with numbers at most 65,535 and no leading zeros, and ad=YYYY-MM-DD. Assumes nothing.
-use Rattle.std.specs.Prelude.{ℕ, zero, suc, ◌≤◌, ◌<◌, ◌^◌, ◌≡◌, List, ◌++◌}
+use Rattle.std.specs.Prelude.{ℕ, zero, suc, ◌≤◌, ◌<◌, ◌^◌, ◌≡◌, List, ◌++◌, None, Option, Some}
 use Rattle.text.specs.Digits.{run, digits, found, past}
 use Rattle.text.specs.Quoted.{bytes}
 use Rattle.text.specs.Dashed.{dash, numbers, ended}
-use Rattle.text.specs.declared.triples.Numbers.{Numbers}
-use Rattle.text.specs.declared.triples.Numbers.TheVariants.{Are, Not}
 use Rattle.convert.specs.declared.line.Line.{Line}
-use Rattle.convert.specs.declared.line.Line.TheVariants.{Bs, Ad, Other}
+use Rattle.convert.specs.declared.line.Line.TheVariants.{Bs, Ad}
 
 -- ---- three numbers with a dash between them
 
@@ -34,18 +32,19 @@ abbrev pub ad_line : ℕ → ℕ → ℕ → List ℕ
 ad_line y m d = ad_tag ++ numbers_text 4 2 y m d
 
 -- three numbers of one of the two lines
-abbrev pub as_bs : Numbers → Line
-as_bs (Are y m d) = Bs y m d
-as_bs Not = Other
+abbrev pub as_bs : Option (ℕ × ℕ × ℕ) → Option Line
+as_bs (Some (y, m, d)) = Some (Bs y m d)
+as_bs None = None
 
-abbrev pub as_ad : Numbers → Line
-as_ad (Are y m d) = Ad y m d
-as_ad Not = Other
+abbrev pub as_ad : Option (ℕ × ℕ × ℕ) → Option Line
+as_ad (Some (y, m, d)) = Some (Ad y m d)
+as_ad None = None
 
-unfoldable pub line_form : List ℕ → Line
+-- a line of another form is none
+unfoldable pub line_form : List ℕ → Option Line
 line_form s =
     found (past bs_tag s) (λ u t. as_bs (ended (numbers 0 0 t)))
-    (found (past ad_tag s) (λ u t. as_ad (ended (numbers 4 2 t))) Other)
+    (found (past ad_tag s) (λ u t. as_ad (ended (numbers 4 2 t))) None)
 
 -- ---- the same, by what is written
 
@@ -62,7 +61,7 @@ pub record IsAd (s : List ℕ) (y m d : ℕ) : Type 0 where
   pub same : s ≡ ad_line y m d
 
 -- a line is the writing of three numbers in one of the two forms, or in neither
-abbrev pub LineIs : List ℕ → Line → Type 0
-LineIs s (Bs y m d) = IsBs s y m d
-LineIs s (Ad y m d) = IsAd s y m d
-LineIs s Other = ((y m d : ℕ) → IsBs s y m d → ⊥) × ((y m d : ℕ) → IsAd s y m d → ⊥)
+abbrev pub LineIs : List ℕ → Option Line → Type 0
+LineIs s (Some (Bs y m d)) = IsBs s y m d
+LineIs s (Some (Ad y m d)) = IsAd s y m d
+LineIs s None = ((y m d : ℕ) → IsBs s y m d → ⊥) × ((y m d : ℕ) → IsAd s y m d → ⊥)

@@ -1,7 +1,5 @@
 // The reply to a line, worked out and written.
 ghost use Rattle.std.specs.Prelude.{◌≡◌, ◌++◌};
-ghost use Rattle.gregorian.specs.Answers.{date_says};
-ghost use Rattle.conversion.specs.Answers.{bs_says};
 ghost use Rattle.conversion.specs.Own.{own_table};
 ghost use Rattle.text.specs.Dashed.{dash};
 ghost use Rattle.text.specs.Written.{Wrote};
@@ -10,24 +8,17 @@ ghost use Rattle.convert.specs.Replies.{from_bs, from_ad_date, bs_reply, ad_repl
 
 use crate::line;
 use crate::line::Line;
-use conversion::{BsAnswer, BsDate, Table};
-use gregorian::DateAnswer;
-use paper::Told;
-
-// A date as it is shown, or none.
-#[derive(Clone, Copy)]
-pub enum Shown {
-    Date(u16, u16, u16),
-    Nothing,
-}
+use conversion::{BsDate, Table};
+use gregorian::Date;
+use paper::{Answer, Told};
 
 // The two dates, the refusal, 0 for none, and what it tells.
 #[derive(Clone, Copy)]
 pub struct Reply {
-    pub bs: Shown,
-    pub ad: Shown,
+    pub bs: Option<(u16, u16, u16)>,
+    pub ad: Option<(u16, u16, u16)>,
     pub refusal: u16,
-    pub told: Told,
+    pub told: Option<Told>,
 }
 
 // The rows of the own table.
@@ -49,39 +40,39 @@ fn table() -> Table
 }
 
 // A BS date as read beside its Gregorian date, or beside none where it is refused, which tells no days.
-fn beside_ad(y: u16, m: u16, d: u16, a: DateAnswer) -> Reply
-    ensures { result ≡ from_bs y m d (date_says a) }
+fn beside_ad(y: u16, m: u16, d: u16, a: Answer<Date>) -> Reply
+    ensures { result ≡ from_bs y m d a }
 {
     match a {
-        DateAnswer::Is(x) => Reply {
-            bs: Shown::Date(y, m, d),
-            ad: Shown::Date(x.year, x.month, x.day),
+        Ok(x) => Reply {
+            bs: Some((y, m, d)),
+            ad: Some((x.year, x.month, x.day)),
             refusal: 0,
-            told: Told::Nothing,
+            told: None,
         },
-        DateAnswer::Refused(k) => Reply {
-            bs: Shown::Date(y, m, d),
-            ad: Shown::Nothing,
+        Err(k) => Reply {
+            bs: Some((y, m, d)),
+            ad: None,
             refusal: k.number(),
-            told: Told::Nothing,
+            told: None,
         },
     }
 }
 
 // A Gregorian date as read beside its BS date, or beside none where it is refused.
-fn beside_bs(y: u16, m: u16, d: u16, a: BsAnswer) -> Reply
-    ensures { result ≡ from_ad_date y m d (bs_says a) }
+fn beside_bs(y: u16, m: u16, d: u16, a: Answer<BsDate>) -> Reply
+    ensures { result ≡ from_ad_date y m d a }
 {
     match a {
-        BsAnswer::Is(x) => Reply {
-            bs: Shown::Date(x.year, x.month, x.day),
-            ad: Shown::Date(y, m, d),
+        Ok(x) => Reply {
+            bs: Some((x.year, x.month, x.day)),
+            ad: Some((y, m, d)),
             refusal: 0,
-            told: Told::Nothing,
+            told: None,
         },
-        BsAnswer::Refused(k) => Reply {
-            bs: Shown::Nothing,
-            ad: Shown::Date(y, m, d),
+        Err(k) => Reply {
+            bs: None,
+            ad: Some((y, m, d)),
             refusal: k.number(),
             told: k.told(),
         },
@@ -128,23 +119,32 @@ fn put_next(out: &mut [u8], at: usize, n: u16, width: u8) -> usize
 }
 
 // Writes a date with numbers of these widths, or none.
-fn put_shown(out: &mut [u8], at: usize, shown: Shown, first: u8, others: u8) -> usize
+fn put_shown(
+    out: &mut [u8],
+    at: usize,
+    shown: Option<(u16, u16, u16)>,
+    first: u8,
+    others: u8,
+) -> usize
     ensures { Wrote out.old at (shown_text «first» others shown) out.new result }
 {
     match shown {
-        Shown::Date(y, m, d) => {
+        Some((y, m, d)) => {
             let a = put_number(out, at, y, first);
             let b = put_next(out, a, m, others);
             put_next(out, b, d, others)
         }
-        Shown::Nothing => text::put(out, at, b"none"),
+        None => text::put(out, at, b"none"),
     }
 }
 
 // Writes how many days a date lies after the last day of the table, or behind a minus sign before its first; 0 where nothing is told.
-fn put_outside(out: &mut [u8], at: usize, told: Told) -> usize
+fn put_outside(out: &mut [u8], at: usize, told: Option<Told>) -> usize
     ensures { Wrote out.old at (outside_text told) out.new result }
 {
+    let Some(told) = told else {
+        return text::put(out, at, b"0");
+    };
     match told {
         Told::Before(days) => {
             let a = text::put(out, at, b"-");
@@ -152,12 +152,16 @@ fn put_outside(out: &mut [u8], at: usize, told: Told) -> usize
         }
         Told::After(days) => text::put_decimal(out, at, days as u64),
         Told::Line(_) => text::put(out, at, b"0"),
-        Told::Nothing => text::put(out, at, b"0"),
     }
 }
 
 // Writes the two dates, each behind its name.
-fn put_dates(out: &mut [u8], at: usize, bs: Shown, ad: Shown) -> usize
+fn put_dates(
+    out: &mut [u8],
+    at: usize,
+    bs: Option<(u16, u16, u16)>,
+    ad: Option<(u16, u16, u16)>,
+) -> usize
     ensures { Wrote out.old at (dates_text bs ad) out.new result }
 {
     let a = text::put(out, at, b"bs=");
@@ -186,8 +190,8 @@ pub fn put_line(out: &mut [u8], at: usize, s: &[u8]) -> usize
     ensures { Wrote out.old at (reply_to s.now) out.new result }
 {
     match line::read_line(s) {
-        Line::Bs(y, m, d) => put_reply(out, at, bs_reply(y, m, d)),
-        Line::Ad(y, m, d) => put_reply(out, at, ad_reply(y, m, d)),
-        Line::Other => at,
+        Some(Line::Bs(y, m, d)) => put_reply(out, at, bs_reply(y, m, d)),
+        Some(Line::Ad(y, m, d)) => put_reply(out, at, ad_reply(y, m, d)),
+        None => at,
     }
 }

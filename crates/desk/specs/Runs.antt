@@ -1,6 +1,5 @@
 -- Lines, one after the other: what they lend, the state that is kept, and what is gathered of their answers. Which bytes come is any. Assumes nothing.
-use Rattle.std.specs.Prelude.{ℕ, ◌≡◌, cond, List, []}
-use Rattle.std.proofs.Math.Option.{Option, none}
+use Rattle.std.specs.Prelude.{ℕ, ◌≡◌, cond, List, [], None, Option, Some}
 use Rattle.asked.specs.Line.{words_of}
 use Rattle.asked.specs.Octets.{octets_in, held}
 use Rattle.asked.specs.Runs.{Program, holds_after, TurnDone, Heard, Run}
@@ -14,7 +13,7 @@ use Rattle.kept.specs.State.{State}
 use Rattle.kept.specs.Operations.{start}
 use Rattle.questions.specs.Questions.{answer_words}
 use Rattle.desk.specs.declared.Stepped.{Stepped}
-use Rattle.desk.specs.declared.keeping.Keeper.{Keeper}
+use Rattle.kept.specs.declared.Kept.{Kept}
 use Rattle.desk.specs.declared.keeping.Keeping.{Keeping}
 use Rattle.desk.specs.declared.keeping.Keeping.TheVariants as K
 use Rattle.desk.specs.Keeping.{keeping_of, Told, start_told, asked_if, state_in, Sound}
@@ -24,14 +23,14 @@ pub record Desk : Type 0 where
   pub loan : Loan
   pub state : Option State
 
-abbrev pub desk_of : Loan → Keeper → Desk
+abbrev pub desk_of : Loan → Option Kept → Desk
 desk_of x k = record { loan = x; state = state_in k }
 
 -- what a line is answered over what is lent and the state, and the state after it
-unfoldable pub told_by : Loan → Option State → Words → Keeping → Told
-told_by x k w K.Start = start_told (start (table_in w))
-told_by x k w (K.Ask q) = asked_if k (lent_rules x) w q
-told_by x k w K.Not = record { words = answer_words x w; state = k }
+unfoldable pub told_by : Loan → Option State → Words → Option Keeping → Told
+told_by x k w (Some K.Start) = start_told (start (table_in w))
+told_by x k w (Some (K.Ask q)) = asked_if k (lent_rules x) w q
+told_by x k w None = record { words = answer_words x w; state = k }
 
 -- nothing to a line that lends, and the state stays
 unfoldable pub told_to : Loan → Option State → Words → Octets → Told
@@ -58,13 +57,13 @@ abbrev pub answering : Program Desk
 answering = record { next = desk_after; reply = answer_line }
 
 -- a line is answered, and the next one is read; what is kept stays a state
-pub record StepDone (t : Turn) (x : Loan) (k : Keeper) (piece line out : List ℕ) (y : Loan) (piece' line' out' : List ℕ) (r : Stepped) : Type 0 where
-  pub done : TurnDone answering t (desk_of x k) piece line out (desk_of y r.keeper) piece' line' out' r.turn
-  pub sound : Sound r.keeper
+pub record StepDone (t : Turn) (x : Loan) (k : Option Kept) (piece line out : List ℕ) (y : Loan) (piece' line' out' : List ℕ) (r : Stepped) : Type 0 where
+  pub done : TurnDone answering t (desk_of x k) piece line out (desk_of y r.kept) piece' line' out' r.turn
+  pub sound : Sound r.kept
 
 -- before the first line no state is kept
 abbrev pub opened : Loan → Desk
-opened x = record { loan = x; state = none }
+opened x = record { loan = x; state = None }
 
 -- the lists after the lines that came
 pub record Lends (room : ℕ) (first : Loan) (rows rules text : List ℕ) : Type 0 where

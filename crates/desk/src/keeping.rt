@@ -1,6 +1,5 @@
 // Questions to the kept state: `start`, `take`, `append`, `askbs`, `askad`, `askgrid`, `forget` and `stored`.
-ghost use Rattle.std.specs.Prelude.{◌≡◌, false};
-ghost use Rattle.conversion.specs.Answers.{valid_says};
+ghost use Rattle.std.specs.Prelude.{◌≡◌, Some};
 ghost use Rattle.output.specs.Gathered.{Gathers};
 ghost use Rattle.replies.specs.Replies.{said, reply_words};
 ghost use Rattle.replies.specs.declared.Reply.TheVariants as R;
@@ -8,28 +7,21 @@ ghost use Rattle.lending.specs.Lending.{line_numbers};
 ghost use Rattle.kept.specs.Operations.{start, append_row};
 ghost use Rattle.kept.specs.Held.{held, Ready, AskedAs, stored_says};
 ghost use Rattle.desk.specs.Keeping.{in_form, keeping_of, start_told, done_told, list_told, month_told, sevens, day_asked, month_asked, years_words, asked_of};
-ghost use Rattle.desk.specs.Keeping.{asked_if, state_in, keeps, Sound, Says};
+ghost use Rattle.desk.specs.Keeping.{asked_if, state_in, Sound, Says};
 ghost use Rattle.asked.specs.Line.{small};
 
 use asked::{Words, tags};
-use conversion::{Table, Validity};
-use kept::{Asked, AskedMonth, Done, Kept, StoredYears, asking};
+use conversion::Table;
+use kept::{After, Kept, StoredYears, asking};
 use output::Out;
 use questions::{lists, months};
 use replies::Reply;
 
-// A kept state, or none: then what stands in its place is no state.
-#[derive(Clone, Copy)]
-pub struct Keeper {
-    pub has: bool,
-    pub kept: Kept,
-}
-
-// What was answered, and the state after it.
+// What was answered, and the state that is kept after it, or none.
 #[derive(Clone, Copy)]
 pub struct Said {
     pub out: Out,
-    pub keeper: Keeper,
+    pub kept: Option<Kept>,
 }
 
 // A question to a state.
@@ -44,23 +36,22 @@ pub enum Question {
     Stored,
 }
 
-// A new state, a question to the one that is kept, or another line.
+// A new state, or a question to the one that is kept.
 #[derive(Clone, Copy)]
 pub enum Keeping {
     Start,
     Ask(Question),
-    Not,
 }
 
 // A question where the line has its form.
-fn formed(good: bool, k: Keeping) -> Keeping
+fn formed(good: bool, k: Keeping) -> Option<Keeping>
     ensures { result ≡ in_form good k }
 {
-    if good { k } else { Keeping::Not }
+    good.then_some(k)
 }
 
-// Which question of the state a line of this tag and form is.
-pub fn keeping_of(tag: u64, form: u64) -> Keeping
+// Which question of the state a line of this tag and form is, or none.
+pub fn keeping_of(tag: u64, form: u64) -> Option<Keeping>
     ensures { result ≡ keeping_of tag form }
 {
     match tag {
@@ -75,22 +66,8 @@ pub fn keeping_of(tag: u64, form: u64) -> Keeping
         tags::ASKGRID => formed(form == 1111111, Keeping::Ask(Question::Month)),
         tags::FORGET => formed(form == 0, Keeping::Ask(Question::Forget)),
         tags::STORED => formed(form == 0, Keeping::Ask(Question::Stored)),
-        _ => Keeping::Not,
+        _ => None,
     }
-}
-
-// No state.
-pub fn nothing() -> Keeper
-    ensures { result.has ≡ false }
-{
-    let started = kept::start(Table {
-        first_year: 0,
-        year: 0,
-        month: 0,
-        day: 0,
-    });
-    let kept = started.state;
-    Keeper { has: false, kept }
 }
 
 // A new state, or the refusal and no state.
@@ -98,40 +75,26 @@ pub fn begin(o: Out, out: &mut [u8], table: Table) -> Said
     ensures { Says out.old o (start_told (start table)) out.new result }
 {
     let started = kept::start(table);
-    let kept = started.state;
-    let answer = started.answer;
-    match answer {
-        Validity::Valid => Said {
+    match started.answer {
+        Ok(()) => Said {
             out: Reply::Good.put(o, out),
-            keeper: Keeper { has: true, kept },
+            kept: Some(started.state),
         },
-        Validity::Refused(why) => Said {
+        Err(why) => Said {
             out: Reply::Refused(why).put(o, out),
-            keeper: Keeper { has: false, kept },
+            kept: None,
         },
-    }
-}
-
-// The reply of an operation that was done, or the refusal.
-fn done_of(a: Validity) -> Reply
-    ensures { result ≡ said (λ done. R.Good) (valid_says a) }
-{
-    match a {
-        Validity::Valid => Reply::Good,
-        Validity::Refused(why) => Reply::Refused(why),
     }
 }
 
 // What an operation is answered, and the state after it.
-fn put_done(o: Out, out: &mut [u8], done: Done) -> Said
-    ensures gathers { Gathers out.old o (reply_words (said (λ x. R.Good) (valid_says done.answer))) out.new result.out }
-    ensures keeper_value { result.keeper ≡ keeps done.state }
+fn put_done(o: Out, out: &mut [u8], done: After<()>) -> Said
+    ensures gathers { Gathers out.old o (reply_words (said (λ x. R.Good) done.answer)) out.new result.out }
+    ensures kept_value { result.kept ≡ Some done.state }
 {
-    let kept = done.state;
-    let answer = done.answer;
     Said {
-        out: done_of(answer).put(o, out),
-        keeper: Keeper { has: true, kept },
+        out: Reply::said(done.answer, |()| Reply::Good).put(o, out),
+        kept: Some(done.state),
     }
 }
 
@@ -145,7 +108,7 @@ fn append(o: Out, out: &mut [u8], kept: Kept, w: Words) -> Said
 }
 
 // A day's list, asked by BS date or else by Gregorian date.
-fn ask_day(kept: Kept, w: Words, bs: bool, list: &mut [u16]) -> Asked
+fn ask_day(kept: Kept, w: Words, bs: bool, list: &mut [u16]) -> After<usize>
     ensures { Ready kept → AskedAs result list.new (day_asked bs (held kept) w list.old) }
 {
     let year = w.small(1);
@@ -162,14 +125,9 @@ fn put_day(o: Out, out: &mut [u8], kept: Kept, w: Words, bs: bool, list: &mut [u
     ensures { Ready kept → Says out.old o (list_told (day_asked bs (held kept) w list.old)) out.new result }
 {
     let asked = ask_day(kept, w, bs, list);
-    let after = asked.state;
-    let answer = asked.answer;
     Said {
-        out: lists::put_listed(o, out, answer, list),
-        keeper: Keeper {
-            has: true,
-            kept: after,
-        },
+        out: lists::put_listed(o, out, asked.answer, list),
+        kept: Some(asked.state),
     }
 }
 
@@ -196,14 +154,9 @@ fn put_month(
 {
     let today = replies::date_of(w);
     let asked = kept::months::ask_month(kept, today, w.small(4), w.small(5), cells, list);
-    let after = asked.state;
-    let answer = asked.answer;
     Said {
-        out: months::put_shown(o, out, answer, cells, list),
-        keeper: Keeper {
-            has: true,
-            kept: after,
-        },
+        out: months::put_shown(o, out, asked.answer, cells, list),
+        kept: Some(asked.state),
     }
 }
 
@@ -220,6 +173,7 @@ fn month(o: Out, out: &mut [u8], kept: Kept, w: Words) -> Said
 }
 
 // The stored years.
+#[tactic(auto, unfolding(replies::specs::Replies::reply_words))]
 fn put_stored(o: Out, out: &mut [u8], years: StoredYears) -> Out
     ensures { Gathers out.old o (years_words (stored_says years)) out.new result }
 {
@@ -240,40 +194,34 @@ fn ask_kept(o: Out, out: &mut [u8], kept: Kept, w: Words, question: Question, ru
         Question::DayBs => day(o, out, kept, w, true),
         Question::DayAd => day(o, out, kept, w, false),
         Question::Month => month(o, out, kept, w),
-        Question::Forget => {
-            let after = kept::forget(kept);
-            Said {
-                out: Reply::Good.put(o, out),
-                keeper: Keeper {
-                    has: true,
-                    kept: after,
-                },
-            }
-        }
+        Question::Forget => Said {
+            out: Reply::Good.put(o, out),
+            kept: Some(kept::forget(kept)),
+        },
         Question::Stored => Said {
             out: put_stored(o, out, kept::stored(kept)),
-            keeper: Keeper { has: true, kept },
+            kept: Some(kept),
         },
     }
 }
 
 // The answer of the state that is kept, or a question mark where there is none.
+#[tactic(auto, unfolding(crate::specs::Keeping::asked_if))]
 pub fn ask(
     o: Out,
     out: &mut [u8],
-    keeper: Keeper,
+    kept: Option<Kept>,
     w: Words,
     question: Question,
     rules: &[u16],
 ) -> Said
-    ensures { Sound keeper → Says out.old o (asked_if (state_in keeper) rules.now w question) out.new result }
+    ensures { Sound kept → Says out.old o (asked_if (state_in kept) rules.now w question) out.new result }
 {
-    if keeper.has {
-        let kept = keeper.kept;
-        return ask_kept(o, out, kept, w, question, rules);
-    }
-    Said {
-        out: Reply::Unformed.put(o, out),
-        keeper,
-    }
+    let Some(state) = kept else {
+        return Said {
+            out: Reply::Unformed.put(o, out),
+            kept,
+        };
+    };
+    ask_kept(o, out, state, w, question, rules)
 }

@@ -9,17 +9,18 @@ ghost use Rattle.desk.specs.Runs.{told_to, StepDone, Lends, Answers};
 mod keeping;
 
 use asked::{Octets, Turn, Words};
-use keeping::{Keeper, Keeping, Said};
+use keeping::{Keeping, Said};
+use kept::Kept;
 use lending::Lent;
 use output::Out;
 use std::io::Read;
 
-// The turn after a line, what is lent after it, and the state.
+// The turn after a line, what is lent after it, and the state that is kept, or none.
 #[derive(Clone, Copy)]
 struct Stepped {
     turn: Turn,
     lent: Lent,
-    keeper: Keeper,
+    kept: Option<Kept>,
 }
 
 // The answer to a line that asks, over what is lent and the state, and the state after it; nothing to a line that lends.
@@ -32,23 +33,23 @@ fn tell(
     rows: &[u16],
     rules: &[u16],
     text: &[u8],
-    keeper: Keeper,
+    kept: Option<Kept>,
 ) -> Said
-    ensures { Sound keeper → Says out.old o (told_to (loan_of lent rows.now rules.now text.now)
-        (state_in keeper) w x) out.new result }
+    ensures { Sound kept → Says out.old o (told_to (loan_of lent rows.now rules.now text.now)
+        (state_in kept) w x) out.new result }
 {
     if lending::is_lending(w, x) {
-        return Said { out: o, keeper };
+        return Said { out: o, kept };
     }
     match keeping::keeping_of(w.tag, w.form) {
-        Keeping::Start => keeping::begin(o, out, lending::table_in(w)),
-        Keeping::Ask(question) => {
+        Some(Keeping::Start) => keeping::begin(o, out, lending::table_in(w)),
+        Some(Keeping::Ask(question)) => {
             let held = kept::front(rules, lent.numbers);
-            keeping::ask(o, out, keeper, w, question, held)
+            keeping::ask(o, out, kept, w, question, held)
         }
-        Keeping::Not => Said {
+        None => Said {
             out: questions::answer(o, out, w, lent, rows, rules, text),
-            keeper,
+            kept,
         },
     }
 }
@@ -58,7 +59,7 @@ fn step<R: Read>(
     reader: &mut R,
     t: Turn,
     lent: Lent,
-    keeper: Keeper,
+    kept: Option<Kept>,
     rows: &mut [u16],
     rules: &mut [u16],
     text: &mut [u8],
@@ -66,21 +67,18 @@ fn step<R: Read>(
     line: &mut [u8],
     out: &mut [u8],
 ) -> Stepped
-    ensures { Sound keeper → StepDone t (loan_of lent rows.old rules.old text.old) keeper piece.old
+    ensures { Sound kept → StepDone t (loan_of lent rows.old rules.old text.old) kept piece.old
         line.old out.old (loan_of result.lent rows.new rules.new text.new) piece.new
         line.new out.new result }
 {
     let w = asked::split(line, t.len);
     let x = asked::octets_in(line, t.len);
-    let o = t.out;
     let after = lending::lend(lent, rows, rules, text, w, x);
-    let said = tell(o, out, w, x, after, rows, rules, text, keeper);
-    let answered = said.out;
-    let kept = said.keeper;
+    let said = tell(t.out, out, w, x, after, rows, rules, text, kept);
     Stepped {
-        turn: asked::next_turn(reader, t, answered, piece, line, out),
+        turn: asked::next_turn(reader, t, said.out, piece, line, out),
         lent: after,
-        keeper: kept,
+        kept: said.kept,
     }
 }
 
@@ -100,12 +98,12 @@ fn run<R: Read>(
 {
     let mut t = asked::first_turn(reader, piece, line, out);
     let mut lent = first;
-    let mut keeper = keeping::nothing();
+    let mut kept = None;
     while 0 < t.left {
-        let s = step(reader, t, lent, keeper, rows, rules, text, piece, line, out);
+        let s = step(reader, t, lent, kept, rows, rules, text, piece, line, out);
         t = s.turn;
         lent = s.lent;
-        keeper = s.keeper;
+        kept = s.kept;
     }
 }
 

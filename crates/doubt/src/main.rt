@@ -11,10 +11,8 @@ ghost use Rattle.doubtful.specs.Years.{sheet};
 ghost use Rattle.doubt.specs.Range.{range_pieces, asked_page};
 
 use conversion::Table;
-use files::{NamesRead, RulesRead, TableRead};
 use output::{Out, STDERR};
 use std::rt::{Env, Files};
-use text::Whole;
 
 // One line on standard error.
 fn complain(line: &[u8]) {
@@ -106,7 +104,7 @@ fn answer(
 }
 
 // The number that argument i is; a longer one than a buffer of eight bytes holds is none.
-fn year_in<R: Env>(rt: &R, i: usize) -> Whole {
+fn year_in<R: Env>(rt: &R, i: usize) -> Option<u16> {
     let mut buffer = [0u8; 8];
     let n = files::argument(rt, i, &mut buffer);
     text::whole_number(&buffer[..n], 65535)
@@ -126,21 +124,21 @@ fn run<R: Env + Files>(
         complain(b"expected arguments: TABLE FIRST LAST [RULES [NAMES]]\n");
         return;
     }
-    let Whole::Is(first) = year_in(rt, 2) else {
+    let Some(first) = year_in(rt, 2) else {
         complain(b"FIRST: expected a number up to 65535\n");
         return;
     };
-    let Whole::Is(last) = year_in(rt, 3) else {
+    let Some(last) = year_in(rt, 3) else {
         complain(b"LAST: expected a number up to 65535\n");
         return;
     };
-    let TableRead::Is(table, n) = files::table_at(rt, 1, rows) else {
+    let Ok((table, n)) = files::table_at(rt, 1, rows) else {
         return;
     };
-    let RulesRead::Are(k) = files::rules_asked(rt, 4, count, rules) else {
+    let Ok(k) = files::rules_asked(rt, 4, count, rules) else {
         return;
     };
-    let NamesRead::Are(m) = files::names_asked(rt, 5, count, names) else {
+    let Some(m) = files::names_asked(rt, 5, count, names) else {
         return;
     };
     answer(

@@ -1,46 +1,39 @@
 -- What a year puts on a page, step by step. Assumes nothing.
+use Rattle.std.specs.Prelude.{Err, None, Ok, Option, Some}
 use Prim.Native.Nat.{ℕ, zero, suc, ◌+◌, ◌-◌, ◌≤◌, ◌<◌}
-use mathlib.Core.Bool.{Bool, true, false, cond, ◌&&◌}
+use mathlib.Core.Bool.{Bool, true, false, cond, ◌&&◌, ◌||◌, true≢false}
 use mathlib.Core.Path.{◌≡◌, refl, sym, ap, ◌∙◌}
 use mathlib.Core.List.{List, ◌++◌}
-use mathlib.Core.Option.{Option, some, none}
+use mathlib.Core.Logic.{⊎_elim}
 use native.Mathlib.Numerals.{add-one}
 use native.Mathlib.Omega.{arith}
-use borrow.Author.Tests.{eq-eqb, ne_eqb, leb-true, le-leb, lt-leb}
-use lib.Dec.{leb}
-use lib.ListN.{length, get_or}
-use lib.Seq.{slice, slice-cons, slice_empty}
+use borrow.Author.Tests.{eq-eqb, ne_eqb, leb-true, le-leb, lt-leb, le-ltb}
+use lib.Dec.{leb, ltb}
+use lib.ListN.{length, get_or, drop}
+use lib.Seq.{drop-cons}
+use Rattle.std.specs.Option.{is_some}
+use Rattle.std.proofs.lemmas.List.{drop_all}
 use lib.Ieee.{Float, nan, eq}
 use Rattle.paper.specs.declared.Refusal.{Refusal}
-use Rattle.paper.specs.Answers.{Answer, answered}
+use Rattle.paper.specs.Answers.{Answer}
 use Rattle.paper.proofs.Answers.{given_answered}
-use Rattle.paper.proofs.Tests.{and_left, and_right}
+use Rattle.paper.proofs.Tests.{and_left, and_right, split}
 use Rattle.output.specs.Gathered.{Gathered, gathered}
 use Rattle.output.specs.declared.Out.{Out}
 use Rattle.conversion.specs.declared.BsDate.{BsDate}
-use Rattle.conversion.specs.declared.MonthDays.{MonthDays}
-use Rattle.conversion.specs.declared.MonthDays.TheVariants as MD
-use Rattle.conversion.specs.Answers.{days_says}
 use Rattle.conversion.specs.Calendar.{Calendar, year_ok, month_ok, month_len}
 use Rattle.rules.specs.declared.Rule.{Rule}
 use Rattle.rules.specs.Days.{holds}
 use Rattle.festivals.specs.Kathmandu.{moons_around, kathmandu, last_in, opening_in}
 use Rattle.festivals.specs.Months.{year_days, months_by, month_at}
-use Rattle.festivals.specs.Answers.{days_are}
 use Rattle.festivals.specs.declared.months.Months.{Months}
-use Rattle.festivals.specs.declared.months.YearDays.{YearDays}
-use Rattle.festivals.specs.declared.months.YearDays.TheVariants as YD
-use Rattle.notes.specs.Near.{dated_moon, dated_says, nearness, near_says}
+use Rattle.notes.specs.Near.{dated_moon, nearness}
 use Rattle.output.specs.Pieces.{Text, put_pieces, Puts}
 use Rattle.notes.specs.Lines.{moment_pieces, opening_pieces, none_pieces, rules_pieces, beside_pieces}
 use Rattle.doubtful.specs.Tallies.{Tally, tally_of, with_heading, one_more, doubted, unopened, heading_pieces}
-use Rattle.doubtful.specs.Years.{Sheet, sheet, under, near_line, dated_line, month_line, month_lines, opens_month, opened_at, lengthLine, placedLine, day_line, moonLine, moonLines, daysPage, year_page, years_page}
+use Rattle.doubtful.specs.Years.{Sheet, sheet, under, near_line, dated_line, month_line, month_lines, opens_month, opened_at, length_line, placed_line, day_line, moon_line, moon_lines, days_page, year_page, years_page}
 use Rattle.doubtful.specs.Inner.{with_out, Opened, has_place, opens_place}
 use Rattle.doubtful.specs.declared.page.Page.{Page}
-use Rattle.notes.specs.declared.moons.Dated.{Dated}
-use Rattle.notes.specs.declared.moons.Dated.TheVariants as D
-use Rattle.notes.specs.declared.moons.Nearness.{Nearness}
-use Rattle.notes.specs.declared.moons.Nearness.TheVariants as N
 use Rattle.output.proofs.Pieces.{then}
 use Rattle.festivals.proofs.Moons.{month_at_law}
 use Rattle.festivals.proofs.TableYears.{opens}
@@ -70,28 +63,28 @@ module _ (p : Page) (y : ℕ) (h : Page) {l k : List ℕ} {pieces : List Text} {
 
 -- ---- a new moon on a date
 
-module _ (rules : List Rule) (names : List ℕ) (x : Float) (n : ℕ) (t : BsDate) (opens : Bool) (len : ℕ) (s : Sheet) (q : Nearness) (e : near_says q ≡ nearness x n t.day len) where
-  near_is : {d : Option (Bool × ℕ)} → near_says q ≡ d → near_line rules names x n t opens d s ≡ dated_line rules names x n t opens len s
+module _ (rules : List Rule) (names : List ℕ) (x : Float) (n : ℕ) (t : BsDate) (opens : Bool) (len : ℕ) (s : Sheet) (q : Option (Bool × ℕ)) (e : q ≡ nearness x n t.day len) where
+  near_is : {d : Option (Bool × ℕ)} → q ≡ d → near_line rules names x n t opens d s ≡ dated_line rules names x n t opens len s
   unfolding dated_line
   near_is g = ap (λ (d : Option (Bool × ℕ)). near_line rules names x n t opens d s) (sym g ∙ e)
 
-  pub dated_beside : {after : Bool} {minutes : ℕ} → q ≡ N.Beside after minutes → under t.year (moment_pieces x n ++ beside_pieces rules names t opens after minutes) (doubted true after opens) s ≡ dated_line rules names x n t opens len s
-  dated_beside g = near_is (ap near_says g)
+  pub dated_beside : {after : Bool} {minutes : ℕ} → q ≡ Some (after, minutes) → under t.year (moment_pieces x n ++ beside_pieces rules names t opens after minutes) (doubted true after opens) s ≡ dated_line rules names x n t opens len s
+  dated_beside g = near_is g
 
-  pub dated_far : q ≡ N.Far → opens ≡ false → under t.year (moment_pieces x n ++ opening_pieces t opens) (doubted false false opens) s ≡ dated_line rules names x n t opens len s
+  pub dated_far : q ≡ None → opens ≡ false → under t.year (moment_pieces x n ++ opening_pieces t opens) (doubted false false opens) s ≡ dated_line rules names x n t opens len s
   dated_far g o =
-      let f : under t.year (moment_pieces x n ++ opening_pieces t opens) (doubted false false opens) s ≡ near_line rules names x n t opens none s = rw o in
-      f ∙ near_is (ap near_says g)
+      let f : under t.year (moment_pieces x n ++ opening_pieces t opens) (doubted false false opens) s ≡ near_line rules names x n t opens None s = rw o in
+      f ∙ near_is g
 
-  pub dated_plain : q ≡ N.Far → opens ≡ true → s ≡ dated_line rules names x n t opens len s
+  pub dated_plain : q ≡ None → opens ≡ true → s ≡ dated_line rules names x n t opens len s
   dated_plain g o =
-      let f : s ≡ near_line rules names x n t opens none s = rw o in
-      f ∙ near_is (ap near_says g)
+      let f : s ≡ near_line rules names x n t opens None s = rw o in
+      f ∙ near_is g
 
 -- ---- the places of the months
 
 -- a month that has a length is one of the twelve
-month_ok_law : (c : Calendar) (y m : ℕ) {len : ℕ} → month_len c y m ≡ answered len → month_ok m ≡ true
+month_ok_law : (c : Calendar) (y m : ℕ) {len : ℕ} → month_len c y m ≡ Ok len → month_ok m ≡ true
 unfolding month_len
 month_ok_law c y m e =
     let a = (given_answered c.good _ _ e).1 in
@@ -101,7 +94,7 @@ month_ok_law c y m e =
 month_twelve : (m : ℕ) → month_ok m ≡ true → (1 ≤ m) × (m ≤ 12)
 month_twelve m e = (leb-true 1 m (and_left (leb 1 m) (leb m 12) e), leb-true m 12 (and_right (leb 1 m) (leb m 12) e))
 
-opens_same : (c : Calendar) (y z m : ℕ) (x : Float) (places : Months) {len : ℕ} → Opened c y places → month_len c z m ≡ answered len → opens_place places m x ≡ opens_month c y m x
+opens_same : (c : Calendar) (y z m : ℕ) (x : Float) (places : Months) {len : ℕ} → Opened c y places → month_len c z m ≡ Ok len → opens_place places m x ≡ opens_month c y m x
 unfolding opens_place opens_month
 opens_same c y z m x places h e =
     let o = month_ok_law c z m e in
@@ -110,81 +103,76 @@ opens_same c y z m x places h e =
     let f : month_at places (m - 1) ≡ opening_in c y m = h (m - 1) j ∙ ap (opening_in c y) (let k : m - 1 + 1 ≡ m = omega arith in k) in
     rw (o, f)
 
-reads_place : (b : Bool) (z x : Float) → (b && eq z x) ≡ holds (cond b (some z) none) (λ o. eq o x)
-unfolding holds
-reads_place true z x = refl
-reads_place false z x = refl
+pub opens_some : (places : Months) (m : ℕ) (x : Float) {z : Float} → 1 ≤ m → m ≤ 12 → month_at places (m - 1) ≡ Some z → eq z x ≡ opens_place places m x
+unfolding opens_place holds
+opens_some places m x h k e = rw (le-leb 1 m h, le-leb m 12 k, e)
 
-pub opens_read : (places : Months) (m : ℕ) (x : Float) → 1 ≤ m → m ≤ 12 → (has_place places (m - 1) && eq (get_or places.moon (m - 1) nan) x) ≡ opens_place places m x
-unfolding opens_place month_at
-opens_read places m x h k = rw (le-leb 1 m h, le-leb m 12 k) (reads_place (has_place places (m - 1)) (get_or places.moon (m - 1) nan) x)
+pub opens_none : (places : Months) (m : ℕ) (x : Float) → 1 ≤ m → m ≤ 12 → month_at places (m - 1) ≡ None → false ≡ opens_place places m x
+unfolding opens_place holds
+opens_none places m x h k e = rw (le-leb 1 m h, le-leb m 12 k, e)
 
-pub opens_before : (places : Months) (m : ℕ) (x : Float) → m < 1 → false ≡ opens_place places m x
+pub opens_off : (places : Months) (m : ℕ) (x : Float) → (ltb m 1 || ltb 12 m) ≡ true → false ≡ opens_place places m x
 unfolding opens_place
-opens_before places m x h = rw (lt-leb 1 m h)
-
-pub opens_after : (places : Months) (m : ℕ) (x : Float) → 1 ≤ m → 12 < m → false ≡ opens_place places m x
-unfolding opens_place
-opens_after places m x h k = rw (le-leb 1 m h, lt-leb m 12 k)
+opens_off places m x h =
+    ⊎_elim (λ (k : 1 ≤ m). ⊎_elim (λ (l : m ≤ 12). absurd (true≢false (sym (rw (le-ltb m 1 k, le-ltb 12 m l) at h)))) (λ (l : 12 < m). rw (le-leb 1 m k, lt-leb m 12 l)) (split m 12))
+    (λ (k : m < 1). rw (lt-leb 1 m k))
+    (split 1 m)
 
 pub opened_same : (c : Calendar) (y : ℕ) (places : Months) → Opened c y places → (j : ℕ) → j < 12 → has_place places j ≡ opened_at c y j
-unfolding opened_at month_at holds
-opened_same c y places h j l = has (get_or places.has j false) ∙ ap (λ (o : Option Float). holds o (λ x. true)) (h j l)
+unfolding opened_at holds month_at
+opened_same c y places h j l = ap is_some (h j l) ∙ has (opening_in c y (j + 1))
   where
-    has : (b : Bool) → b ≡ holds (cond b (some (get_or places.moon j nan)) none) (λ x. true)
-    has true = refl
-    has false = refl
+    has : (o : Option Float) → is_some o ≡ holds o (λ x. true)
+    has (Some x) = refl
+    has None = refl
 
 -- ---- a new moon in a month
 
-module _ (c : Calendar) (y : ℕ) (rules : List Rule) (names : List ℕ) (x : Float) (n : ℕ) (t : BsDate) (s : Sheet) (q : MonthDays) (e : days_says q ≡ month_len c t.year t.month) where
-  placed_is : {a : Answer ℕ} → days_says q ≡ a → lengthLine c y rules names x n t a s ≡ placedLine c y rules names x n t s
-  unfolding placedLine
-  placed_is g = ap (λ (a : Answer ℕ). lengthLine c y rules names x n t a s) (sym g ∙ e)
+module _ (c : Calendar) (y : ℕ) (rules : List Rule) (names : List ℕ) (x : Float) (n : ℕ) (t : BsDate) (s : Sheet) (q : Answer ℕ) (e : q ≡ month_len c t.year t.month) where
+  placed_is : {a : Answer ℕ} → q ≡ a → length_line c y rules names x n t a s ≡ placed_line c y rules names x n t s
+  unfolding placed_line
+  placed_is g = ap (λ (a : Answer ℕ). length_line c y rules names x n t a s) (sym g ∙ e)
 
-  pub placed_in : {len : ℕ} (places : Months) (opens : Bool) → Opened c y places → q ≡ MD.Days len → opens ≡ opens_place places t.month x
-      → dated_line rules names x n t opens len s ≡ placedLine c y rules names x n t s
+  pub placed_in : {len : ℕ} (places : Months) (opens : Bool) → Opened c y places → q ≡ Ok len → opens ≡ opens_place places t.month x
+      → dated_line rules names x n t opens len s ≡ placed_line c y rules names x n t s
   placed_in {len} places opens h g o =
-      ap (λ (b : Bool). dated_line rules names x n t b len s) (o ∙ opens_same c y t.year t.month x places h (sym e ∙ ap days_says g))
-      ∙ placed_is (ap days_says g)
+      ap (λ (b : Bool). dated_line rules names x n t b len s) (o ∙ opens_same c y t.year t.month x places h (sym e ∙ g))
+      ∙ placed_is g
 
-  pub placed_refused : {k : Refusal} → q ≡ MD.Refused k → s ≡ placedLine c y rules names x n t s
-  placed_refused g = placed_is (ap days_says g)
+  pub placed_refused : {k : Refusal} → q ≡ Err k → s ≡ placed_line c y rules names x n t s
+  placed_refused g = placed_is g
 
 -- ---- a new moon
 
-module _ (c : Calendar) (y : ℕ) (rules : List Rule) (names : List ℕ) (x : Float) (s : Sheet) (q : Dated) (e : dated_says q ≡ dated_moon c x) where
-  line_is : {d : Option (ℕ × BsDate)} → dated_says q ≡ d → day_line c y rules names x d s ≡ moonLine c y rules names x s
-  unfolding moonLine
+module _ (c : Calendar) (y : ℕ) (rules : List Rule) (names : List ℕ) (x : Float) (s : Sheet) (q : Option (ℕ × BsDate)) (e : q ≡ dated_moon c x) where
+  line_is : {d : Option (ℕ × BsDate)} → q ≡ d → day_line c y rules names x d s ≡ moon_line c y rules names x s
+  unfolding moon_line
   line_is g = ap (λ (d : Option (ℕ × BsDate)). day_line c y rules names x d s) (sym g ∙ e)
 
-  pub line_undated : q ≡ D.Nothing → s ≡ moonLine c y rules names x s
-  line_undated g = line_is (ap dated_says g)
+  pub line_undated : q ≡ None → s ≡ moon_line c y rules names x s
+  line_undated g = line_is g
 
-  module _ {n : ℕ} {t : BsDate} (g : q ≡ D.On n t) where
-    pub line_other : (t.year ≡ y → ⊥) → s ≡ moonLine c y rules names x s
+  module _ {n : ℕ} {t : BsDate} (g : q ≡ Some (n, t)) where
+    pub line_other : (t.year ≡ y → ⊥) → s ≡ moon_line c y rules names x s
     line_other f =
-        let k : s ≡ day_line c y rules names x (some (n, t)) s = rw (ne_eqb t.year y f) in
-        k ∙ line_is (ap dated_says g)
+        let k : s ≡ day_line c y rules names x (Some (n, t)) s = rw (ne_eqb t.year y f) in
+        k ∙ line_is g
 
-    pub line-dated : t.year ≡ y → placedLine c y rules names x n t s ≡ moonLine c y rules names x s
+    pub line-dated : t.year ≡ y → placed_line c y rules names x n t s ≡ moon_line c y rules names x s
     line-dated f =
-        let k : placedLine c y rules names x n t s ≡ day_line c y rules names x (some (n, t)) s = rw (eq-eqb t.year y f) in
-        k ∙ line_is (ap dated_says g)
+        let k : placed_line c y rules names x n t s ≡ day_line c y rules names x (Some (n, t)) s = rw (eq-eqb t.year y f) in
+        k ∙ line_is g
 
 -- ---- the loops: what is left comes to the whole
 
 module _ (c : Calendar) (y : ℕ) (rules : List Rule) (names : List ℕ) where
-  pub moons_turn : (l : List Float) (i n : ℕ) → i < n → n ≤ length l → (s u v : Sheet) → u ≡ moonLine c y rules names (get_or l i nan) s → moonLines c y rules names (slice i n l) s ≡ v → moonLines c y rules names (slice (i + 1) n l) u ≡ v
-  unfolding moonLines
-  moons_turn l i n h k s u v e q = rw (add-one, e) (rw (slice-cons i n l nan h k) at q)
+  pub moons_turn : (l : List Float) (i : ℕ) → i < length l → (s u v : Sheet) → u ≡ moon_line c y rules names (get_or l i nan) s → moon_lines c y rules names (drop i l) s ≡ v → moon_lines c y rules names (drop (i + 1) l) u ≡ v
+  unfolding moon_lines
+  moons_turn l i h s u v e q = rw (add-one, e) (rw (drop-cons l i nan h) at q)
 
-  moons_none : (l : List Float) (n : ℕ) (s : Sheet) → s ≡ moonLines c y rules names (slice n n l) s
-  unfolding moonLines
-  moons_none l n s = rw (slice_empty n l)
-
-  pub moons_end : (l : List Float) (i n : ℕ) (s v : Sheet) → i ≤ n → n ≤ i → moonLines c y rules names (slice i n l) s ≡ v → s ≡ v
-  moons_end l i n s v h k q = let e : i ≡ n = omega arith in moons_none l n s ∙ (rw e at q)
+  pub moons_end : (l : List Float) (i : ℕ) (s v : Sheet) → length l ≤ i → moon_lines c y rules names (drop i l) s ≡ v → s ≡ v
+  unfolding moon_lines
+  moons_end l i s v h q = rw (drop_all i l h) at q
 
 module _ (rules : List Rule) (names : List ℕ) (y : ℕ) where
   pub months_turn : (opened : ℕ → Bool) (j : ℕ) → j < 12 → (s u v : Sheet) → u ≡ month_line rules names y (opened j) (j + 1) s → month_lines rules names y opened j (12 - j) s ≡ v → month_lines rules names y opened (j + 1) (12 - (j + 1)) u ≡ v
@@ -213,29 +201,29 @@ module _ (rules : List Rule) (names : List ℕ) (y : ℕ) where
 -- ---- a year
 
 -- the last of its new moons in a month opens it
-pub places_opened : (c : Calendar) (y : ℕ) {q : YearDays} → days_are q ≡ year_days c y → {a b : ℕ} → q ≡ YD.Days a b → {xs : List Float} → xs ≡ moons_around a b → (places : Months)
+pub places_opened : (c : Calendar) (y : ℕ) {q : Option (ℕ × ℕ)} → q ≡ year_days c y → {a b : ℕ} → q ≡ Some (a, b) → {xs : List Float} → xs ≡ moons_around a b → (places : Months)
     → places ≡ months_by (λ m. last_in c y m xs) → Opened c y places
 places_opened c y e g {xs} f places k j h =
     ap (λ (p : Months). month_at p j) k
     ∙ month_at_law (λ m. last_in c y m xs) j h
     ∙ ap (last_in c y (j + 1)) f
-    ∙ opens kathmandu c y _ (sym (ap days_are g) ∙ e) (j + 1)
+    ∙ opens kathmandu c y _ (sym g ∙ e) (j + 1)
 
-module _ (c : Calendar) (y : ℕ) (rules : List Rule) (names : List ℕ) (l : List ℕ) (p : Page) (q : YearDays) (e : days_are q ≡ year_days c y) where
-  year_is : {d : Option (ℕ × ℕ)} → days_are q ≡ d → daysPage c y rules names d (sheet l p) ≡ year_page c y rules names (sheet l p)
+module _ (c : Calendar) (y : ℕ) (rules : List Rule) (names : List ℕ) (l : List ℕ) (p : Page) (q : Option (ℕ × ℕ)) (e : q ≡ year_days c y) where
+  year_is : {d : Option (ℕ × ℕ)} → q ≡ d → days_page c y rules names d (sheet l p) ≡ year_page c y rules names (sheet l p)
   unfolding year_page
-  year_is g = ap (λ (d : Option (ℕ × ℕ)). daysPage c y rules names d (sheet l p)) (sym g ∙ e)
+  year_is g = ap (λ (d : Option (ℕ × ℕ)). days_page c y rules names d (sheet l p)) (sym g ∙ e)
 
-  pub year_none : q ≡ YD.Nothing → sheet l p ≡ year_page c y rules names (sheet l p)
-  year_none g = year_is (ap days_are g)
+  pub year_none : q ≡ None → sheet l p ≡ year_page c y rules names (sheet l p)
+  year_none g = year_is g
 
-  pub year_whole : {a b : ℕ} → q ≡ YD.Days a b → {xs : List Float} → xs ≡ moons_around a b → (places : Months) → Opened c y places → {o : Page} → o ≡ with_out false p p.out → (u v : Sheet)
-      → u ≡ moonLines c y rules names xs (sheet l o) → v ≡ month_lines rules names y (has_place places) 0 12 u → v ≡ year_page c y rules names (sheet l p)
+  pub year_whole : {a b : ℕ} → q ≡ Some (a, b) → {xs : List Float} → xs ≡ moons_around a b → (places : Months) → Opened c y places → {o : Page} → o ≡ with_out false p p.out → (u v : Sheet)
+      → u ≡ moon_lines c y rules names xs (sheet l o) → v ≡ month_lines rules names y (has_place places) 0 12 u → v ≡ year_page c y rules names (sheet l p)
   year_whole {a} {b} g {xs} f places h {o} z u v m w =
       w
       ∙ months_same rules names y (has_place places) (opened_at c y) (opened_same c y places h) 0 12 (omega arith) u
-      ∙ ap (month_lines rules names y (opened_at c y) 0 12) (m ∙ ap (λ (r : Page). moonLines c y rules names xs (sheet l r)) z ∙ ap (λ (ms : List Float). moonLines c y rules names ms (sheet l (with_out false p p.out))) f)
-      ∙ year_is (ap days_are g)
+      ∙ ap (month_lines rules names y (opened_at c y) 0 12) (m ∙ ap (λ (r : Page). moon_lines c y rules names xs (sheet l r)) z ∙ ap (λ (ms : List Float). moon_lines c y rules names ms (sheet l (with_out false p p.out))) f)
+      ∙ year_is g
 
 -- ---- years, up to the last
 

@@ -1,5 +1,6 @@
 -- What the inner functions ask and promise: a page that is written on, and the new moons of a year's lunar months in twelve places. Assumes nothing.
-use Rattle.std.specs.Prelude.{ℕ, ◌+◌, ◌-◌, ◌<◌, Bool, false, ◌&&◌, ◌≡◌, get_or, Float}
+use Rattle.std.specs.Prelude.{ℕ, ◌+◌, ◌-◌, ◌<◌, Bool, ◌&&◌, ◌≡◌, get_or, Float, None}
+use Rattle.std.specs.Option.{is_some}
 use Rattle.std.specs.Float.Ieee.{eq}
 use Rattle.output.specs.declared.Out.{Out}
 use Rattle.conversion.specs.Calendar.{Calendar, month_ok}
@@ -19,7 +20,7 @@ Opened c y m = (j : ℕ) → j < 12 → month_at m j ≡ opening_in c y (j + 1)
 
 -- place j has a new moon
 abbrev pub has_place : Months → ℕ → Bool
-has_place m j = get_or m.has j false
+has_place m j = is_some (get_or m.opens j None)
 
 -- a new moon is the one at a month's place
 unfoldable pub opens_place : Months → ℕ → Float → Bool

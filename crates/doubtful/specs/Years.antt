@@ -1,8 +1,7 @@
 -- What a BS year puts on a page: its heading once, its doubtful new moons, and its lunar months that no new moon opens. Assumes nothing.
-use Rattle.std.specs.Prelude.{ℕ, zero, suc, ◌+◌, Bool, true, false, cond, List, [], ◌∷◌, ◌++◌, eqb, Float}
-use Rattle.std.proofs.Math.Option.{Option, some, none}
+use Rattle.std.specs.Prelude.{ℕ, zero, suc, ◌+◌, Bool, true, false, cond, List, [], ◌∷◌, ◌++◌, eqb, Float, Err, None, Ok, Option, Some}
 use Rattle.std.specs.Float.Ieee.{eq}
-use Rattle.paper.specs.Answers.{Answer, answered, refused}
+use Rattle.paper.specs.Answers.{Answer}
 use Rattle.output.specs.Gathered.{Gathered, gathered}
 use Rattle.conversion.specs.declared.BsDate.{BsDate}
 use Rattle.conversion.specs.Calendar.{Calendar, month_len}
@@ -36,9 +35,9 @@ under y pieces count s =
 module _ (rules : List Rule) (names : List ℕ) (x : Float) (n : ℕ) (t : BsDate) (opens : Bool) where
   -- after the beginning of a month or before its end it is doubtful, and on a first day if after; far from both, if it opens nothing
   abbrev pub near_line : Option (Bool × ℕ) → Sheet → Sheet
-  near_line (some d) s =
+  near_line (Some d) s =
       under t.year (moment_pieces x n ++ beside_pieces rules names t opens d.0 d.1) (doubted true d.0 opens) s
-  near_line none s = cond opens s (under t.year (moment_pieces x n ++ opening_pieces t opens) (doubted false false opens) s)
+  near_line None s = cond opens s (under t.year (moment_pieces x n ++ opening_pieces t opens) (doubted false false opens) s)
 
   -- a new moon of day n, which is t, in a month of so many days
   unfoldable pub dated_line : ℕ → Sheet → Sheet
@@ -69,38 +68,38 @@ module _ (c : Calendar) (y : ℕ) where
 
   module _ (rules : List Rule) (names : List ℕ) where
     -- a new moon of day n, which is t, by the length of its month
-    abbrev pub lengthLine : Float → ℕ → BsDate → Answer ℕ → Sheet → Sheet
-    lengthLine x n t (answered len) s = dated_line rules names x n t (opens_month t.month x) len s
-    lengthLine x n t (refused k) s = s
+    abbrev pub length_line : Float → ℕ → BsDate → Answer ℕ → Sheet → Sheet
+    length_line x n t (Ok len) s = dated_line rules names x n t (opens_month t.month x) len s
+    length_line x n t (Err k) s = s
 
     -- the same, where the table has its month
-    unfoldable pub placedLine : Float → ℕ → BsDate → Sheet → Sheet
-    placedLine x n t s = lengthLine x n t (month_len c t.year t.month) s
+    unfoldable pub placed_line : Float → ℕ → BsDate → Sheet → Sheet
+    placed_line x n t s = length_line x n t (month_len c t.year t.month) s
 
     -- by its day in Nepal and its date, which may be of another year
     abbrev pub day_line : Float → Option (ℕ × BsDate) → Sheet → Sheet
-    day_line x (some d) s = cond (eqb d.1.year y) (placedLine x d.0 d.1 s) s
-    day_line x none s = s
+    day_line x (Some d) s = cond (eqb d.1.year y) (placed_line x d.0 d.1 s) s
+    day_line x None s = s
 
     -- a new moon, if it is doubtful and its day is one of the year
-    unfoldable pub moonLine : Float → Sheet → Sheet
-    moonLine x s = day_line x (dated_moon c x) s
+    unfoldable pub moon_line : Float → Sheet → Sheet
+    moon_line x s = day_line x (dated_moon c x) s
 
     -- new moons, the first first
-    unfoldable pub moonLines : List Float → Sheet → Sheet
-    moonLines [] s = s
-    moonLines (x ∷ xs) s = moonLines xs (moonLine x s)
+    unfoldable pub moon_lines : List Float → Sheet → Sheet
+    moon_lines [] s = s
+    moon_lines (x ∷ xs) s = moon_lines xs (moon_line x s)
 
     -- from its first day to its last: the new moons around them, and then the lunar months that none opens
-    abbrev pub daysPage : Option (ℕ × ℕ) → Sheet → Sheet
-    daysPage (some d) s =
+    abbrev pub days_page : Option (ℕ × ℕ) → Sheet → Sheet
+    days_page (Some d) s =
         month_lines rules names y opened_at 0 12
-        (moonLines (moons_around d.0 d.1) (record { written = s.written; tally = with_heading false s.tally }))
-    daysPage none s = s
+        (moon_lines (moons_around d.0 d.1) (record { written = s.written; tally = with_heading false s.tally }))
+    days_page None s = s
 
     -- a year of the table; another puts nothing
     unfoldable pub year_page : Sheet → Sheet
-    year_page s = daysPage (year_days c y) s
+    year_page s = days_page (year_days c y) s
 
 -- ---- years
 

@@ -44,6 +44,7 @@ pub fn page_with(o: Out) -> Page
 }
 
 // One more, of far fewer than that.
+#[tactic(auto, unfolding(crate::specs::Tallies::one_more))]
 pub fn more(n: u32) -> u32
     ensures { result ≡ one_more «n» }
 {
@@ -64,10 +65,7 @@ fn written(p: Page, o: Out) -> Page
     Page {
         out: o,
         headed: true,
-        near: p.near,
-        first: p.first,
-        second: p.second,
-        empty: p.empty,
+        ..p
     }
 }
 
@@ -102,15 +100,7 @@ pub fn tallied(p: Page, o: Out, near: bool, first: bool, opens: bool) -> Page
 pub fn unheaded(p: Page) -> Page
     ensures { result ≡ with_out false p p.out }
 {
-    let o = p.out;
-    Page {
-        out: o,
-        headed: false,
-        near: p.near,
-        first: p.first,
-        second: p.second,
-        empty: p.empty,
-    }
+    Page { headed: false, ..p }
 }
 
 // How many new moons are near a boundary.

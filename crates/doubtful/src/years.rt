@@ -3,15 +3,14 @@ ghost use Rattle.std.specs.Prelude.{◌≡◌, true, ◌+◌, ◌-◌, ◌≤◌
 ghost use Rattle.rules.specs.Rules.{rules_of};
 ghost use Rattle.conversion.specs.Flat.{accepted, flat};
 ghost use Rattle.doubtful.specs.Inner.{Opened, has_place, opens_place};
-ghost use Rattle.doubtful.specs.Years.{sheet, dated_line, month_line, month_lines, placedLine, moonLine, moonLines, year_page, years_page};
+ghost use Rattle.doubtful.specs.Years.{sheet, dated_line, month_line, month_lines, placed_line, moon_line, moon_lines, year_page, years_page};
 
 use crate::page;
 use crate::page::Page;
-use conversion::{BsDate, MonthDays, Table};
+use conversion::{BsDate, Table};
 use festivals::months;
-use festivals::months::{Months, YearDays};
+use festivals::months::Months;
 use gregorian::UtDay;
-use notes::{Dated, Nearness};
 
 // A new moon on a date of a month of len days, if it is doubtful.
 fn put_dated_moon(
@@ -29,14 +28,14 @@ fn put_dated_moon(
         (sheet out.old p) }
 {
     match notes::near(x, n, date.day, len) {
-        Nearness::Beside(after, minutes) => {
+        Some((after, minutes)) => {
             let h = page::put_heading(p, out, date.year);
             let g = h.out;
             let o = notes::put_moment(g, out, x, n);
             let b = notes::put_beside(o, out, date, opens, after, minutes, rules, names);
             page::tallied(h, b, true, after, opens)
         }
-        Nearness::Far => {
+        None => {
             if opens {
                 return p;
             }
@@ -53,14 +52,14 @@ fn put_dated_moon(
 fn opens_month(m: Months, month: u16, x: f64) -> bool
     ensures { result ≡ opens_place m month x }
 {
-    if month < 1 {
+    if (month < 1) | (12 < month) {
         return false;
     }
-    if 12 < month {
-        return false;
+    let opens = m.opens[(month - 1) as usize];
+    match opens {
+        Some(opening) => opening == x,
+        None => false,
     }
-    let j = (month - 1) as usize;
-    m.has[j] & (m.moon[j] == x)
 }
 
 // A new moon on a date of the year, if it is doubtful.
@@ -78,16 +77,14 @@ fn put_placed_moon(
     names: &[u8],
 ) -> Page
     requires { (accepted table rows.now ≡ true) × Opened (flat table rows.now) year m }
-    ensures { sheet out.new result ≡ placedLine (flat table rows.now) year (rules_of rules.now) names.now
+    ensures { sheet out.new result ≡ placed_line (flat table rows.now) year (rules_of rules.now) names.now
         x.0 «n» date (sheet out.old p) }
 {
-    match conversion::month_days(table, rows, date.year, date.month) {
-        MonthDays::Days(len) => {
-            let opens = opens_month(m, date.month, x.0);
-            put_dated_moon(p, out, x, n, date, len, opens, rules, names)
-        }
-        MonthDays::Refused(_) => p,
-    }
+    let Ok(len) = conversion::month_days(table, rows, date.year, date.month) else {
+        return p;
+    };
+    let opens = opens_month(m, date.month, x.0);
+    put_dated_moon(p, out, x, n, date, len, opens, rules, names)
 }
 
 // A new moon, if it is doubtful and its day is one of the year.
@@ -103,10 +100,10 @@ fn put_moon(
     names: &[u8],
 ) -> Page
     requires { (accepted table rows.now ≡ true) × Opened (flat table rows.now) year m }
-    ensures { sheet out.new result ≡ moonLine (flat table rows.now) year (rules_of rules.now) names.now
+    ensures { sheet out.new result ≡ moon_line (flat table rows.now) year (rules_of rules.now) names.now
         x.0 (sheet out.old p) }
 {
-    let Dated::On(n, date) = notes::date_of(table, rows, x) else {
+    let Some((n, date)) = notes::date_of(table, rows, x) else {
         return p;
     };
     if date.year != year {
@@ -130,15 +127,12 @@ fn put_moons(
 ) -> Page
     requires rows_value { (accepted table rows.now ≡ true) × Opened (flat table rows.now) year m }
     requires n_bound { (n ≤ 1024) × (length found.now ≡ 1024) }
-    ensures { sheet out.new result ≡ moonLines (flat table rows.now) year (rules_of rules.now) names.now
+    ensures { sheet out.new result ≡ moon_lines (flat table rows.now) year (rules_of rules.now) names.now
         (take «n» found.now) (sheet out.old p) }
 {
     let mut q = p;
-    let mut i = 0;
-    while i < n {
-        let x = UtDay(found[i]);
-        q = put_moon(q, out, table, rows, year, x, m, rules, names);
-        i += 1;
+    for &x in &found[..n] {
+        q = put_moon(q, out, table, rows, year, UtDay(x), m, rules, names);
     }
     q
 }
@@ -166,10 +160,8 @@ fn put_unopened_month(
     Page {
         out: b,
         headed: true,
-        near: h.near,
-        first: h.first,
-        second: h.second,
         empty: page::more(h.empty),
+        ..h
     }
 }
 
@@ -186,12 +178,9 @@ fn put_unopened_months(
         (sheet out.old p) }
 {
     let mut q = p;
-    let mut j: u16 = 0;
-    while j < 12 {
-        let k = j as usize;
-        let opened = m.has[k];
-        q = put_unopened_month(q, out, opened, year, j + 1, rules, names);
-        j += 1;
+    for j in 0..12 {
+        let opened = m.opens[j].is_some();
+        q = put_unopened_month(q, out, opened, year, j as u16 + 1, rules, names);
     }
     q
 }
@@ -211,7 +200,7 @@ pub fn put_year(
         (sheet out.old p) }
 {
     let mut found = [0.0; 1024];
-    let YearDays::Days(first, last) = months::year_days(table, rows, year) else {
+    let Some((first, last)) = months::year_days(table, rows, year) else {
         return p;
     };
     let n = months::new_moons(first, last, &mut found);
@@ -246,14 +235,9 @@ pub fn put_years(
     ensures { sheet out.new result ≡ years_page (flat table rows.now) (rules_of rules.now) names.now first
         (last + 1 - first) (sheet out.old p) }
 {
-    if last < first {
-        return p;
-    }
     let mut q = p;
-    let mut year = first;
-    while year < last {
+    for year in first..=last {
         q = put_year(q, out, table, rows, year, rules, names);
-        year += 1;
     }
-    put_year(q, out, table, rows, year, rules, names)
+    q
 }

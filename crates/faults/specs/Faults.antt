@@ -1,6 +1,7 @@
 -- Where a list of rules first breaks a rule of acceptance: the rules in their order, in each the fields in theirs, then how many there are of each
 -- kind. Assumes nothing.
-use Rattle.std.specs.Prelude.{ℕ, ◌+◌, ◌-◌, ◌%◌, Bool, true, false, cond, ◌||◌, List, [], ◌∷◌, length, ◌==◌, nat_lt}
+use Rattle.std.specs.Prelude.{ℕ, ◌+◌, ◌-◌, ◌%◌, Bool, cond, ◌||◌, List, [], ◌∷◌, length, ◌==◌, nat_lt, Option, Some, None, option_map, find}
+use Rattle.std.specs.Option.{option_or}
 use Rattle.rules.specs.declared.Rule.{Rule}
 use Rattle.rules.specs.Rules.{rules_of}
 use Rattle.faults.specs.declared.first.Field.{Field}
@@ -12,7 +13,6 @@ use Rattle.faults.specs.declared.first.Fault.TheVariants as fault
 
 -- the number that stands there
 abbrev pub number_in : Rule → Field → ℕ
-number_in r field.Nothing = 0
 number_in r field.Kind = r.kind
 number_in r field.Year = r.year
 number_in r field.Month = r.month
@@ -23,7 +23,6 @@ number_in r field.Holiday = r.holiday
 
 -- the smallest
 abbrev pub least : Field → ℕ
-least field.Nothing = 0
 least field.Kind = 1
 least field.Year = 0
 least field.Month = 1
@@ -42,7 +41,6 @@ only_in kind one n other = cond (kind == one) n other
 
 -- the largest; the year of an override is any, so it is its own bound
 abbrev pub most : Rule → Field → ℕ
-most r field.Nothing = 0
 most r field.Kind = 4
 most r field.Year = only_in r.kind 4 r.year 0
 most r field.Month = 12
@@ -57,58 +55,31 @@ breaks r f = nat_lt (number_in r f) (least f) || nat_lt (most r f) (number_in r 
 
 -- ---- a rule
 
--- the first field that breaks a rule
-unfoldable pub first_field : Rule → Field
-first_field r =
-    cond (breaks r field.Kind) field.Kind
-    (cond (breaks r field.Year) field.Year
-    (cond (breaks r field.Month) field.Month
-    (cond (breaks r field.Day) field.Day
-    (cond (breaks r field.Half) field.Half
-    (cond (breaks r field.Kala) field.Kala
-    (cond (breaks r field.Holiday) field.Holiday field.Nothing))))))
+-- the fields in the order in which they are asked
+abbrev pub fields : List Field
+fields = field.Kind ∷ field.Year ∷ field.Month ∷ field.Day ∷ field.Half ∷ field.Kala ∷ field.Holiday ∷ []
 
-abbrev pub is_nothing : Field → Bool
-is_nothing field.Nothing = true
-is_nothing field.Kind = false
-is_nothing field.Year = false
-is_nothing field.Month = false
-is_nothing field.Day = false
-is_nothing field.Half = false
-is_nothing field.Kala = false
-is_nothing field.Holiday = false
+-- the first field that breaks a rule
+unfoldable pub first_field : Rule → Option Field
+first_field r = find (breaks r) fields
 
 -- ---- a list
 
 -- the first of these rules, before which i stand, that breaks one
-unfoldable pub first_from : List Rule → ℕ → Fault
-first_from [] i = fault.Nothing
-first_from (r ∷ rs) i = cond (is_nothing (first_field r)) (first_from rs (i + 1)) (fault.At i (first_field r) r)
+unfoldable pub first_from : List Rule → ℕ → Option Fault
+first_from [] i = None
+first_from (r ∷ rs) i = option_or (option_map (λ f. fault.At i f r) (first_field r)) (first_from rs (i + 1))
 
 -- the first rule of a kind before which as many of that kind stand as are left
-unfoldable pub over_from : ℕ → ℕ → List Rule → ℕ → Fault
-over_from kind left [] i = fault.Nothing
+unfoldable pub over_from : ℕ → ℕ → List Rule → ℕ → Option Fault
+over_from kind left [] i = None
 over_from kind left (r ∷ rs) i =
-    cond (r.kind == kind) (cond (left == 0) (fault.Many i kind) (over_from kind (left - 1) rs (i + 1))) (over_from kind left rs (i + 1))
-
--- a fault, or another where it is none
-abbrev pub or_else : Fault → Fault → Fault
-or_else fault.Nothing other = other
-or_else fault.Uneven other = fault.Uneven
-or_else (fault.At i f r) other = fault.At i f r
-or_else (fault.Many i kind) other = fault.Many i kind
+    cond (r.kind == kind) (cond (left == 0) (Some (fault.Many i kind)) (over_from kind (left - 1) rs (i + 1))) (over_from kind left rs (i + 1))
 
 -- at most 64 rules of each of the kinds 1 to 3, and 128 of kind 4
-unfoldable pub many_of : List Rule → Fault
-many_of rs = or_else (over_from 1 64 rs 0) (or_else (over_from 2 64 rs 0) (or_else (over_from 3 64 rs 0) (over_from 4 128 rs 0)))
+unfoldable pub many_of : List Rule → Option Fault
+many_of rs = option_or (over_from 1 64 rs 0) (option_or (over_from 2 64 rs 0) (option_or (over_from 3 64 rs 0) (over_from 4 128 rs 0)))
 
 -- what a list of numbers breaks first as a list of rules
-unfoldable pub first_fault : List ℕ → Fault
-first_fault xs = cond (length xs % 8 == 0) (or_else (first_from (rules_of xs) 0) (many_of (rules_of xs))) fault.Uneven
-
--- whether nothing is broken
-abbrev pub is_none : Fault → Bool
-is_none fault.Nothing = true
-is_none fault.Uneven = false
-is_none (fault.At i f r) = false
-is_none (fault.Many i kind) = false
+unfoldable pub first_fault : List ℕ → Option Fault
+first_fault xs = cond (length xs % 8 == 0) (option_or (first_from (rules_of xs) 0) (many_of (rules_of xs))) (Some fault.Uneven)

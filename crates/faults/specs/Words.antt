@@ -1,5 +1,5 @@
 -- What a list of rules breaks, in words. Assumes nothing.
-use Rattle.std.specs.Prelude.{ℕ, ◌+◌, ◌%◌, ◌^◌, cond, List, [], ◌++◌, ◌==◌}
+use Rattle.std.specs.Prelude.{ℕ, ◌+◌, ◌%◌, ◌^◌, cond, List, [], ◌++◌, ◌==◌, Option, Some, None}
 use Rattle.text.specs.Digits.{digits}
 use Rattle.text.specs.Quoted.{bytes}
 use Rattle.rules.specs.declared.Rule.{Rule}
@@ -10,8 +10,7 @@ use Rattle.faults.specs.declared.first.Fault.TheVariants as fault
 use Rattle.faults.specs.Faults.{number_in, least, most}
 
 -- the name of a field
-unfoldable pub name_text : Field → List ℕ
-name_text field.Nothing = bytes "no field"
+abbrev pub name_text : Field → List ℕ
 name_text field.Kind = bytes "kind"
 name_text field.Year = bytes "year"
 name_text field.Month = bytes "month"
@@ -60,15 +59,14 @@ many_text i kind =
     ++ bytes ", expected at most 64 of each of the kinds 1 to 3 and 128 of kind 4"))
 
 -- what a list breaks first
-unfoldable pub fault_text : Fault → List ℕ
-fault_text fault.Nothing = bytes "no rule is broken"
-fault_text fault.Uneven = bytes "its numbers are no whole rules"
-fault_text (fault.At i f r) = field_text i f r
-fault_text (fault.Many i kind) = many_text i kind
+unfoldable pub fault_text : Option Fault → List ℕ
+fault_text None = bytes "no rule is broken"
+fault_text (Some fault.Uneven) = bytes "its numbers are no whole rules"
+fault_text (Some (fault.At i f r)) = field_text i f r
+fault_text (Some (fault.Many i kind)) = many_text i kind
 
 -- which of a rule's eight lines a field has
 abbrev pub field_line : Field → ℕ
-field_line field.Nothing = 7
 field_line field.Kind = 1
 field_line field.Year = 2
 field_line field.Month = 3
@@ -86,12 +84,12 @@ unfoldable pub line_text : List ℕ → ℕ → List ℕ
 line_text path n = path ++ (at_text n ++ bytes ": ")
 
 -- the line in which a rule is broken: the field's own, or the first of a rule that is one too many
-unfoldable pub place_text : Fault → List ℕ
-place_text fault.Nothing = []
-place_text fault.Uneven = []
-place_text (fault.At i f r) = at_text (line_of i (field_line f))
-place_text (fault.Many i kind) = at_text (line_of i 1)
+unfoldable pub place_text : Option Fault → List ℕ
+place_text None = []
+place_text (Some fault.Uneven) = []
+place_text (Some (fault.At i f r)) = at_text (line_of i (field_line f))
+place_text (Some (fault.Many i kind)) = at_text (line_of i 1)
 
 -- the refusal behind the name of the file
-unfoldable pub refusal_text : Fault → List ℕ
+unfoldable pub refusal_text : Option Fault → List ℕ
 refusal_text f = place_text f ++ (bytes ": refused with 2: " ++ (fault_text f ++ bytes "\n"))

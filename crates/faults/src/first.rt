@@ -2,14 +2,13 @@
 ghost use Rattle.std.specs.Prelude.{◌≡◌};
 ghost use Rattle.rules.specs.Rules.{rules_of};
 ghost use Rattle.faults.specs.Faults as Faults;
-ghost use Rattle.faults.specs.Faults.{number_in, first_field, is_nothing, first_from, over_from, or_else, many_of, first_fault};
+ghost use Rattle.faults.specs.Faults.{number_in, first_field, first_from, over_from, many_of, first_fault};
 
 use rules::Rule;
 
 // A field of a rule that can break a rule; the name is free and has no place here.
 #[derive(Clone, Copy)]
 pub enum Field {
-    Nothing,
     Kind,
     Year,
     Month,
@@ -19,11 +18,21 @@ pub enum Field {
     Holiday,
 }
 
+// The fields in the order in which they are asked.
+const FIELDS: [Field; 7] = [
+    Field::Kind,
+    Field::Year,
+    Field::Month,
+    Field::Day,
+    Field::Half,
+    Field::Kala,
+    Field::Holiday,
+];
+
 // What a list breaks first: its numbers are no whole rules; a field of the rule that so many come before, with that rule; or the rule with so many
 // before it is one more of its kind than allowed.
 #[derive(Clone, Copy)]
 pub enum Fault {
-    Nothing,
     Uneven,
     At(usize, Field, Rule),
     Many(usize, u16),
@@ -34,7 +43,6 @@ pub fn number_in(r: Rule, f: Field) -> u16
     ensures { result ≡ number_in r f }
 {
     match f {
-        Field::Nothing => 0,
         Field::Kind => r.kind,
         Field::Year => r.year,
         Field::Month => r.month,
@@ -50,7 +58,6 @@ pub fn least(f: Field) -> u16
     ensures { result ≡ Faults.least f }
 {
     match f {
-        Field::Nothing => 0,
         Field::Kind => 1,
         Field::Year => 0,
         Field::Month => 1,
@@ -62,6 +69,7 @@ pub fn least(f: Field) -> u16
 }
 
 // The last day that a rule of a kind may name.
+#[tactic(auto, unfolding(crate::specs::Faults::most_day))]
 fn most_day(kind: u16) -> u16
     ensures { result ≡ Faults.most_day kind }
 {
@@ -75,6 +83,7 @@ fn most_day(kind: u16) -> u16
 }
 
 // A number in rules of one kind, another in the others.
+#[tactic(auto, unfolding(crate::specs::Faults::only_in))]
 fn only_in(kind: u16, one: u16, n: u16, other: u16) -> u16
     ensures { result ≡ Faults.only_in kind one n other }
 {
@@ -86,7 +95,6 @@ pub fn most(r: Rule, f: Field) -> u16
     ensures { result ≡ Faults.most r f }
 {
     match f {
-        Field::Nothing => 0,
         Field::Kind => 4,
         Field::Year => only_in(r.kind, 4, r.year, 0),
         Field::Month => 12,
@@ -106,117 +114,61 @@ fn breaks(r: Rule, f: Field) -> bool
 }
 
 // The first field of a rule that breaks the line of its kind.
-fn first_field(r: Rule) -> Field
+#[tactic(auto, unfolding(crate::specs::Faults::first_field))]
+fn first_field(r: Rule) -> Option<Field>
     ensures { result ≡ first_field r }
 {
-    if breaks(r, Field::Kind) {
-        return Field::Kind;
-    }
-    if breaks(r, Field::Year) {
-        return Field::Year;
-    }
-    if breaks(r, Field::Month) {
-        return Field::Month;
-    }
-    if breaks(r, Field::Day) {
-        return Field::Day;
-    }
-    if breaks(r, Field::Half) {
-        return Field::Half;
-    }
-    if breaks(r, Field::Kala) {
-        return Field::Kala;
-    }
-    if breaks(r, Field::Holiday) {
-        return Field::Holiday;
-    }
-    Field::Nothing
-}
-
-// Whether no field breaks a rule.
-fn is_nothing(f: Field) -> bool
-    ensures { result ≡ is_nothing f }
-{
-    match f {
-        Field::Nothing => true,
-        Field::Kind => false,
-        Field::Year => false,
-        Field::Month => false,
-        Field::Day => false,
-        Field::Half => false,
-        Field::Kala => false,
-        Field::Holiday => false,
-    }
+    FIELDS.iter().copied().find(|f| breaks(r, *f))
 }
 
 // The first rule of the list that breaks the line of its kind.
-fn first_rule(rules: &[u16]) -> Fault
+fn first_rule(rules: &[u16]) -> Option<Fault>
     ensures { result ≡ first_from (rules_of rules.now) 0 }
 {
-    let n = rules.len() / 8;
-    let mut i = 0;
-    while i < n {
+    for i in 0..rules.len() / 8 {
         let r = rules::rule_at(rules, i);
-        let f = first_field(r);
-        if !is_nothing(f) {
-            return Fault::At(i, f, r);
+        if let Some(f) = first_field(r) {
+            return Some(Fault::At(i, f, r));
         }
-        i += 1;
     }
-    Fault::Nothing
+    None
 }
 
 // The rule of a kind that as many of its kind come before as are allowed.
-fn one_over(rules: &[u16], kind: u16, allowed: usize) -> Fault
+fn one_over(rules: &[u16], kind: u16, allowed: usize) -> Option<Fault>
     ensures { result ≡ over_from kind allowed (rules_of rules.now) 0 }
 {
-    let n = rules.len() / 8;
     let mut left = allowed;
-    let mut i = 0;
-    while i < n {
-        let r = rules::rule_at(rules, i);
-        let at = i;
-        i += 1;
-        if r.kind != kind {
+    for i in 0..rules.len() / 8 {
+        if rules::rule_at(rules, i).kind != kind {
             continue;
         }
         if left == 0 {
-            return Fault::Many(at, kind);
+            return Some(Fault::Many(i, kind));
         }
         left -= 1;
     }
-    Fault::Nothing
-}
-
-// A fault, or another where it is none.
-fn or_else(a: Fault, b: Fault) -> Fault
-    ensures { result ≡ or_else a b }
-{
-    match a {
-        Fault::Nothing => b,
-        Fault::Uneven => a,
-        Fault::At(_, _, _) => a,
-        Fault::Many(_, _) => a,
-    }
+    None
 }
 
 // The first rule that is one too many of its kind: of kind 1, then of 2, 3 and 4.
-fn many_of(rules: &[u16]) -> Fault
+#[tactic(auto, unfolding(crate::specs::Faults::many_of))]
+fn many_of(rules: &[u16]) -> Option<Fault>
     ensures { result ≡ many_of (rules_of rules.now) }
 {
-    let computed = or_else(one_over(rules, 3, 64), one_over(rules, 4, 128));
-    or_else(
-        one_over(rules, 1, 64),
-        or_else(one_over(rules, 2, 64), computed),
-    )
+    one_over(rules, 1, 64)
+        .or_else(|| one_over(rules, 2, 64))
+        .or_else(|| one_over(rules, 3, 64))
+        .or_else(|| one_over(rules, 4, 128))
 }
 
 // What a list of rules breaks first: nothing exactly where it is accepted.
-pub fn first_fault(rules: &[u16]) -> Fault
+#[tactic(auto, unfolding(crate::specs::Faults::first_fault))]
+pub fn first_fault(rules: &[u16]) -> Option<Fault>
     ensures { result ≡ first_fault rules.now }
 {
     if rules.len() % 8 != 0 {
-        return Fault::Uneven;
+        return Some(Fault::Uneven);
     }
-    or_else(first_rule(rules), many_of(rules))
+    first_rule(rules).or_else(|| many_of(rules))
 }

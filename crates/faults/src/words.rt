@@ -8,19 +8,18 @@ use crate::first::{Fault, Field, least, most, number_in};
 use rules::Rule;
 use std::num::wrapping_add_u64;
 
-// Writes the name of a field.
-fn put_field_name(out: &mut [u8], at: usize, f: Field) -> usize
-    ensures { Wrote out.old at (name_text f) out.new result }
+// The name of a field.
+fn name(f: Field) -> &'static [u8]
+    ensures { result.now ≡ name_text f }
 {
     match f {
-        Field::Nothing => text::put(out, at, b"no field"),
-        Field::Kind => text::put(out, at, b"kind"),
-        Field::Year => text::put(out, at, b"year"),
-        Field::Month => text::put(out, at, b"month"),
-        Field::Day => text::put(out, at, b"day"),
-        Field::Half => text::put(out, at, b"half"),
-        Field::Kala => text::put(out, at, b"kala"),
-        Field::Holiday => text::put(out, at, b"holiday"),
+        Field::Kind => b"kind",
+        Field::Year => b"year",
+        Field::Month => b"month",
+        Field::Day => b"day",
+        Field::Half => b"half",
+        Field::Kala => b"kala",
+        Field::Holiday => b"holiday",
     }
 }
 
@@ -37,6 +36,7 @@ fn put_range(out: &mut [u8], at: usize, low: u16, high: u16) -> usize
 }
 
 // The number of a line of the file: k lines behind the eight of each rule before.
+#[tactic(auto, unfolding(crate::specs::Words::line_of))]
 pub fn line_of(i: usize, k: u64) -> u64
     ensures { result ≡ line_of i k }
 {
@@ -80,7 +80,7 @@ fn put_field_fault(out: &mut [u8], at: usize, i: usize, f: Field, rule: Rule) ->
     ensures { Wrote out.old at (field_text i f rule) out.new result }
 {
     let a = put_rule_name(out, at, i, rule.kind);
-    let b = put_field_name(out, a, f);
+    let b = text::put(out, a, name(f));
     let c = text::put(out, b, b" is ");
     let d = text::put_decimal(out, c, number_in(rule, f) as u64);
     let e = text::put(out, d, b", expected ");
@@ -102,14 +102,15 @@ fn put_many_fault(out: &mut [u8], at: usize, i: usize, kind: u16) -> usize
 }
 
 // Writes what a list breaks first.
-fn put_fault(out: &mut [u8], at: usize, fault: Fault) -> usize
+#[tactic(auto, unfolding(crate::specs::Words::fault_text))]
+fn put_fault(out: &mut [u8], at: usize, fault: Option<Fault>) -> usize
     ensures { Wrote out.old at (fault_text fault) out.new result }
 {
     match fault {
-        Fault::Nothing => text::put(out, at, b"no rule is broken"),
-        Fault::Uneven => text::put(out, at, b"its numbers are no whole rules"),
-        Fault::At(i, f, rule) => put_field_fault(out, at, i, f, rule),
-        Fault::Many(i, kind) => put_many_fault(out, at, i, kind),
+        None => text::put(out, at, b"no rule is broken"),
+        Some(Fault::Uneven) => text::put(out, at, b"its numbers are no whole rules"),
+        Some(Fault::At(i, f, rule)) => put_field_fault(out, at, i, f, rule),
+        Some(Fault::Many(i, kind)) => put_many_fault(out, at, i, kind),
     }
 }
 
@@ -118,7 +119,6 @@ fn field_line(f: Field) -> u64
     ensures { result ≡ field_line f }
 {
     match f {
-        Field::Nothing => 7,
         Field::Kind => 1,
         Field::Year => 2,
         Field::Month => 3,
@@ -147,19 +147,20 @@ pub fn put_line(out: &mut [u8], at: usize, path: &[u8], n: u64) -> usize
 }
 
 // Writes the line in which a rule is broken: the field's own, or the first of a rule that is one too many.
-fn put_place(out: &mut [u8], at: usize, fault: Fault) -> usize
+#[tactic(auto, unfolding(crate::specs::Words::place_text))]
+fn put_place(out: &mut [u8], at: usize, fault: Option<Fault>) -> usize
     ensures { Wrote out.old at (place_text fault) out.new result }
 {
     match fault {
-        Fault::Nothing => at,
-        Fault::Uneven => at,
-        Fault::At(i, f, _) => put_at(out, at, line_of(i, field_line(f))),
-        Fault::Many(i, _) => put_at(out, at, line_of(i, 1)),
+        None => at,
+        Some(Fault::Uneven) => at,
+        Some(Fault::At(i, f, _)) => put_at(out, at, line_of(i, field_line(f))),
+        Some(Fault::Many(i, _)) => put_at(out, at, line_of(i, 1)),
     }
 }
 
 // Writes the refusal of a list of rules behind the name of its file, with the line and what it breaks first, and answers the place after it.
-pub fn put_refusal(out: &mut [u8], at: usize, fault: Fault) -> usize
+pub fn put_refusal(out: &mut [u8], at: usize, fault: Option<Fault>) -> usize
     ensures { Wrote out.old at (refusal_text fault) out.new result }
 {
     let a = put_place(out, at, fault);

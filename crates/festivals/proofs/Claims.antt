@@ -1,8 +1,8 @@
 -- What a tithi claims, and the first of some days, over any sky. Assumes nothing.
-use Prim.Native.Nat.{ℕ, zero, suc, ◌+◌, ◌-◌, ◌≤◌, ◌<◌}
-use mathlib.Core.Path.{◌≡◌, refl, sym, ap, ◌∙◌}
+use Rattle.std.specs.Prelude.{None, Option, Some}
+use Prim.Native.Nat.{ℕ, suc, ◌+◌, ◌-◌, ◌≤◌, ◌<◌}
+use mathlib.Core.Path.{◌≡◌, refl}
 use mathlib.Core.Bool.{Bool, true, false, cond, ◌&&◌}
-use mathlib.Core.Option.{Option, some, none}
 use native.Mathlib.Omega.{arith}
 use lib.Ieee.{Float}
 use Rattle.panchanga.specs.declared.Kala.{Kala}
@@ -25,32 +25,33 @@ module _ (s : Sky Float) (b e : Float) where
 
 -- ---- the first of some days
 
-from_suc : (p : ℕ → Bool) (n k : ℕ) → first_from p n (suc k) ≡ cond (p n) (some n) (first_from p (n + 1) k)
+from_suc : (p : ℕ → Bool) (n k : ℕ) → first_from p n (suc k) ≡ cond (p n) (Some n) (first_from p (n + 1) k)
 unfolding first_from
 from_suc p n k = refl
 
-from_step : (p : ℕ → Bool) (n k : ℕ) → 0 < k → first_from p n k ≡ cond (p n) (some n) (first_from p (n + 1) (k - 1))
-from_step p n zero h = absurd (omega arith)
-from_step p n (suc k) h =
-    let e : suc k - 1 ≡ k = omega arith in
-    rw e (from_suc p n k)
+-- of the four days from the one before `begin`, those from day n on give the answer
+abbrev pub Left : {I : Type 0} → Sky I → I → I → ℕ → ℕ → ℕ → Type 0
+Left s b e k begin n = first_from (claims s b e k) n (begin + 3 - n) ≡ claimed s b e k begin
 
-pub from_none : (p : ℕ → Bool) (n k : ℕ) (t : Option ℕ) → k ≡ 0 → first_from p n k ≡ t → none ≡ t
-unfolding first_from
-from_none p n k t e q = rw e at q
+module _ {I : Type 0} (s : Sky I) (b e : I) (k begin : ℕ) where
+  pub left_first : 1 ≤ begin → Left s b e k begin (begin - 1)
+  unfolding claimed
+  left_first h = let f : begin + 3 - (begin - 1) ≡ 4 = omega arith in rw f
 
--- a turn of the loop over them
-module _ (p : ℕ → Bool) (n k : ℕ) (t : Option ℕ) (q : first_from p n k ≡ t) (h : 0 < k) (b : Bool) (e : b ≡ p n) where
-  pub from_hit : b ≡ true → some n ≡ t
-  from_hit y = sym (from_step p n k h ∙ ap (λ (z : Bool). cond z (some n) (first_from p (n + 1) (k - 1))) (sym e ∙ y)) ∙ q
+  -- no day is left
+  pub left_none : (n : ℕ) → begin + 3 ≤ n → Left s b e k begin n → None ≡ claimed s b e k begin
+  unfolding first_from
+  left_none n h q = let f : begin + 3 - n ≡ 0 = omega arith in rw f at q
 
-  pub from_miss : b ≡ false → first_from p (n + 1) (k - 1) ≡ t
-  from_miss y = sym (from_step p n k h ∙ ap (λ (z : Bool). cond z (some n) (first_from p (n + 1) (k - 1))) (sym e ∙ y)) ∙ q
+  -- a turn of the loop over them
+  module _ (n : ℕ) (h : n < begin + 3) (q : Left s b e k begin n) (t : Bool) (c : t ≡ claims s b e k n) where
+    step : cond t (Some n) (first_from (claims s b e k) (n + 1) (begin + 3 - (n + 1))) ≡ claimed s b e k begin
+    step =
+        let f : begin + 3 - n ≡ suc (begin + 3 - (n + 1)) = omega arith in
+        rw (c, ← from_suc (claims s b e k) n (begin + 3 - (n + 1)), ← f) q
 
--- of the four days from the one before `begin`, so many are left from day n on, and they give the answer
-abbrev pub Left : {I : Type 0} → Sky I → I → I → ℕ → ℕ → ℕ → ℕ → Type 0
-Left s b e k begin n left = (n + left ≤ begin + 3) × (first_from (claims s b e k) n left ≡ claimed s b e k begin)
+    pub left_hit : t ≡ true → Some n ≡ claimed s b e k begin
+    left_hit y = rw y at step
 
-pub claimed_is : {I : Type 0} (s : Sky I) (b e : I) (k n : ℕ) → first_from (claims s b e k) (n - 1) 4 ≡ claimed s b e k n
-unfolding claimed
-claimed_is s b e k n = refl
+    pub left_miss : t ≡ false → Left s b e k begin (n + 1)
+    left_miss y = rw y at step

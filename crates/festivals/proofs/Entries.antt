@@ -1,25 +1,23 @@
 -- Laws of a rule's day and of the places of a resolved year. Assumes nothing.
+use Rattle.std.specs.Prelude.{Err, None, Ok, Option, Some}
 use Prim.Native.Nat.{ℕ, ◌+◌, ◌-◌, ◌≤◌, ◌<◌}
-use mathlib.Core.Path.{◌≡◌, sym, ap, ◌∙◌}
-use mathlib.Core.Bool.{true, false}
+use mathlib.Core.Path.{◌≡◌, refl, sym, ap, ◌∙◌}
+use mathlib.Core.Bool.{true}
 use mathlib.Core.List.{List}
-use mathlib.Core.Option.{Option, some, none}
 use native.Mathlib.Nat.{sub-zero, zero-add}
 use native.Mathlib.Omega.{arith}
-use borrow.Author.Tests.{eq-eqb, ne_eqb, le-leb, lt-leb}
-use lib.ListN.{get_or, set, replicate}
-use lib.Ieee.{Float, nan}
+use borrow.Author.Tests.{eq-eqb, ne_eqb}
+use lib.ListN.{set, replicate}
+use lib.Ieee.{Float}
 use Rattle.paper.specs.declared.Refusal.{Refusal}
-use Rattle.paper.specs.Answers.{answered, refused}
 use Rattle.conversion.specs.declared.BsDate.{BsDate}
 use Rattle.conversion.specs.Calendar.{Calendar, from_day}
 use Rattle.rules.specs.declared.Rule.{Rule}
-use Rattle.rules.specs.declared.lists.Resolved.{Resolved}
 use Rattle.rules.specs.Rules.{rule_at, rules_from, rule_good, count_kind}
 use Rattle.rules.specs.Sky.{Sky}
-use Rattle.rules.specs.Days.{next, festival_day}
-use Rattle.rules.specs.Festivals.{dated, tithi, beginning, opening, rule_day, in_table, entry}
-use Rattle.rules.specs.Resolved.{put_entry, filled, resolved, years_for}
+use Rattle.rules.specs.Days.{next}
+use Rattle.rules.specs.Festivals.{beginning, opening, rule_day, dated, in_table, entry}
+use Rattle.rules.specs.Resolved.{put_entry, filled, resolved}
 use Rattle.rules.proofs.Walk.{rest, left, left_none, count_turn, count-skip}
 use Rattle.rules.proofs.Accepted.{computed_of}
 use Rattle.rules.proofs.Used.{fill_none, fill_not, fill_is}
@@ -29,7 +27,7 @@ use Rattle.festivals.proofs.Moons.{month_at_law}
 
 -- ---- where a tithi begins
 module _ {I : Type 0} (s : Sky I) (t : ℕ) (x : I) where
-  pub begins_at_moon : t ≡ 1 → some x ≡ beginning s t x
+  pub begins_at_moon : t ≡ 1 → Some x ≡ beginning s t x
   unfolding beginning
   begins_at_moon e = rw (eq-eqb t 1 e)
 
@@ -38,44 +36,47 @@ module _ {I : Type 0} (s : Sky I) (t : ℕ) (x : I) where
   begins_after o e q = rw (ne_eqb t 1 e) q
 
 -- ---- the day of a rule, by the twelve places
-module _ (s : Sky Float) (r : Rule) (m : Months) (j : ℕ) where
-  pub day_moonless : get_or m.has j false ≡ false → none ≡ day_by s r (month_at m j)
-  unfolding day_by month_at next
-  day_moonless h = rw h
-
-  module _ (h : get_or m.has j false ≡ true) where
-    pub day-unstarted : none ≡ beginning s (tithi r) (get_or m.moon j nan) → none ≡ day_by s r (month_at m j)
-    unfolding day_by month_at next
-    day-unstarted q = rw (h, ← q)
-
-    pub day-started : (b : Float) → some b ≡ beginning s (tithi r) (get_or m.moon j nan) → (d : Option ℕ) → d ≡ festival_day s (tithi r) r.kala b → d ≡ day_by s r (month_at m j)
-    unfolding day_by month_at next
-    day-started b p d q = rw (h, ← p) q
-
 rule_day_by : {I : Type 0} (s : Sky I) (c : Calendar) (y : ℕ) (r : Rule) (o : Option I) (d : Option ℕ) → o ≡ opening s c y r.month → d ≡ day_by s r o → rule_day s c y r ≡ d
 unfolding rule_day day_by
 rule_day_by s c y r o d e q = sym (q ∙ ap (day_by s r) e)
 
 -- from the lunar months of the year
-pub rule_day_at : (s : Sky Float) (c : Calendar) (y : ℕ) (r : Rule) (m : Months) (d : Option ℕ) → rule_good r ≡ true → r.kind ≡ 3 → m ≡ months_by (opening s c y) → d ≡ day_by s r (month_at m (r.month - 1)) → rule_day s c y r ≡ d
+rule_day_at : (s : Sky Float) (c : Calendar) (y : ℕ) (r : Rule) (m : Months) (d : Option ℕ) → rule_good r ≡ true → r.kind ≡ 3 → m ≡ months_by (opening s c y) → d ≡ day_by s r (month_at m (r.month - 1)) → rule_day s c y r ≡ d
 rule_day_at s c y r m d g k h q =
     let f = computed_of r g k in
     let e : r.month - 1 + 1 ≡ r.month = omega (arith, f.month_from) in
     rule_day_by s c y r _ d (ap (λ (x : Months). month_at x (r.month - 1)) h ∙ month_at_law (opening s c y) (r.month - 1) (omega (arith, f.month_to)) ∙ ap (opening s c y) e) q
 
--- ---- its entry
-module _ {I : Type 0} (s : Sky I) (c : Calendar) (y : ℕ) (r : Rule) (d : List ℕ) (j : ℕ) where
-  pub entry_nothing : rule_day s c y r ≡ none → d ≡ put_entry d j (entry s c y r)
-  unfolding put_entry entry next
-  entry_nothing e = rw e
+-- its entry, by the lunar months of the year
+pub entry_by : (s : Sky Float) (c : Calendar) (y : ℕ) (r : Rule) (m : Months) (o : Option ℕ) → rule_good r ≡ true → r.kind ≡ 3 → m ≡ months_by (opening s c y)
+    → o ≡ next (day_by s r (month_at m (r.month - 1))) (in_table c) → o ≡ entry s c y r
+unfolding entry
+entry_by s c y r m o g k h q =
+    let e = rule_day_at s c y r m (day_by s r (month_at m (r.month - 1))) g k h refl in
+    q ∙ ap (λ (d : Option ℕ). next d (in_table c)) (sym e)
 
-  pub entry_outside : (n : ℕ) (k : Refusal) → rule_day s c y r ≡ some n → from_day c n ≡ refused k → d ≡ put_entry d j (entry s c y r)
-  unfolding put_entry entry next in_table dated
-  entry_outside n k e q = rw (e, q)
+-- what a day gives: nothing where there is none or the table has not its date
+module _ (c : Calendar) (o : Option ℕ) where
+  pub entry_dayless : None ≡ o → None ≡ next o (in_table c)
+  unfolding next
+  entry_dayless e = rw (← e)
 
-  pub entry_here : (n : ℕ) (t : BsDate) → rule_day s c y r ≡ some n → from_day c n ≡ answered t → set d j n ≡ put_entry d j (entry s c y r)
-  unfolding put_entry entry next in_table dated
-  entry_here n t e q = rw (e, q)
+  module _ (n : ℕ) (e : Some n ≡ o) where
+    pub entry_outside : {k : Refusal} → Err k ≡ from_day c n → None ≡ next o (in_table c)
+    unfolding next in_table dated
+    entry_outside f = rw (← e, ← f)
+
+    pub entry_inside : {t : BsDate} → Ok t ≡ from_day c n → Some n ≡ next o (in_table c)
+    unfolding next in_table dated
+    entry_inside f = rw (← e, ← f)
+
+pub put_none : (d : List ℕ) (j : ℕ) (o : Option ℕ) → None ≡ o → d ≡ put_entry d j o
+unfolding put_entry
+put_none d j o e = rw (← e)
+
+pub put_some : (d : List ℕ) (j n : ℕ) (o : Option ℕ) → Some n ≡ o → set d j n ≡ put_entry d j o
+unfolding put_entry
+put_some d j n o e = rw (← e)
 
 -- ---- a turn of the loop over the rules
 module _ {I : Type 0} (s : Sky I) (c : Calendar) (y : ℕ) (xs : List ℕ) (n : ℕ) where
@@ -113,17 +114,3 @@ module _ {I : Type 0} (s : Sky I) (c : Calendar) (y : ℕ) (xs : List ℕ) (n : 
 
   pub entered_all : (i : ℕ) (d : List ℕ) (j : ℕ) → n ≤ i → Entered d j i → d ≡ resolved s c y (rules_from xs 0 n)
   entered_all i d j h v = sym (fill_none s c y d j) ∙ (rw (left_none xs i n h) at v.2)
-
--- ---- the two years of a month
-module _ {I : Type 0} (s : Sky I) (c : Calendar) (rs : List Rule) (y m : ℕ) where
-  pub late_before : (b : Resolved) → 2 < m → b.days ≡ replicate 64 0 → b ≡ (years_for s c rs y m).before
-  unfolding years_for
-  late_before b h e = rw (lt-leb m 2 h, ← e)
-
-  pub early_before : (b : Resolved) (k : ℕ) → m ≤ 2 → k ≡ y - 1 → b.days ≡ resolved s c k rs → b ≡ (years_for s c rs y m).before
-  unfolding years_for
-  early_before b k h q e = rw (le-leb m 2 h, ← q, ← e)
-
-  pub both_years : (b t : Resolved) → b ≡ (years_for s c rs y m).before → t.days ≡ resolved s c y rs → record { before = b; this = t } ≡ years_for s c rs y m
-  unfolding years_for
-  both_years b t p q = rw (p, ← q)

@@ -1,8 +1,7 @@
+pub mod Oks
 pub mod Kalas
 pub mod Nepal
 pub mod Claims
-pub mod Asked
-pub mod Dates
 pub mod Placed
 pub mod TableYears
 pub mod Moons

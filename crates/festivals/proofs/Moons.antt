@@ -1,18 +1,19 @@
 -- Laws of the twelve places: what a turn of the loop does, and what the places hold at the end. Assumes nothing.
+use Rattle.std.specs.Prelude.{Err, None, Ok, Option, Some}
 use mathlib.Core.Path.{◌≡◌, refl, sym, ap, ◌∙◌}
 use mathlib.Core.Bool.{Bool, true, false, cond, ◌&&◌}
 use mathlib.Core.List.{List, [], ◌∷◌, ◌++◌}
-use mathlib.Core.Option.{Option, some, none}
 use Prim.Native.Nat.{ℕ, zero, suc, ◌+◌, ◌-◌, ◌≤◌, ◌<◌}
 use native.Mathlib.Numerals.{add-one}
 use native.Mathlib.Omega.{arith}
 use borrow.Author.Tests.{eq-eqb, ne_eqb, eqb-true, eqb-false}
 use lib.Dec.{eqb}
 use lib.ListN.{length, get_or, set, take, drop, replicate, length-set}
-use lib.Seq.{slice, slice-cons, slice_empty, get_or-set_same, get_or-set_other, ext_get_or}
+use lib.Seq.{drop-cons, get_or-set_same, get_or-set_other, ext_get_or}
 use lib.Ieee.{Float, nan}
+use Rattle.std.proofs.lemmas.List.{drop_all}
 use Rattle.paper.specs.declared.Refusal.{Refusal}
-use Rattle.paper.specs.Answers.{Answer, answered, refused}
+use Rattle.paper.specs.Answers.{Answer}
 use Rattle.paper.specs.Floats.{◌⊕◌, ◌⊖◌, dec}
 use Rattle.gregorian.specs.Instants.{zero_of}
 use Rattle.conversion.specs.declared.BsDate.{BsDate}
@@ -27,20 +28,20 @@ use Rattle.rules.specs.Days.{holds}
 use Rattle.rules.specs.Festivals.{dated, last_of, in_month}
 use Rattle.festivals.specs.declared.months.Months.{Months}
 use Rattle.festivals.specs.Kathmandu.{moons_around}
-use Rattle.festivals.specs.Months.{each, moon_of, is_moon, months_by, month_at}
+use Rattle.festivals.specs.Months.{each, months_by, month_at}
 
 -- ---- the loop's shape
 unfoldable pub put : Months → ℕ → Float → Months
-put m j x = record { moon = set m.moon j x; has = set m.has j true }
+put m j x = record { opens = set m.opens j (Some x) }
 
 -- a new moon takes its month's place, over an earlier one
 unfoldable pub place_date : ℕ → Months → Float → Answer BsDate → Months
-place_date y m x (answered t) = cond (eqb t.year y) (put m (t.month - 1) x) m
-place_date y m x (refused k) = m
+place_date y m x (Ok t) = cond (eqb t.year y) (put m (t.month - 1) x) m
+place_date y m x (Err k) = m
 
 unfoldable pub place_day : Calendar → ℕ → Months → Float → Option ℕ → Months
-place_day c y m x (some n) = place_date y m x (from_day c n)
-place_day c y m x none = m
+place_day c y m x (Some n) = place_date y m x (from_day c n)
+place_day c y m x None = m
 
 module _ (s : Sky Float) (c : Calendar) (y : ℕ) where
   unfoldable pub place : Months → Float → Months
@@ -52,34 +53,30 @@ module _ (s : Sky Float) (c : Calendar) (y : ℕ) where
 
 -- ---- a turn
 module _ (s : Sky Float) (c : Calendar) (y : ℕ) where
-  pub placed_none : (l : List Float) (n : ℕ) (m : Months) → placed s c y (slice n n l) m ≡ m
+  -- after i of the new moons the months stand placed: the rest of them leads to the whole
+  abbrev pub Stands : List Float → Months → Months → ℕ → Type 0
+  Stands xs m₀ m i = placed s c y (drop i xs) m ≡ placed s c y xs m₀
+
+  pub stands_turn : (xs : List Float) (m₀ m m' : Months) (i : ℕ) → i < length xs → m' ≡ place s c y m (get_or xs i nan) → Stands xs m₀ m i → Stands xs m₀ m' (i + 1)
   unfolding placed
-  placed_none l n m = rw (slice_empty n l)
+  stands_turn xs m₀ m m' i h e q = rw (add-one, e) (rw (drop-cons xs i nan h) at q)
 
-  -- a turn of the loop
-  turn : (l : List Float) (i n : ℕ) → i < n → n ≤ length l → (m m' t : Months) → m' ≡ place s c y m (get_or l i nan) → placed s c y (slice i n l) m ≡ t → placed s c y (slice (i + 1) n l) m' ≡ t
+  pub stands_all : (xs : List Float) (m₀ m : Months) (i : ℕ) → length xs ≤ i → Stands xs m₀ m i → m ≡ placed s c y xs m₀
   unfolding placed
-  turn l i n h k m m' t e q = rw (add-one, e) (rw (slice-cons i n l nan h k) at q)
-
-  -- after i of the n new moons the months stand placed: the rest of them leads to the whole
-  abbrev pub Stands : List Float → ℕ → Months → Months → ℕ → Type 0
-  Stands found n m₀ m i = (i ≤ n) × (placed s c y (slice i n found) m ≡ placed s c y (take n found) m₀)
-
-  pub stands_turn : (found : List Float) (n : ℕ) (m₀ m m' : Months) (i : ℕ) → i < n → n ≤ length found → m' ≡ place s c y m (get_or found i nan) → Stands found n m₀ m i → Stands found n m₀ m' (i + 1)
-  stands_turn found n m₀ m m' i h k e v = (omega arith, turn found i n h k m m' _ e v.1)
+  stands_all xs m₀ m i h q = rw (drop_all i xs h) at q
 
   module _ (m : Months) (x : Float) where
     -- no day, a day outside the table, a day of another year, a day of the year
-    pub place-nothing : none ≡ s.day_of x → m ≡ place s c y m x
+    pub place-nothing : None ≡ s.day_of x → m ≡ place s c y m x
     unfolding place place_day
     place-nothing e = rw (← e)
 
-    module _ (k : ℕ) (e : some k ≡ s.day_of x) where
-      pub place-outside : (j : Refusal) → from_day c k ≡ refused j → m ≡ place s c y m x
+    module _ (k : ℕ) (e : Some k ≡ s.day_of x) where
+      pub place-outside : (j : Refusal) → from_day c k ≡ Err j → m ≡ place s c y m x
       unfolding place place_day place_date
       place-outside j f = rw (← e, f)
 
-      module _ (t : BsDate) (f : from_day c k ≡ answered t) where
+      module _ (t : BsDate) (f : from_day c k ≡ Ok t) where
         pub place_other : (t.year ≡ y → ⊥) → m ≡ place s c y m x
         unfolding place place_day place_date
         place_other z = rw (← e, f, ne_eqb t.year y z)
@@ -116,40 +113,29 @@ module _ {A : Type 0} (f g : ℕ → A) (v d : A) (j : ℕ) (e : (m : ℕ) → g
       let l : i < 12 = omega (arith, length-set (each f 1 12) j v, each_length f 1 12) in
       set_at i l (eqb (j + 1) (1 + i)) refl ∙ sym (each_at g 1 12 i d l ∙ e (1 + i)))
 
-moon_over : (b : Bool) (x : Float) (o : Option Float) → moon_of (cond b (some x) o) ≡ cond b x (moon_of o)
-moon_over true x o = refl
-moon_over false x o = refl
-
-is_over : (b : Bool) (x : Float) (o : Option Float) → is_moon (cond b (some x) o) ≡ cond b true (is_moon o)
-is_over true x o = refl
-is_over false x o = refl
-
 module _ (f : ℕ → Option Float) (x : Float) where
-  put_over : (j : ℕ) → put (months_by f) j x ≡ months_by (λ m. cond (eqb (j + 1) m) (some x) (f m))
+  put_over : (j : ℕ) → put (months_by f) j x ≡ months_by (λ m. cond (eqb (j + 1) m) (Some x) (f m))
   unfolding put months_by
   put_over j =
-      rw (
-        set_each (λ m. moon_of (f m)) (λ m. moon_of (cond (eqb (j + 1) m) (some x) (f m))) x nan j (λ m. moon_over (eqb (j + 1) m) x (f m)),
-        set_each (λ m. is_moon (f m)) (λ m. is_moon (cond (eqb (j + 1) m) (some x) (f m))) true false j (λ m. is_over (eqb (j + 1) m) x (f m)),
-      )
+      rw (set_each f (λ m. cond (eqb (j + 1) m) (Some x) (f m)) (Some x) None j (λ m. refl))
 
-  date_over : (y : ℕ) (a : Answer BsDate) → ((t : BsDate) → a ≡ answered t → 1 ≤ t.month)
-      → place_date y (months_by f) x a ≡ months_by (λ m. cond (dated a (λ t. eqb t.year y && eqb t.month m)) (some x) (f m))
+  date_over : (y : ℕ) (a : Answer BsDate) → ((t : BsDate) → a ≡ Ok t → 1 ≤ t.month)
+      → place_date y (months_by f) x a ≡ months_by (λ m. cond (dated a (λ t. eqb t.year y && eqb t.month m)) (Some x) (f m))
   unfolding place_date dated
-  date_over y (refused k) h = refl
-  date_over y (answered t) h = go (eqb t.year y)
+  date_over y (Err k) h = refl
+  date_over y (Ok t) h = go (eqb t.year y)
     where
-      go : (b : Bool) → cond b (put (months_by f) (t.month - 1) x) (months_by f) ≡ months_by (λ m. cond (b && eqb t.month m) (some x) (f m))
+      go : (b : Bool) → cond b (put (months_by f) (t.month - 1) x) (months_by f) ≡ months_by (λ m. cond (b && eqb t.month m) (Some x) (f m))
       go true =
           let e : t.month - 1 + 1 ≡ t.month = omega (arith, h t refl) in
-          put_over (t.month - 1) ∙ ap (λ (i : ℕ). months_by (λ m. cond (eqb i m) (some x) (f m))) e
+          put_over (t.month - 1) ∙ ap (λ (i : ℕ). months_by (λ m. cond (eqb i m) (Some x) (f m))) e
       go false = refl
 
   day_over : (c : Calendar) (y : ℕ) (o : Option ℕ)
-      → place_day c y (months_by f) x o ≡ months_by (λ m. cond (holds o (λ n. dated (from_day c n) (λ t. eqb t.year y && eqb t.month m))) (some x) (f m))
+      → place_day c y (months_by f) x o ≡ months_by (λ m. cond (holds o (λ n. dated (from_day c n) (λ t. eqb t.year y && eqb t.month m))) (Some x) (f m))
   unfolding place_day holds
-  day_over c y none = refl
-  day_over c y (some n) = date_over y (from_day c n) (λ t q. (month_of_law c n t q).0)
+  day_over c y None = refl
+  day_over c y (Some n) = date_over y (from_day c n) (λ t q. (month_of_law c n t q).0)
 
 module _ (s : Sky Float) (c : Calendar) (y : ℕ) where
   -- a month's place holds the last that lies in it
@@ -159,24 +145,18 @@ module _ (s : Sky Float) (c : Calendar) (y : ℕ) where
   placed_over (x ∷ xs) f = ap (placed s c y xs) (day_over f x c y (s.day_of x)) ∙ placed_over xs _
 
   -- from no new moon on
-  pub placed_first : (xs : List Float) (m : Months) → m ≡ months_by (λ m. none) → placed s c y xs m ≡ months_by (λ m. last_of (in_month s c y m) none xs)
-  placed_first xs m e = ap (placed s c y xs) e ∙ placed_over xs (λ m. none)
+  pub placed_first : (xs : List Float) (m : Months) → m ≡ months_by (λ m. None) → placed s c y xs m ≡ months_by (λ m. last_of (in_month s c y m) None xs)
+  placed_first xs m e = ap (placed s c y xs) e ∙ placed_over xs (λ m. None)
 
 -- no month is open yet
-pub none_yet : record { moon = replicate 12 (dec 0 0); has = replicate 12 false } ≡ months_by (λ m. none)
+pub none_yet : record { opens = replicate 12 None } ≡ months_by (λ m. None)
 unfolding months_by each
 none_yet = refl
 
 -- the new moon of a place is the one that opens its month
-read_back_law : (o : Option Float) → cond (is_moon o) (some (moon_of o)) none ≡ o
-read_back_law (some x) = refl
-read_back_law none = refl
-
 pub month_at_law : (f : ℕ → Option Float) (j : ℕ) → j < 12 → month_at (months_by f) j ≡ f (j + 1)
 unfolding month_at months_by
-month_at_law f j h =
-    rw (each_at (λ m. is_moon (f m)) 1 12 j false h, each_at (λ m. moon_of (f m)) 1 12 j nan h)
-    (read_back_law (f (1 + j)) ∙ ap f (let e : 1 + j ≡ j + 1 = omega arith in e))
+month_at_law f j h = each_at f 1 12 j None h ∙ ap f (let e : 1 + j ≡ j + 1 = omega arith in e)
 
 -- ---- the new moons that a walk wrote to the front of a list of 1,024 places
 pub moons_front : (a b : ℕ) (d x : List Float) (n : ℕ) → n ≡ length (moons_around a b) → x ≡ moons_around a b ++ drop n d → length d ≡ 1024

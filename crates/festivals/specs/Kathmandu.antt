@@ -1,8 +1,8 @@
 -- The sky over Kathmandu, as the rules ask it. Assumes nothing.
-use Rattle.std.specs.Prelude.{ℕ, zero, suc, ◌+◌, Bool, true, false, List, Float}
-use Rattle.std.proofs.Math.Option.{Option, some, none}
+use Rattle.std.specs.Prelude.{ℕ, zero, suc, ◌+◌, Bool, true, false, List, Float, None, Option}
 use Rattle.std.specs.Float.Ieee.{le, lt}
-use Rattle.paper.specs.Answers.{Answer, answered, refused, then}
+use Rattle.std.specs.Result.{result_ok}
+use Rattle.paper.specs.Answers.{then}
 use Rattle.paper.specs.Floats.{◌⊕◌, ◌⊖◌, dec}
 use Rattle.gregorian.specs.Answers.{number_answer}
 use Rattle.gregorian.specs.Instants.{zero_of, npt_answer}
@@ -49,14 +49,9 @@ is_begins Begins = true
 
 -- ---- what the sky says
 
--- a value that was answered
-unfoldable pub known : {A : Type 0} → Answer A → Option A
-known (answered x) = some x
-known (refused k) = none
-
 -- the day in Nepal at an instant, by its number
 unfoldable pub nepal_day : Float → Option ℕ
-nepal_day x = known (then (npt_answer x) number_answer)
+nepal_day x = result_ok (then (npt_answer x) number_answer)
 
 -- the new moons, where tithi 1 begins, from 35 days before 0h of day a to 5 days after 0h of day b
 unfoldable pub moons_around : ℕ → ℕ → List Float
@@ -99,7 +94,7 @@ kathmandu =
 
 -- the last of some new moons in month m of year y
 abbrev pub last_in : Calendar → ℕ → ℕ → List Float → Option Float
-last_in c y m xs = last_of (in_month kathmandu c y m) none xs
+last_in c y m xs = last_of (in_month kathmandu c y m) None xs
 
 -- the new moon that opens lunar month m of year y
 abbrev pub opening_in : Calendar → ℕ → ℕ → Option Float

@@ -1,38 +1,53 @@
 -- How the numbers of a line are read: each turn of the loops over plain variables. Assumes nothing.
+use Rattle.std.specs.Prelude.{Ok}
 use Prim.Native.Nat.{ℕ, zero, suc, ◌+◌, ◌-◌, ◌≤◌, ◌<◌}
-use mathlib.Core.Path.{◌≡◌, refl, ap}
+use mathlib.Core.Path.{◌≡◌, refl, sym, ap, ◌∙◌}
 use mathlib.Core.Bool.{Bool, true, false, cond}
-use mathlib.Core.List.{List, []}
+use mathlib.Core.List.{List, [], ◌∷◌}
 use mathlib.Core.Logic.{⊎_elim}
+use native.Mathlib.Numerals.{one-add}
 use native.Mathlib.Omega.{arith}
 use borrow.Author.Tests.{eq-eqb, ne_eqb, eqb-true}
 use lib.Dec.{eqb}
-use lib.ListN.{length, get_or, take, drop, set}
-use lib.Seq.{sets}
+use lib.ListN.{length, take, drop, length-drop, set}
+use lib.Seq.{sets, take_all, drop-drop}
+use Rattle.std.specs.Bool.{◌==◌}
+use Rattle.std.specs.List.{prefix_len, take_while}
+use Rattle.std.proofs.lemmas.List.{length-take}
+use Rattle.std.proofs.lemmas.List.Folds.{length-prefix_len}
 use Rattle.paper.proofs.Stores.{front_of}
 use Rattle.paper.proofs.Tests.{split}
 use Rattle.text.specs.Digits.{Got, got, no, found, decimal}
-use Rattle.text.proofs.Texts.{cut, over}
 use Rattle.text.proofs.Runs.{never}
 use Rattle.text.proofs.Decimals.{digits_decimal}
 use Rattle.fields.specs.declared.row.Judged.TheVariants as judged
-use Rattle.fields.specs.declared.row.Form.{Form}
-use Rattle.fields.specs.declared.row.Form.TheVariants.{Numbers, NoNumber, TooMany}
+use Rattle.fields.specs.declared.row.Unread.TheVariants.{NoNumber, TooMany}
 use Rattle.fields.specs.declared.row.Row.{Row}
 use Rattle.fields.specs.Line.{skip, ends, word_ends, number, Words, are, no_number, too_many, front, words_to, numbers_of, words_of, zeros, faulty, packed, row_of, counted_as, judged_as}
 
 -- ---- spaces
 
-module _ (s : List ℕ) (i : ℕ) where
-  pub skip_over : length s ≤ i → drop i s ≡ skip (drop i s)
-  skip_over h = rw (over s i h)
+skip_spaces : (s : List ℕ) → drop (prefix_len (λ b. b == 32) s) s ≡ skip s
+skip_spaces [] = refl
+skip_spaces (b ∷ s) = go (b == 32) (skip_spaces s)
+  where
+    go : (f : Bool) → drop (prefix_len (λ b. b == 32) s) s ≡ skip s
+        → drop (cond f (1 + prefix_len (λ b. b == 32) s) 0) (b ∷ s) ≡ cond f (skip s) (b ∷ s)
+    go true e = rw one-add e
+    go false e = refl
 
-  module _ (h : i < length s) where
-    pub skip_stop : (get_or s i 0 ≡ 32 → ⊥) → drop i s ≡ skip (drop i s)
-    skip_stop n = rw (cut s i h, ne_eqb (get_or s i 0) 32 n)
-
-    pub skip-turn : get_or s i 0 ≡ 32 → skip (drop (i + 1) s) ≡ skip (drop i s)
-    skip-turn e = rw (cut s i h, eq-eqb (get_or s i 0) 32 e)
+-- so many spaces stand from a place on, and are skipped
+pub spaces_skipped : (s : List ℕ) (from n : ℕ) → from ≤ length s → n ≡ length (take_while (λ b. b == 32) (take (length s - from) (drop from s)))
+    → (from + n ≤ length s) × (drop (from + n) s ≡ skip (drop from s))
+spaces_skipped s from n h e =
+    let t = drop from s in
+    let m : length t ≡ length s - from = length-drop from s in
+    let w : take (length s - from) t ≡ t = take_all (length s - from) t (omega arith) in
+    let k : n ≡ prefix_len (λ b. b == 32) t = rw w at e ∙ length-prefix_len (λ (b : ℕ). b == 32) t in
+    let l = length-take n t in (
+      omega (arith, e, length-take (prefix_len (λ (b : ℕ). b == 32) (take (length s - from) t)) (take (length s - from) t), length-take (length s - from) t),
+      sym (drop-drop n from s) ∙ ap (λ (i : ℕ). drop i t) k ∙ skip_spaces t,
+    )
 
 -- ---- a number
 
@@ -99,7 +114,7 @@ unfolding row_of
 left_first s at e = ap (λ (t : List ℕ). packed zeros 0 (words_to 13 t)) e
 
 module _ (s values : List ℕ) (k at : ℕ) where
-  pub left_over : ends (drop at s) ≡ true → record { form = Numbers k; values = values } ≡ Left s values k at
+  pub left_over : ends (drop at s) ≡ true → record { form = Ok k; values = values } ≡ Left s values k at
   left_over e =
       let z : k + 0 ≡ k = omega arith in
       rw (words_over (drop at s) (13 - k) e, z)
@@ -126,19 +141,19 @@ below_thirteen k h n = ⊎_elim (λ l. absurd (n (omega arith))) (λ l. l) (spli
 
 -- ---- what a line is
 
-module _ (wanted : ℕ) (f : Form) {k : ℕ} (e : f ≡ Numbers k) where
-  pub judged_blank : k ≡ 0 → judged.Blank ≡ judged_as wanted f
+module _ (wanted k : ℕ) where
+  pub judged_blank : k ≡ 0 → judged.Blank ≡ counted_as wanted k
   unfolding counted_as
-  judged_blank z = rw (e, eq-eqb k 0 z)
+  judged_blank z = rw (eq-eqb k 0 z)
 
   module _ (z : k ≡ 0 → ⊥) where
-    pub judged-good : k ≡ wanted → judged.Good ≡ judged_as wanted f
+    pub judged-good : k ≡ wanted → judged.Good ≡ counted_as wanted k
     unfolding counted_as
-    judged-good w = rw (e, ne_eqb k 0 z, eq-eqb k wanted w)
+    judged-good w = rw (ne_eqb k 0 z, eq-eqb k wanted w)
 
-    pub judged-other : (k ≡ wanted → ⊥) → judged.OtherCount ≡ judged_as wanted f
+    pub judged-other : (k ≡ wanted → ⊥) → judged.OtherCount ≡ counted_as wanted k
     unfolding counted_as
-    judged-other w = rw (e, ne_eqb k 0 z, ne_eqb k wanted w)
+    judged-other w = rw (ne_eqb k 0 z, ne_eqb k wanted w)
 
 -- ---- the numbers that were wanted
 

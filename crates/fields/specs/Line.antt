@@ -1,10 +1,9 @@
 -- A line of a year table, without its line feed: numbers up to 65,535 with spaces (32) around them, and a comment from a # (35) to the end. Assumes nothing.
-use Rattle.std.specs.Prelude.{ℕ, zero, suc, ◌+◌, Bool, cond, ◌||◌, List, [], ◌∷◌, eqb, length, replicate}
-use Rattle.std.proofs.Math.Option.{Option, some, none}
+use Rattle.std.specs.Prelude.{ℕ, zero, suc, ◌+◌, Bool, cond, ◌||◌, List, [], ◌∷◌, eqb, length, replicate, None, Option, Some, Result, Ok, Err}
 use Rattle.std.proofs.lemmas.List.Edits.{sets}
 use Rattle.text.specs.Digits.{Got, got, no, found, starts, is_end, wide, decimal}
-use Rattle.fields.specs.declared.row.Form.{Form}
-use Rattle.fields.specs.declared.row.Form.TheVariants.{Numbers, NoNumber, TooMany}
+use Rattle.fields.specs.declared.row.Unread.{Unread}
+use Rattle.fields.specs.declared.row.Unread.TheVariants.{NoNumber, TooMany}
 use Rattle.fields.specs.declared.row.Row.{Row}
 use Rattle.fields.specs.declared.row.Judged.{Judged}
 use Rattle.fields.specs.declared.row.Judged.TheVariants as judged
@@ -64,12 +63,12 @@ abbrev pub zeros : List ℕ
 zeros = replicate 13 0
 
 -- a line that is out of form keeps no number
-abbrev pub faulty : Form → Row
-faulty f = record { form = f; values = zeros }
+abbrev pub faulty : Unread → Row
+faulty why = record { form = Err why; values = zeros }
 
 -- the words to come behind the k numbers that stand in front
 abbrev pub packed : List ℕ → ℕ → Words → Row
-packed values k (are ns) = record { form = Numbers (k + length ns); values = sets values k ns }
+packed values k (are ns) = record { form = Ok (k + length ns); values = sets values k ns }
 packed values k no_number = faulty NoNumber
 packed values k too_many = faulty TooMany
 
@@ -82,10 +81,10 @@ row_of s = packed zeros 0 (words_of s)
 unfoldable pub counted_as : ℕ → ℕ → Judged
 counted_as wanted k = cond (eqb k 0) judged.Blank (cond (eqb k wanted) judged.Good judged.OtherCount)
 
-abbrev pub judged_as : ℕ → Form → Judged
-judged_as wanted (Numbers k) = counted_as wanted k
-judged_as wanted NoNumber = judged.NoNumber
-judged_as wanted TooMany = judged.OtherCount
+abbrev pub judged_as : ℕ → Result ℕ Unread → Judged
+judged_as wanted (Ok k) = counted_as wanted k
+judged_as wanted (Err NoNumber) = judged.NoNumber
+judged_as wanted (Err TooMany) = judged.OtherCount
 
 -- ---- the comment behind a row
 
@@ -96,4 +95,4 @@ comment (b ∷ s) = cond (eqb b 35) (skip s) (comment s)
 
 -- the year that a comment says: four digits, and nothing behind them but spaces
 unfoldable pub year_said : List ℕ → Option ℕ
-year_said s = found (wide 4 (comment s)) (λ n t. cond (is_end (skip t)) (some n) none) none
+year_said s = found (wide 4 (comment s)) (λ n t. cond (is_end (skip t)) (Some n) None) None

@@ -5,4 +5,4 @@ mod comments;
 mod row;
 
 pub use comments::year_said;
-pub use row::{Form, Judged, Row, is_blank, judge, read_row};
+pub use row::{Judged, Row, Unread, is_blank, judge, read_row};

@@ -1,23 +1,23 @@
 // A line of a table or of a list of rules, taken apart into its numbers.
-ghost use Rattle.std.specs.Prelude.{◌≡◌, ◌≤◌, drop, length};
+ghost use Rattle.std.specs.Prelude.{◌≡◌, ◌≤◌, ◌==◌, drop, length};
+ghost use Rattle.std.specs.List.{take_while};
 ghost use Rattle.text.specs.Reading.{Says, read_says, read_end};
 ghost use Rattle.fields.specs.Line as Line;
 ghost use Rattle.fields.specs.Line.{skip, row_of, judged_as};
 
-use text::{Cursor, Read};
+use text::Cursor;
 
-// How many numbers a line has; or that a word is no number up to 65,535; or that there are more than thirteen words.
+// Why a line has no numbers: a word is no number up to 65,535, or there are more than thirteen words.
 #[derive(Clone, Copy)]
-pub enum Form {
-    Numbers(usize),
+pub enum Unread {
     NoNumber,
     TooMany,
 }
 
-// A line's form and its numbers from the front.
+// How many numbers a line has, and these from the front.
 #[derive(Clone, Copy)]
 pub struct Row {
-    pub form: Form,
+    pub form: Result<usize, Unread>,
     pub values: [u16; 13],
 }
 
@@ -30,19 +30,19 @@ pub enum Judged {
     OtherCount,
 }
 
+// How many spaces a text begins with.
+fn spaces(s: &[u8]) -> usize
+    ensures { result ≡ length (take_while (λ b. b == 32) s.now) }
+{
+    s.iter().take_while(|b| **b == b' ').count()
+}
+
 // The first place from `from` on that has no space.
 pub fn past_spaces(s: &[u8], from: usize) -> usize
     requires { from ≤ length s.now }
     ensures { (result ≤ length s.now) × (drop result s.now ≡ skip (drop from s.now)) }
 {
-    let mut i = from;
-    while i < s.len() {
-        if s[i] != b' ' {
-            return i;
-        }
-        i += 1;
-    }
-    i
+    from + spaces(&s[from..])
 }
 
 // Whether nothing more counts from a place on.
@@ -67,29 +67,23 @@ fn word_ends(s: &[u8], at: usize) -> bool
 }
 
 // A word that is a number, and the place after the spaces behind it.
-fn read_number(s: &[u8], at: usize) -> Read
+fn read_number(s: &[u8], at: usize) -> Option<(u64, Cursor)>
     ensures { Says s.now (read_says s.now result) (read_end result) (Line.number (drop at s.now)) }
 {
-    let Read::Number(n, next) = (Cursor { at }).decimal(s, 65535) else {
-        return Read::NotOne;
-    };
+    let (n, next) = (Cursor { at }).decimal(s, 65535)?;
     if !word_ends(s, next.at) {
-        return Read::NotOne;
+        return None;
     }
-    Read::Number(
-        n,
-        Cursor {
-            at: past_spaces(s, next.at),
-        },
-    )
+    let at = past_spaces(s, next.at);
+    Some((n, Cursor { at }))
 }
 
 // A line out of form.
-fn faulty(form: Form) -> Row
-    ensures { result ≡ Line.faulty form }
+fn faulty(why: Unread) -> Row
+    ensures { result ≡ Line.faulty why }
 {
     Row {
-        form,
+        form: Err(why),
         values: [0; 13],
     }
 }
@@ -101,38 +95,44 @@ pub fn read_row(s: &[u8]) -> Row
     let mut values = [0u16; 13];
     let mut k = 0;
     let mut at = past_spaces(s, 0);
+    // A loop: the place moves by a word at a turn, and the line's end ends it.
     while !ends(s, at) {
         if k == 13 {
-            return faulty(Form::TooMany);
+            return faulty(Unread::TooMany);
         }
-        let Read::Number(n, next) = read_number(s, at) else {
-            return faulty(Form::NoNumber);
+        let Some((n, next)) = read_number(s, at) else {
+            return faulty(Unread::NoNumber);
         };
         values[k] = n as u16;
         at = next.at;
         k += 1;
     }
     Row {
-        form: Form::Numbers(k),
+        form: Ok(k),
         values,
     }
 }
 
+// What a line of so many numbers is.
+fn judge_count(k: usize, wanted: usize) -> Judged
+    ensures { result ≡ Line.counted_as wanted k }
+{
+    if k == 0 {
+        Judged::Blank
+    } else if k == wanted {
+        Judged::Good
+    } else {
+        Judged::OtherCount
+    }
+}
+
 // What a line is where so many numbers are wanted.
-pub fn judge(form: Form, wanted: usize) -> Judged
+pub fn judge(form: Result<usize, Unread>, wanted: usize) -> Judged
     ensures { result ≡ judged_as wanted form }
 {
     match form {
-        Form::Numbers(k) => {
-            if k == 0 {
-                return Judged::Blank;
-            }
-            if k == wanted {
-                return Judged::Good;
-            }
-            Judged::OtherCount
-        }
-        Form::NoNumber => Judged::NoNumber,
-        Form::TooMany => Judged::OtherCount,
+        Ok(k) => judge_count(k, wanted),
+        Err(Unread::NoNumber) => Judged::NoNumber,
+        Err(Unread::TooMany) => Judged::OtherCount,
     }
 }

@@ -1,5 +1,6 @@
 -- What was read lies in the lent list: the count of its numbers is at most the list's length. Assumes nothing.
-use Rattle.std.proofs.Common.{◌≡◌, ℕ, ◌+◌, ◌<◌, ◌≤◌, Bool, true, false, cond, ltb, List, [], ◌∷◌, length, length-take-le, take, sym, ◌∙◌, ⊎_elim, arith, le-leb}
+use Rattle.std.specs.Prelude.{None, Ok, Option, Result, Some, is_none}
+use Rattle.std.proofs.Common.{◌≡◌, ℕ, ◌+◌, ◌<◌, ◌≤◌, Bool, true, false, cond, ltb, List, [], ◌∷◌, length, length-take-le, take, sym, ap, ◌∙◌, ⊎_elim, arith, le-leb}
 use borrow.Author.Tests.{lt-leb}
 use lib.Seq.{length-sets}
 use Rattle.paper.proofs.Tests.{split}
@@ -9,15 +10,16 @@ use Rattle.conversion.specs.declared.Table.{Table}
 use Rattle.fields.specs.declared.row.Judged.{Judged}
 use Rattle.fields.specs.declared.row.Judged.TheVariants as judged
 use Rattle.fields.specs.Line.{words_of, numbers_of, row_of, judged_as}
-use Rattle.files.specs.declared.TableRead.{TableRead}
-use Rattle.files.specs.declared.TableRead.TheVariants as table_read
-use Rattle.files.specs.declared.Wrong.{Wrong}
-use Rattle.files.specs.declared.Wrong.TheVariants as wrong
+use Rattle.files.specs.declared.reading.Fault.{Fault}
 use Rattle.files.specs.declared.reading.Fault.TheVariants as fault
 use Rattle.files.specs.declared.reading.Reading.{Reading}
 use Rattle.files.specs.File.{End, over, broken, until, File, shut, holds, Made, made, begin, numbered, begun, fails, stored, taken, wanted}
-use Rattle.files.specs.File.{with_judged, with_line, with_came, with_next, well, unless_faulty, after, ended, read_all, table_as, ReadsTable}
-use Rattle.files.specs.Problems.{wrong_with}
+use Rattle.files.specs.File.{with_judged, with_line, with_came, with_next, well, unless_faulty, after, ended, read_all, table_here, table_as, ReadsTable}
+use Rattle.files.specs.declared.problems.Problem.{Problem}
+
+-- so many are taken from a list that has them
+pub front_taken : (n : ℕ) (xs : List ℕ) → n ≤ length xs → n ≡ length (take n xs)
+front_taken n xs h = sym (length-take-le n xs h)
 
 -- the numbers that count are in the list
 abbrev Fits : Made → Type 0
@@ -37,13 +39,13 @@ stored_fits x ns f =
 judged_fits : (x : Made) (ns : List ℕ) (j : Judged) → Fits x → Fits (with_judged x ns j)
 unfolding taken
 judged_fits x ns judged.Blank f = f
-judged_fits x ns judged.Good f = either x.reading.awaits (made (begun ns x.reading) x.rows) (stored x ns) f (stored_fits x ns f)
+judged_fits x ns judged.Good f = either (is_none x.reading.table) (made (begun ns x.reading) x.rows) (stored x ns) f (stored_fits x ns f)
 judged_fits x ns judged.NoNumber f = f
 judged_fits x ns judged.OtherCount f = f
 
 came_fits : (x : Made) (l : Current) → Fits x → Fits (with_came x l)
 unfolding with_line
-came_fits x (short s) f = judged_fits x (numbers_of (words_of s)) (judged_as (wanted x.reading.awaits) (row_of s).form) f
+came_fits x (short s) f = judged_fits x (numbers_of (words_of s)) (judged_as (wanted (is_none x.reading.table)) (row_of s).form) f
 came_fits x long f = f
 
 next_fits : (x : Made) (l : Current) → Fits x → Fits (with_next x l)
@@ -73,18 +75,22 @@ file_fits rows (holds bytes e) =
 
 -- ---- the answers
 
-table_count : (r : Reading) (w : Wrong) {table : Table} {n : ℕ} → table_read.Is table n ≡ table_as r w → n ≡ r.count
-table_count r (wrong.Is p) e = absurd (let z : ◌≡◌ {A = ℕ} 0 1 = cc in let bad : ⊥ = omega arith in bad)
-table_count r wrong.Nothing e = cc
+here_count : (k : ℕ) (t : Option Table) {table : Table} {n : ℕ} → Ok (table, n) ≡ table_here k t → n ≡ k
+here_count k None e = cc
+here_count k (Some t) {table} {n} e = let p : ◌≡◌ {A = Table × ℕ} (table, n) (t, k) = cc in ap (λ (x : Table × ℕ). x.1) p
+
+table_count : (r : Reading) (f : Option Fault) {table : Table} {n : ℕ} → Ok (table, n) ≡ table_as r f → n ≡ r.count
+table_count r (Some f) e = cc
+table_count r None e = here_count r.count r.table e
 
 -- the rows of a table that was read lie in the lent list
-pub table_fits : {rows left : List ℕ} {t : TableRead} → ReadsTable rows t left → {table : Table} {n : ℕ} → t ≡ table_read.Is table n → n ≤ length left
+pub table_fits : {rows left : List ℕ} {t : Result (Table × ℕ) Problem} → ReadsTable rows t left → {table : Table} {n : ℕ} → t ≡ Ok (table, n) → n ≤ length left
 table_fits {rows} {left} {t} r {table} {n} e =
     let x = read_all rows r.file in
-    let c : n ≡ x.reading.count = table_count x.reading (wrong_with x.reading) (sym e ∙ r.told) in
+    let c : n ≡ x.reading.count = table_count x.reading x.reading.fault (sym e ∙ r.told) in
     let f = file_fits rows r.file in
     rw r.stored (omega arith)
 
 -- so many are taken from it
-pub table_taken : {rows left : List ℕ} {t : TableRead} → ReadsTable rows t left → {table : Table} {n : ℕ} → t ≡ table_read.Is table n → n ≡ length (take n left)
+pub table_taken : {rows left : List ℕ} {t : Result (Table × ℕ) Problem} → ReadsTable rows t left → {table : Table} {n : ℕ} → t ≡ Ok (table, n) → n ≡ length (take n left)
 table_taken r e = sym (length-take-le _ _ (table_fits r e))

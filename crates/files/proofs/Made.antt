@@ -1,9 +1,13 @@
 -- What a file makes, line by line: each step over plain variables, and the steps one after the other. Assumes nothing.
-use Rattle.std.proofs.Common.{◌≡◌, ℕ, zero, suc, ◌+◌, ◌<◌, ◌≤◌, Bool, true, false, eqb, List, [], ◌∷◌, ◌++◌, length, get_or, take, drop, set, sym, refl, ap, ◌∙◌, add-zero, arith, drop_of_length-le, length-take-le, get_or-take, le-ltb, lt-ltb, eq-eqb, ne_eqb, le-leb}
+use Rattle.std.specs.Prelude.{Option, is_some, is_none}
+use mathlib.Core.Bool.{not}
+use Rattle.std.proofs.Common.{◌≡◌, ℕ, zero, suc, ◌+◌, ◌<◌, ◌≤◌, Bool, true, false, eqb, List, [], ◌∷◌, ◌++◌, length, get_or, take, sym, refl, ap, ◌∙◌, arith, length-take-le, get_or-take, le-ltb, lt-ltb, eq-eqb, ne_eqb, le-leb}
 use borrow.Author.Tests.{lt-leb}
-use lib.Seq.{sets}
-use Rattle.paper.proofs.Stores.{sets_turn}
-use Rattle.files.specs.declared.TableRead.{TableRead}
+use lib.Seq.{sets, sets-eq}
+use borrow.Rule.Slice.PartMut.{put_mid}
+use Rattle.std.proofs.Common.{append_assoc}
+use Rattle.std.proofs.lemmas.List.{drop-drop}
+use Rattle.std.proofs.lemmas.List.{take_all}
 use Rattle.files.specs.declared.reading.Fault.TheVariants as fault
 use Rattle.files.specs.declared.reading.Reading.{Reading}
 use Rattle.fields.specs.declared.row.Row.{Row}
@@ -16,27 +20,25 @@ use Rattle.lines.specs.declared.Input.{Input}
 use Rattle.lines.specs.Lines.{started, waiting, line_in, NextLine, lines_of}
 use Rattle.lines.proofs.Told.{Stand, closed, stand_first, stand_begins, begins_front, Later, line_more, no_more, cut_off, stand_next}
 use Rattle.files.specs.File.{over, broken, came_as, Made, made, numbered, faulted, begun, counted, fails, stored, taken, wanted, with_judged}
-use Rattle.files.specs.File.{with_line, with_next, well, unless_faulty, after, ended, shut, holds, begin, table_of, ReadsTable}
+use Rattle.files.specs.File.{with_line, with_next, well, unless_faulty, after, ended, holds, begin}
 use Rattle.files.specs.Inner.{with_input, Makes, Reads}
+use Rattle.conversion.specs.declared.Table.{Table}
 
 -- ---- numbers that are stored
 
-module _ (l v : List ℕ) (at n : ℕ) (h : n ≤ length v) where
-  pub store_first : sets l (at + 0) (drop 0 (take n v)) ≡ sets l at (take n v)
-  store_first = rw add-zero
-
-  pub store_turn : (i : ℕ) → i < n → sets (set l (at + i) (get_or v i 0)) (at + (i + 1)) (drop (i + 1) (take n v)) ≡ sets l (at + i) (drop i (take n v))
-  store_turn i k =
-      let e : get_or (take n v) i 0 ≡ get_or v i 0 = get_or-take n v i 0 k in
-      let q : i < length (take n v) = omega (arith, length-take-le n v h) in
-      rw e at (sets_turn l (take n v) at i 0 q)
-
-  pub store_over : (i : ℕ) → n ≤ i → l ≡ sets l (at + i) (drop i (take n v))
-  store_over i k =
-      let q : length (take n v) ≤ i = omega (arith, length-take-le n v h) in
-      rw (drop_of_length-le (take n v) {i = i} q)
+-- what is copied into the middle of a list is stored there
+pub copied : (l v : List ℕ) (at n : ℕ) → length v ≡ n → at + n ≤ length l → put_mid at n l v ≡ sets l at (take n v)
+copied l v at n e h =
+    let t : take n v ≡ v = take_all n v (omega arith) in
+    let q = sets-eq v l at (omega arith) in
+    rw (t, q, e, append_assoc, drop-drop)
 
 -- ---- a row
+
+-- what the test of the table's first line says
+pub awaits_is : (t : Option Table) (b : Bool) → is_some t ≡ not b → is_none t ≡ b
+awaits_is t true e = rw e
+awaits_is t false e = rw e
 
 -- the same reading and the same list
 pub instead : {q p : Reading} {a b : List ℕ} {z : Made} → q ≡ p → a ≡ b → made p b ≡ z → made q a ≡ z
@@ -60,11 +62,11 @@ module _ (r : Reading) (rows v : List ℕ) where
   unfolding stored
   row_stored h l = rw (length-take-le 13 v h, le-leb (r.count + 13) (length rows) l)
 
-  pub taken_first : r.awaits ≡ true → made (begun (take 4 v) r) rows ≡ taken (made r rows) (take (wanted r.awaits) v)
+  pub taken_first : is_none r.table ≡ true → made (begun (take 4 v) r) rows ≡ taken (made r rows) (take (wanted (is_none r.table)) v)
   unfolding taken wanted
   taken_first e = rw e
 
-  pub taken_row : r.awaits ≡ false → {y : Made} → y ≡ stored (made r rows) (take 13 v) → y ≡ taken (made r rows) (take (wanted r.awaits) v)
+  pub taken_row : is_none r.table ≡ false → {y : Made} → y ≡ stored (made r rows) (take 13 v) → y ≡ taken (made r rows) (take (wanted (is_none r.table)) v)
   unfolding taken wanted
   taken_row e t = t ∙ rw e
 
@@ -75,20 +77,20 @@ unfolding wanted
 wanted_small true = omega arith
 wanted_small false = omega arith
 
-module _ (r : Reading) (rows s : List ℕ) {row : Row} {n : ℕ} {j k : Judged} (e : row ≡ row_of s) (f : n ≡ wanted r.awaits)
+module _ (r : Reading) (rows s : List ℕ) {row : Row} {n : ℕ} {j k : Judged} (e : row ≡ row_of s) (f : n ≡ wanted (is_none r.table))
     (g : j ≡ judged_as n row.form) (h : j ≡ k) where
-  judged_line : judged_as (wanted r.awaits) (row_of s).form ≡ k
+  judged_line : judged_as (wanted (is_none r.table)) (row_of s).form ≡ k
   judged_line = rw (← f, ← e) (sym g ∙ h)
 
   pub line_as : with_judged (made r rows) (numbers_of (words_of s)) k ≡ with_line (made r rows) s
   unfolding with_line
   line_as = sym (ap (λ (i : Judged). with_judged (made r rows) (numbers_of (words_of s)) i) judged_line)
 
-module _ (r : Reading) (rows s : List ℕ) {row : Row} {n : ℕ} {j : Judged} (e : row ≡ row_of s) (f : n ≡ wanted r.awaits)
+module _ (r : Reading) (rows s : List ℕ) {row : Row} {n : ℕ} {j : Judged} (e : row ≡ row_of s) (f : n ≡ wanted (is_none r.table))
     (g : j ≡ judged_as n row.form) (h : j ≡ judged.Good) where
-  pub line_good : {y : Made} → y ≡ taken (made r rows) (take (wanted r.awaits) row.values) → y ≡ with_line (made r rows) s
+  pub line_good : {y : Made} → y ≡ taken (made r rows) (take (wanted (is_none r.table)) row.values) → y ≡ with_line (made r rows) s
   line_good t =
-      let v = front_numbers (wanted r.awaits) s (wanted_small r.awaits) (judged_line r rows s e f g h) in
+      let v = front_numbers (wanted (is_none r.table)) s (wanted_small (is_none r.table)) (judged_line r rows s e f g h) in
       t ∙ rw (e, v) (line_as r rows s e f g h)
 
 module _ (r : Reading) (rows s : List ℕ) (b : Bool) where
@@ -224,25 +226,8 @@ module _ {room : ℕ} {x y z : Made} {piece line piece' line' : List ℕ} {input
       go (no_more b e q) = record { bytes = b; ends = over; same = came_none (ap (λ (i : Input). i.failed) q) (ap (λ (i : Input). i.left) q) ∙ ap (after x) (sym e) }
       go (cut_off q) = makes_broken (ap (λ (i : Input). i.failed) q)
 
--- and one at the input's end
-pub stood_over : {room : ℕ} {x y : Made} {piece : List ℕ} {input : Input} → Stood room x y piece input → input.left ≡ 0 → Makes room x y
-stood_over {x = x} s e = record { bytes = s.bytes; ends = over; same = s.same ∙ ap (after x) (sym (s.over e)) }
-
 -- ---- a whole file
 
-pub makes_from : {room : ℕ} {p r : Reading} {rows : List ℕ} {y : Made} → p ≡ r → Makes room (made p rows) y → Makes room (made r rows) y
-makes_from f m = rw (← f) m
-
 module _ {rows : List ℕ} where
-  pub reads_shut : {q r : Reading} → q ≡ faulted fault.NotOpened r → r ≡ begin → Reads rows (made q rows)
-  reads_shut e f = record { file = shut; same = rw (e, f) }
-
   pub reads_lines : {y : Made} → Makes 4096 (made begin rows) y → Reads rows y
   reads_lines m = record { file = holds m.bytes m.ends; same = m.same }
-
-pub table_read_law : {q : Reading} {rows left : List ℕ} {t : TableRead} → Reads rows (made q left) → t ≡ table_of q → ReadsTable rows t left
-table_read_law r e = record {
-  file = r.file;
-  told = e ∙ ap (λ (m : Made). table_of m.reading) r.same;
-  stored = ap (λ (m : Made). m.rows) r.same;
-}

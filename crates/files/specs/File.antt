@@ -1,20 +1,19 @@
 -- A year table: a file, line by line, and what it makes of the lent list. What a line is, `fields` says; what a fault becomes, Problems.antt.
 -- Assumes nothing.
-use Rattle.std.specs.Prelude.{◌≡◌, ℕ, ◌+◌, Bool, true, false, cond, List, [], ◌∷◌, length, take, nat_le, nat_lt, slice_index}
+use Rattle.std.specs.Prelude.{◌≡◌, ℕ, ◌+◌, Bool, true, false, cond, List, [], ◌∷◌, length, take, nat_le, nat_lt, slice_index, Err, None, Ok, Option, Result, Some, is_none}
 use Rattle.std.proofs.lemmas.List.Edits.{sets}
 use Rattle.text.specs.Kept.{Current, short, long}
 use Rattle.lines.specs.Lines.{lines_of}
-use Rattle.files.specs.declared.TableRead.{TableRead}
-use Rattle.files.specs.declared.TableRead.TheVariants as table_read
-use Rattle.files.specs.declared.Wrong.{Wrong}
-use Rattle.files.specs.declared.Wrong.TheVariants as wrong
 use Rattle.files.specs.declared.reading.Fault.{Fault}
 use Rattle.files.specs.declared.reading.Fault.TheVariants as fault
 use Rattle.files.specs.declared.reading.Reading.{Reading}
 use Rattle.fields.specs.declared.row.Judged.{Judged}
 use Rattle.fields.specs.declared.row.Judged.TheVariants as judged
 use Rattle.fields.specs.Line.{words_of, numbers_of, row_of, judged_as}
-use Rattle.files.specs.Problems.{wrong_with}
+use Rattle.files.specs.Problems.{wrong_as}
+use Rattle.conversion.specs.declared.Table.{Table}
+use Rattle.files.specs.declared.problems.Problem.{Problem}
+use Rattle.files.specs.declared.problems.Problem.TheVariants as problem
 
 -- ---- what a path names
 
@@ -53,33 +52,31 @@ made r rows = record { reading = r; rows = rows }
 abbrev pub begin : Reading
 begin = record {
   line = 0;
-  awaits = true;
-  table = record { first_year = 0; year = 0; month = 0; day = 0 };
+  table = None;
   count = 0;
-  fault = fault.Nothing;
+  fault = None;
 }
 
 -- at the next line
 abbrev pub numbered : Reading → Reading
-numbered r = record { line = r.line + 1; awaits = r.awaits; table = r.table; count = r.count; fault = r.fault }
+numbered r = record { line = r.line + 1; table = r.table; count = r.count; fault = r.fault }
 
 -- with a fault in the line
 abbrev pub faulted : Fault → Reading → Reading
-faulted f r = record { line = r.line; awaits = r.awaits; table = r.table; count = r.count; fault = f }
+faulted f r = record { line = r.line; table = r.table; count = r.count; fault = Some f }
 
 -- with a table's first line: the first BS year, and its first Gregorian day
 abbrev pub begun : List ℕ → Reading → Reading
 begun ns r = record {
   line = r.line;
-  awaits = false;
-  table = record { first_year = slice_index ns 0; year = slice_index ns 1; month = slice_index ns 2; day = slice_index ns 3 };
+  table = Some (record { first_year = slice_index ns 0; year = slice_index ns 1; month = slice_index ns 2; day = slice_index ns 3 });
   count = r.count;
   fault = r.fault;
 }
 
 -- with so many numbers more
 abbrev pub counted : ℕ → Reading → Reading
-counted n r = record { line = r.line; awaits = r.awaits; table = r.table; count = r.count + n; fault = r.fault }
+counted n r = record { line = r.line; table = r.table; count = r.count + n; fault = r.fault }
 
 -- a fault leaves the list
 abbrev pub fails : Fault → Made → Made
@@ -94,7 +91,7 @@ stored x ns =
 
 -- a line with the numbers that are wanted: a table's first line, or a row
 unfoldable pub taken : Made → List ℕ → Made
-taken x ns = cond x.reading.awaits (made (begun ns x.reading) x.rows) (stored x ns)
+taken x ns = cond (is_none x.reading.table) (made (begun ns x.reading) x.rows) (stored x ns)
 
 -- how many numbers are wanted: four in a table's first line, thirteen in a row
 unfoldable pub wanted : Bool → ℕ
@@ -109,7 +106,7 @@ with_judged x ns judged.OtherCount = fails fault.OtherCount x
 
 -- a line as it is judged by how many numbers are wanted
 unfoldable pub with_line : Made → List ℕ → Made
-with_line x s = with_judged x (numbers_of (words_of s)) (judged_as (wanted x.reading.awaits) (row_of s).form)
+with_line x s = with_judged x (numbers_of (words_of s)) (judged_as (wanted (is_none x.reading.table)) (row_of s).form)
 
 -- a line that is too long is a fault
 abbrev pub with_came : Made → Current → Made
@@ -124,14 +121,8 @@ with_next x l =
     (fails fault.TooMany x)
 
 -- nothing is wrong
-abbrev pub well : Fault → Bool
-well fault.Nothing = true
-well fault.LongLine = false
-well fault.NoNumber = false
-well fault.OtherCount = false
-well fault.TooMany = false
-well fault.NotRead = false
-well fault.NotOpened = false
+abbrev pub well : Option Fault → Bool
+well f = is_none f
 
 -- the first fault ends the reading: nothing behind it counts
 unfoldable pub unless_faulty : Made → Made → Made
@@ -158,17 +149,22 @@ abbrev pub read_all : List ℕ → File → Made
 read_all rows shut = fails fault.NotOpened (made begin rows)
 read_all rows (holds bytes e) = read_bytes 4096 (made begin rows) bytes e
 
--- a table's first line and how many numbers its rows have; or what is wrong
-abbrev pub table_as : Reading → Wrong → TableRead
-table_as r (wrong.Is p) = table_read.Not p
-table_as r wrong.Nothing = table_read.Is r.table r.count
+-- a table's first line and how many numbers its rows have, or that there is no such line
+abbrev pub table_here : ℕ → Option Table → Result (Table × ℕ) Problem
+table_here n (Some table) = Ok (table, n)
+table_here n None = Err problem.NoLine
+
+-- that; or what is wrong
+abbrev pub table_as : Reading → Option Fault → Result (Table × ℕ) Problem
+table_as r (Some f) = Err (wrong_as (is_none r.table) r.line f)
+table_as r None = table_here r.count r.table
 
 -- the table that a reading gives
-abbrev pub table_of : Reading → TableRead
-table_of r = table_as r (wrong_with r)
+abbrev pub table_of : Reading → Result (Table × ℕ) Problem
+table_of r = table_as r r.fault
 
 -- some file gives this table and leaves these rows
-pub record ReadsTable (rows : List ℕ) (answer : TableRead) (left : List ℕ) : Type 0 where
+pub record ReadsTable (rows : List ℕ) (answer : Result (Table × ℕ) Problem) (left : List ℕ) : Type 0 where
   pub file : File
   pub told : answer ≡ table_of (read_all rows file).reading
   pub stored : left ≡ (read_all rows file).rows

@@ -2,19 +2,16 @@
 use Rattle.std.specs.Prelude.{ℕ, Bool, cond, List, ◌++◌}
 use Rattle.text.specs.Digits.{digits}
 use Rattle.text.specs.Quoted.{bytes}
-use Rattle.files.specs.declared.Wrong.{Wrong}
-use Rattle.files.specs.declared.Wrong.TheVariants as wrong
 use Rattle.files.specs.declared.problems.Expected.{Expected}
 use Rattle.files.specs.declared.problems.Expected.TheVariants as expected
 use Rattle.files.specs.declared.problems.Problem.{Problem}
 use Rattle.files.specs.declared.problems.Problem.TheVariants as problem
 use Rattle.files.specs.declared.reading.Fault.{Fault}
 use Rattle.files.specs.declared.reading.Fault.TheVariants as fault
-use Rattle.files.specs.declared.reading.Reading.{Reading}
 
 -- ---- the line
 
-unfoldable pub expected_text : Expected → List ℕ
+abbrev pub expected_text : Expected → List ℕ
 expected_text expected.ShortLine = bytes "at most 4096 bytes"
 expected_text expected.Numbers = bytes "numbers up to 65535 with spaces between them"
 expected_text expected.Four = bytes "4 numbers: the first BS year and its first Gregorian day"
@@ -42,15 +39,11 @@ problem_text path p = path ++ (what_text p ++ bytes "\n")
 unfoldable pub expected_count : Bool → Expected
 expected_count awaits = cond awaits expected.Four expected.Thirteen
 
--- the fault of a line, or that a table's first line is still awaited at the end
-abbrev pub wrong_as : Bool → ℕ → Fault → Wrong
-wrong_as awaits line fault.LongLine = wrong.Is (problem.At line expected.ShortLine)
-wrong_as awaits line fault.NoNumber = wrong.Is (problem.At line expected.Numbers)
-wrong_as awaits line fault.OtherCount = wrong.Is (problem.At line (expected_count awaits))
-wrong_as awaits line fault.TooMany = wrong.Is (problem.At line expected.End)
-wrong_as awaits line fault.NotRead = wrong.Is problem.NotRead
-wrong_as awaits line fault.NotOpened = wrong.Is problem.NotOpened
-wrong_as awaits line fault.Nothing = cond awaits (wrong.Is problem.NoLine) wrong.Nothing
-
-abbrev pub wrong_with : Reading → Wrong
-wrong_with r = wrong_as r.awaits r.line r.fault
+-- the fault of a line, or of the file
+abbrev pub wrong_as : Bool → ℕ → Fault → Problem
+wrong_as awaits line fault.LongLine = problem.At line expected.ShortLine
+wrong_as awaits line fault.NoNumber = problem.At line expected.Numbers
+wrong_as awaits line fault.OtherCount = problem.At line (expected_count awaits)
+wrong_as awaits line fault.TooMany = problem.At line expected.End
+wrong_as awaits line fault.NotRead = problem.NotRead
+wrong_as awaits line fault.NotOpened = problem.NotOpened

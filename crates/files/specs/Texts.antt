@@ -1,26 +1,21 @@
 -- Files that are read as one text: rules, and names. Assumes nothing.
-use Rattle.std.specs.Prelude.{◌≡◌, ℕ, ◌*◌, ◌≤◌, cond, List, ◌++◌, length, take, ◌==◌}
+use Rattle.std.specs.Prelude.{◌≡◌, ℕ, ◌*◌, ◌≤◌, cond, List, ◌++◌, length, take, ◌==◌, Err, None, Ok, Option, Result, Some}
 use Rattle.paper.specs.declared.Refusal.{Refusal}
-use Rattle.paper.specs.Refusals.{number}
-use Rattle.paper.specs.Answers.{Answer, answered, refused}
+use Rattle.paper.specs.declared.Refusal.TheVariants as refusal
+use Rattle.paper.specs.Answers.{Answer}
 use Rattle.text.specs.Digits.{digits}
 use Rattle.text.specs.Quoted.{bytes}
 use Rattle.rulefile.specs.Files.{read_into}
 use Rattle.naming.specs.declared.lines.Fault.{Fault}
 use Rattle.naming.specs.declared.lines.Fault.TheVariants as fault
-use Rattle.naming.specs.declared.checking.Checked.{Checked}
-use Rattle.naming.specs.declared.checking.Checked.TheVariants as checked
 use Rattle.naming.specs.Names as Names
-use Rattle.files.specs.declared.texts.TextRead.{TextRead}
-use Rattle.files.specs.declared.texts.TextRead.TheVariants as text_read
-use Rattle.files.specs.declared.listing.RulesRead.{RulesRead}
-use Rattle.files.specs.declared.listing.RulesRead.TheVariants as rules_read
-use Rattle.files.specs.declared.listing.NamesRead.{NamesRead}
-use Rattle.files.specs.declared.listing.NamesRead.TheVariants as names_read
+use Rattle.files.specs.declared.listing.RulesFault.{RulesFault}
+use Rattle.files.specs.declared.listing.RulesFault.TheVariants as rules_fault
+use Rattle.files.specs.declared.problems.Problem.{Problem}
 
 -- the bytes of a text stand in the lent list
-pub record Inside (answer : TextRead) (left : List ℕ) : Type 0 where
-  pub few : (n : ℕ) → answer ≡ text_read.Is n → n ≤ length left
+pub record Inside (answer : Result ℕ Problem) (left : List ℕ) : Type 0 where
+  pub few : (n : ℕ) → answer ≡ Ok n → n ≤ length left
 
 -- ---- rules
 
@@ -31,42 +26,43 @@ pub data Text : Type 0 where
   holds : List ℕ → Text
 
 -- what comes of a refusal: rules that are refused with 2, or none
-unfoldable pub refused_as : Refusal → RulesRead
-refused_as why = cond (number why == 2) rules_read.Refused rules_read.Not
+unfoldable pub refused_as : Refusal → RulesFault
+refused_as refusal.BadRules = rules_fault.Refused
+refused_as why = rules_fault.NotRead
 
 -- how many numbers the rules of a text have, eight each, and the lent list then
-abbrev pub rules_as : Answer ℕ × List ℕ → RulesRead × List ℕ
-rules_as (answered k, left) = (rules_read.Are (k * 8), left)
-rules_as (refused why, left) = (refused_as why, left)
+abbrev pub rules_as : Answer ℕ × List ℕ → Result ℕ RulesFault × List ℕ
+rules_as (Ok k, left) = (Ok (k * 8), left)
+rules_as (Err why, left) = (Err (refused_as why), left)
 
 -- a text gives these rules and leaves these numbers
-pub record Gives (s rules : List ℕ) (answer : RulesRead) (left : List ℕ) : Type 0 where
+pub record Gives (s rules : List ℕ) (answer : Result ℕ RulesFault) (left : List ℕ) : Type 0 where
   pub same : (answer, left) ≡ rules_as (read_into s rules)
 
-abbrev pub rules_of : Text → List ℕ → RulesRead × List ℕ
-rules_of unasked rules = (rules_read.Are 0, rules)
-rules_of unread rules = (rules_read.Not, rules)
+abbrev pub rules_of : Text → List ℕ → Result ℕ RulesFault × List ℕ
+rules_of unasked rules = (Ok 0, rules)
+rules_of unread rules = (Err rules_fault.NotRead, rules)
 rules_of (holds s) rules = rules_as (read_into s rules)
 
 -- some text gives these rules and leaves these numbers
-pub record ReadsRules (rules : List ℕ) (answer : RulesRead) (left : List ℕ) : Type 0 where
+pub record ReadsRules (rules : List ℕ) (answer : Result ℕ RulesFault) (left : List ℕ) : Type 0 where
   pub text : Text
   pub same : (answer, left) ≡ rules_of text rules
 
 -- ---- names
 
 -- the bytes of a text that is a file of names
-abbrev pub names_of : ℕ → Checked → NamesRead
-names_of n checked.InForm = names_read.Are n
-names_of n (checked.At line f) = names_read.Not
+abbrev pub names_of : ℕ → Result (Unit {0}) (ℕ × Fault) → Option ℕ
+names_of n (Ok u) = Some n
+names_of n (Err at) = None
 
-abbrev pub names_as : ℕ → List ℕ → NamesRead
+abbrev pub names_as : ℕ → List ℕ → Option ℕ
 names_as n text = names_of n (Names.checked (take n text))
 
 -- no file is asked for; nothing can be read; or what stands at the front of the lent list is judged
-pub data ReadsNames (answer : NamesRead) (left : List ℕ) : Type 0 where
-  no_names : answer ≡ names_read.Are 0 → ReadsNames answer left
-  none : answer ≡ names_read.Not → ReadsNames answer left
+pub data ReadsNames (answer : Option ℕ) (left : List ℕ) : Type 0 where
+  no_names : answer ≡ Some 0 → ReadsNames answer left
+  none : answer ≡ None → ReadsNames answer left
   some : (n : ℕ) → n ≤ length left → answer ≡ names_as n left → ReadsNames answer left
 
 -- ---- what is wrong with a line

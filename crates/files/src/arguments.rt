@@ -3,7 +3,9 @@ ghost use Rattle.std.specs.Prelude.{◌≤◌, length};
 ghost use Rattle.files.specs.File.{ReadsTable};
 ghost use Rattle.files.specs.Texts.{ReadsRules, ReadsNames};
 
-use crate::{NamesRead, RulesRead, TableRead, listing, telling, texts};
+use crate::problems::Problem;
+use crate::{RulesFault, listing, telling, texts};
+use conversion::Table;
 use std::env::FillError;
 use std::rt::{Env, Files};
 
@@ -22,14 +24,15 @@ pub fn argument_count<R: Env>(rt: &R) -> usize {
 pub fn argument<R: Env>(rt: &R, i: usize, buffer: &mut [u8]) -> usize
     ensures { result ≤ length buffer.new }
 {
-    match rt.arg(i, buffer) {
-        Ok(n) => n,
-        Err(_) => 0,
-    }
+    rt.arg(i, buffer).unwrap_or(0)
 }
 
 // The year table in the file that argument i names.
-pub fn table_at<R: Env + Files>(rt: &R, i: usize, rows: &mut [u16]) -> TableRead
+pub fn table_at<R: Env + Files>(
+    rt: &R,
+    i: usize,
+    rows: &mut [u16],
+) -> Result<(Table, usize), Problem>
     ensures { ReadsTable rows.old result rows.new }
 {
     let mut path = [0u8; 4096];
@@ -41,7 +44,7 @@ pub fn table_at<R: Env + Files>(rt: &R, i: usize, rows: &mut [u16]) -> TableRead
 }
 
 // The rules in the file that argument i names.
-pub fn rules_at<R: Env + Files>(rt: &R, i: usize, rules: &mut [u16]) -> RulesRead
+pub fn rules_at<R: Env + Files>(rt: &R, i: usize, rules: &mut [u16]) -> Result<usize, RulesFault>
     ensures { ReadsRules rules.old result rules.new }
 {
     let mut path = [0u8; 4096];
@@ -50,17 +53,22 @@ pub fn rules_at<R: Env + Files>(rt: &R, i: usize, rules: &mut [u16]) -> RulesRea
 }
 
 // The same, and no rule where the program has fewer arguments, of which its own name is one.
-pub fn rules_asked<R: Env + Files>(rt: &R, i: usize, count: usize, rules: &mut [u16]) -> RulesRead
+pub fn rules_asked<R: Env + Files>(
+    rt: &R,
+    i: usize,
+    count: usize,
+    rules: &mut [u16],
+) -> Result<usize, RulesFault>
     ensures { ReadsRules rules.old result rules.new }
 {
     if i < count {
         return rules_at(rt, i, rules);
     }
-    RulesRead::Are(0)
+    Ok(0)
 }
 
 // The names in the file that argument i names.
-pub fn names_at<R: Env + Files>(rt: &R, i: usize, names: &mut [u8]) -> NamesRead
+pub fn names_at<R: Env + Files>(rt: &R, i: usize, names: &mut [u8]) -> Option<usize>
     ensures { ReadsNames result names.new }
 {
     let mut path = [0u8; 4096];
@@ -69,11 +77,16 @@ pub fn names_at<R: Env + Files>(rt: &R, i: usize, names: &mut [u8]) -> NamesRead
 }
 
 // The same, and no name where the program has fewer arguments.
-pub fn names_asked<R: Env + Files>(rt: &R, i: usize, count: usize, names: &mut [u8]) -> NamesRead
+pub fn names_asked<R: Env + Files>(
+    rt: &R,
+    i: usize,
+    count: usize,
+    names: &mut [u8],
+) -> Option<usize>
     ensures { ReadsNames result names.new }
 {
     if i < count {
         return names_at(rt, i, names);
     }
-    NamesRead::Are(0)
+    Some(0)
 }

@@ -10,75 +10,57 @@ mod reading;
 mod telling;
 mod texts;
 
-ghost use Rattle.std.specs.Prelude.{◌≡◌};
-ghost use Rattle.files.specs.Problems.{wrong_with};
+ghost use Rattle.std.specs.Prelude.{◌≡◌, is_none};
+ghost use Rattle.files.specs.Problems.{wrong_as};
 ghost use Rattle.files.specs.File.{table_of, ReadsTable};
 
 pub use arguments::{
     argument, argument_count, names_asked, names_at, rules_asked, rules_at, table_at,
 };
 use conversion::Table;
-pub use listing::{NamesRead, RulesRead};
+pub use listing::RulesFault;
 pub use problems::{Expected, Problem, put_problem};
 use reading::{Fault, Reading};
 use std::io::Read;
 
-// A table's first line and how many numbers its rows have, from the front of the lent buffer; or what is wrong.
-#[derive(Clone, Copy)]
-pub enum TableRead {
-    Is(Table, usize),
-    Not(Problem),
-}
-
-// What is wrong with a file that was read, where something is.
-#[derive(Clone, Copy)]
-enum Wrong {
-    Is(Problem),
-    Nothing,
-}
-
-// What is wrong after a reading.
-fn wrong_with(r: Reading) -> Wrong
-    ensures { result ≡ wrong_with r }
+// What is wrong with the line that was read last, or with the file.
+#[tactic(auto, unfolding(crate::specs::Problems::expected_count))]
+fn problem(r: Reading, fault: Fault) -> Problem
+    ensures { result ≡ wrong_as (is_none r.table) r.line fault }
 {
-    let fault = r.fault;
     let line = r.line;
     match fault {
-        Fault::LongLine => Wrong::Is(Problem::At(line, Expected::ShortLine)),
-        Fault::NoNumber => Wrong::Is(Problem::At(line, Expected::Numbers)),
+        Fault::LongLine => Problem::At(line, Expected::ShortLine),
+        Fault::NoNumber => Problem::At(line, Expected::Numbers),
         Fault::OtherCount => {
-            if r.awaits {
-                return Wrong::Is(Problem::At(line, Expected::Four));
+            if r.table.is_none() {
+                Problem::At(line, Expected::Four)
+            } else {
+                Problem::At(line, Expected::Thirteen)
             }
-            Wrong::Is(Problem::At(line, Expected::Thirteen))
         }
-        Fault::TooMany => Wrong::Is(Problem::At(line, Expected::End)),
-        Fault::NotRead => Wrong::Is(Problem::NotRead),
-        Fault::NotOpened => Wrong::Is(Problem::NotOpened),
-        Fault::Nothing => {
-            if r.awaits {
-                return Wrong::Is(Problem::NoLine);
-            }
-            Wrong::Nothing
-        }
+        Fault::TooMany => Problem::At(line, Expected::End),
+        Fault::NotRead => Problem::NotRead,
+        Fault::NotOpened => Problem::NotOpened,
     }
 }
 
 // The table that a reading gives.
-fn table_of(r: Reading) -> TableRead
+fn table_of(r: Reading) -> Result<(Table, usize), Problem>
     ensures { result ≡ table_of r }
 {
-    match wrong_with(r) {
-        Wrong::Is(p) => TableRead::Not(p),
-        Wrong::Nothing => {
-            let table = r.table;
-            TableRead::Is(table, r.count)
-        }
+    if let Some(fault) = r.fault {
+        return Err(problem(r, fault));
     }
+    let table = r.table.ok_or(Problem::NoLine)?;
+    Ok((table, r.count))
 }
 
 // Reads the year table in a file, where it could be opened: at most as many rows as the lent buffer has room for.
-pub fn read_table<F: Read>(file: &mut Option<F>, rows: &mut [u16]) -> TableRead
+pub fn read_table<F: Read>(
+    file: &mut Option<F>,
+    rows: &mut [u16],
+) -> Result<(Table, usize), Problem>
     ensures { ReadsTable rows.old result rows.new }
 {
     table_of(reading::read_all(file, rows))

@@ -1,4 +1,5 @@
 // What can be wrong with a file, and the one line that says so.
+ghost use Rattle.std.specs.Prelude.{◌≡◌};
 ghost use Rattle.text.specs.Written.{Wrote};
 ghost use Rattle.files.specs.Problems.{expected_text, at_line, what_text, problem_text};
 
@@ -22,24 +23,16 @@ pub enum Problem {
     At(u32, Expected),
 }
 
-// Writes what was expected.
-fn put_expected(out: &mut [u8], at: usize, e: Expected) -> usize
-    ensures { Wrote out.old at (expected_text e) out.new result }
+// What was expected, in words.
+fn words(e: Expected) -> &'static [u8]
+    ensures { result.now ≡ expected_text e }
 {
     match e {
-        Expected::ShortLine => text::put(out, at, b"at most 4096 bytes"),
-        Expected::Numbers => text::put(out, at, b"numbers up to 65535 with spaces between them"),
-        Expected::Four => text::put(
-            out,
-            at,
-            b"4 numbers: the first BS year and its first Gregorian day",
-        ),
-        Expected::Thirteen => text::put(
-            out,
-            at,
-            b"13 numbers: the lengths of twelve months and their sum",
-        ),
-        Expected::End => text::put(out, at, b"the end of the file: there are too many lines"),
+        Expected::ShortLine => b"at most 4096 bytes",
+        Expected::Numbers => b"numbers up to 65535 with spaces between them",
+        Expected::Four => b"4 numbers: the first BS year and its first Gregorian day",
+        Expected::Thirteen => b"13 numbers: the lengths of twelve months and their sum",
+        Expected::End => b"the end of the file: there are too many lines",
     }
 }
 
@@ -50,7 +43,7 @@ fn put_at(out: &mut [u8], at: usize, line: u32, e: Expected) -> usize
     let a = text::put(out, at, b": line ");
     let b = text::put_decimal(out, a, line as u64);
     let c = text::put(out, b, b": expected ");
-    put_expected(out, c, e)
+    text::put(out, c, words(e))
 }
 
 // Writes what is wrong.

@@ -13,7 +13,6 @@ use std::io::Read;
 // What is wrong with the line that was read last, or with the file.
 #[derive(Clone, Copy)]
 pub enum Fault {
-    Nothing,
     LongLine,
     NoNumber,
     OtherCount,
@@ -22,15 +21,14 @@ pub enum Fault {
     NotOpened,
 }
 
-// Where a reading stands: the number of its line; whether a table's first line is awaited; that line; how many numbers are stored; what is wrong,
-// which ends the reading.
+// Where a reading stands: the number of its line; the table's first line, none while it is awaited; how many numbers are stored; what is wrong, which ends
+// the reading.
 #[derive(Clone, Copy)]
 pub struct Reading {
     pub line: u32,
-    pub awaits: bool,
-    pub table: Table,
+    pub table: Option<Table>,
     pub count: usize,
-    pub fault: Fault,
+    pub fault: Option<Fault>,
 }
 
 // Before the first line.
@@ -39,31 +37,9 @@ fn first() -> Reading
 {
     Reading {
         line: 0,
-        awaits: true,
-        table: Table {
-            first_year: 0,
-            year: 0,
-            month: 0,
-            day: 0,
-        },
+        table: None,
         count: 0,
-        fault: Fault::Nothing,
-    }
-}
-
-// Whether nothing is wrong yet.
-fn is_well(r: Reading) -> bool
-    ensures { result ≡ well r.fault }
-{
-    let fault = r.fault;
-    match fault {
-        Fault::Nothing => true,
-        Fault::LongLine => false,
-        Fault::NoNumber => false,
-        Fault::OtherCount => false,
-        Fault::TooMany => false,
-        Fault::NotRead => false,
-        Fault::NotOpened => false,
+        fault: None,
     }
 }
 
@@ -72,24 +48,16 @@ fn store(rows: &mut [u16], at: usize, values: [u16; 13])
     requires { (length values ≡ 13) × (at + 13 ≤ length rows.old) }
     ensures { rows.new ≡ sets rows.old at (take 13 values) }
 {
-    let mut i = 0;
-    while i < 13 {
-        rows[at + i] = values[i];
-        i += 1;
-    }
+    rows[at..at + 13].copy_from_slice(&values);
 }
 
 // The reading with a fault.
 fn faulted(r: Reading, fault: Fault) -> Reading
     ensures { result ≡ File.faulted fault r }
 {
-    let table = r.table;
     Reading {
-        line: r.line,
-        awaits: r.awaits,
-        table,
-        count: r.count,
-        fault,
+        fault: Some(fault),
+        ..r
     }
 }
 
@@ -98,14 +66,9 @@ fn numbered(r: Reading) -> Reading
     requires { r.line ≤ 10000 }
     ensures { result ≡ File.numbered r }
 {
-    let table = r.table;
-    let fault = r.fault;
     Reading {
         line: r.line + 1,
-        awaits: r.awaits,
-        table,
-        count: r.count,
-        fault,
+        ..r
     }
 }
 
@@ -114,18 +77,15 @@ fn begun(r: Reading, values: [u16; 13]) -> Reading
     requires { length values ≡ 13 }
     ensures { result ≡ File.begun (take 4 values) r }
 {
-    let fault = r.fault;
+    let table = Table {
+        first_year: values[0],
+        year: values[1],
+        month: values[2],
+        day: values[3],
+    };
     Reading {
-        line: r.line,
-        awaits: false,
-        table: Table {
-            first_year: values[0],
-            year: values[1],
-            month: values[2],
-            day: values[3],
-        },
-        count: r.count,
-        fault,
+        table: Some(table),
+        ..r
     }
 }
 
@@ -134,14 +94,9 @@ fn counted(r: Reading) -> Reading
     requires { r.count + 13 ≤ 18446744073709551615 }
     ensures { result ≡ File.counted 13 r }
 {
-    let table = r.table;
-    let fault = r.fault;
     Reading {
-        line: r.line,
-        awaits: r.awaits,
-        table,
         count: r.count + 13,
-        fault,
+        ..r
     }
 }
 
@@ -162,6 +117,7 @@ fn stored(r: Reading, values: [u16; 13], rows: &mut [u16]) -> Reading
 }
 
 // How many numbers are wanted in a line.
+#[tactic(auto, unfolding(crate::specs::File::wanted))]
 fn wanted(awaits: bool) -> usize
     ensures { result ≡ File.wanted awaits }
 {
@@ -175,10 +131,11 @@ fn with_line(r: Reading, rows: &mut [u16], s: &[u8]) -> Reading
     let row = fields::read_row(s);
     let form = row.form;
     let values = row.values;
-    match fields::judge(form, wanted(r.awaits)) {
+    let awaits = r.table.is_none();
+    match fields::judge(form, wanted(awaits)) {
         Judged::Blank => r,
         Judged::Good => {
-            if r.awaits {
+            if awaits {
                 return begun(r, values);
             }
             stored(r, values, rows)
@@ -228,12 +185,13 @@ fn read_lines<F: Read>(
     requires { well r.fault ≡ true }
     ensures { Makes (length line.old) (made r rows.old) (made result rows.new) }
 {
+    // A loop: the input is a state, which each line changes.
     let mut q = r;
     let mut input = lines::start(50000);
     while 0 < input.left {
         input = lines::next_line(file, input, piece, line);
         q = with_input(q, rows, input, line);
-        if !is_well(q) {
+        if q.fault.is_some() {
             return q;
         }
     }

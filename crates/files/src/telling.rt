@@ -1,22 +1,19 @@
 // What is told on standard error of a file that was read: the line in which a table or rules break a rule of acceptance, a line that is out of form,
 // and the first row of a table whose comment says another year. To find a line of a table the file is read once more, where it can be.
 ghost use Rattle.std.specs.Prelude.{◌≡◌, ◌≤◌, length};
-ghost use Rattle.text.specs.Reading.{whole_says};
 ghost use Rattle.text.specs.Written.{Wrote};
-ghost use Rattle.files.specs.Told.{table_line, year_of, other_year, year_in, meets, nowhere, looked_at, place_text, years_text, warning_text};
+ghost use Rattle.files.specs.Told.{table_line, year_of, other_year, meets, nowhere, looked_at, place_text, years_text, warning_text};
 ghost use Rattle.files.specs.Texts.{control_text, name_fault_text};
 ghost use Rattle.files.specs.Inner.{Looks};
 
-use crate::TableRead;
 use crate::problems::Problem;
 use conversion::Table;
 use faults::Fault;
-use keyed::Line;
 use output::STDERR;
 use std::io::{Read, Seek, SeekFrom};
 use std::num::wrapping_add_u64;
 use tables::Broken;
-use text::{Cursor, Whole};
+use text::Cursor;
 
 // What is sought among the lines that have a word: the one that so many come before; or, in a table that begins with this year, the first row
 // whose comment says another year.
@@ -26,33 +23,33 @@ pub enum Sought {
     OtherYear(u16),
 }
 
-// The number of the line that was looked at last, from 1 on; how many lines with a word come before it; the year that it says, 0 for none, and whether
-// it is the one sought.
+// The number of the line that was looked at last, from 1 on; how many lines with a word come before it; and, once it is the one sought, what its comment
+// says: a year or none.
 #[derive(Clone, Copy)]
 pub struct Place {
     pub line: u64,
     pub before: u64,
-    pub said: u16,
-    pub found: bool,
+    pub found: Option<Option<u16>>,
 }
 
 // How many lines with a word come before the line in which a table of so many rows breaks a rule.
-fn table_line(b: Broken, rows: usize) -> u64
+fn table_line(b: Option<Broken>, rows: usize) -> u64
     ensures { result ≡ table_line b rows }
 {
     match b {
-        Broken::Nothing => 0,
-        Broken::FirstYear => 0,
-        Broken::NoRow => 0,
-        Broken::ManyRows => 129,
-        Broken::NoDate => 0,
-        Broken::FirstDay => 0,
-        Broken::Cell(i, _, _) => wrapping_add_u64(i as u64, 1),
-        Broken::LastDay => rows as u64,
+        None => 0,
+        Some(Broken::FirstYear) => 0,
+        Some(Broken::NoRow) => 0,
+        Some(Broken::ManyRows) => 129,
+        Some(Broken::NoDate) => 0,
+        Some(Broken::FirstDay) => 0,
+        Some(Broken::Cell(i, _, _)) => wrapping_add_u64(i as u64, 1),
+        Some(Broken::LastDay) => rows as u64,
     }
 }
 
 // The BS year of the row that so many lines with a word come before, of which the first is no row.
+#[tactic(auto, unfolding(crate::specs::Told::year_of))]
 fn year_of(first: u16, before: u64) -> u64
     ensures { result ≡ year_of first before }
 {
@@ -63,28 +60,18 @@ fn year_of(first: u16, before: u64) -> u64
 }
 
 // Whether a comment says another year than its row has.
-fn says_other(first: u16, before: u64, said: Whole) -> bool
-    ensures { result ≡ other_year first before (whole_says said) }
+fn says_other(first: u16, before: u64, said: Option<u16>) -> bool
+    ensures { result ≡ other_year first before said }
 {
     match said {
-        Whole::Is(n) => (before != 0) & (n as u64 != year_of(first, before)),
-        Whole::Not => false,
-    }
-}
-
-// The year that is said, 0 for none.
-fn year_in(said: Whole) -> u16
-    ensures { result ≡ year_in (whole_says said) }
-{
-    match said {
-        Whole::Is(n) => n,
-        Whole::Not => 0,
+        Some(n) => (before != 0) & (n as u64 != year_of(first, before)),
+        None => false,
     }
 }
 
 // Whether a line is the one sought, by how many with a word come before it and what its comment says.
-fn is_sought(sought: Sought, before: u64, said: Whole) -> bool
-    ensures { result ≡ meets sought before (whole_says said) }
+fn is_sought(sought: Sought, before: u64, said: Option<u16>) -> bool
+    ensures { result ≡ meets sought before said }
 {
     match sought {
         Sought::Line(n) => before == n,
@@ -93,6 +80,7 @@ fn is_sought(sought: Sought, before: u64, said: Whole) -> bool
 }
 
 // The next line looked at.
+#[tactic(auto, unfolding(crate::specs::Told::looked_at))]
 fn look_at(p: Place, sought: Sought, s: &[u8]) -> Place
     ensures { result ≡ looked_at sought p s.now }
 {
@@ -101,8 +89,7 @@ fn look_at(p: Place, sought: Sought, s: &[u8]) -> Place
         return Place {
             line,
             before: p.before,
-            said: 0,
-            found: false,
+            found: None,
         };
     }
     let said = fields::year_said(s);
@@ -110,15 +97,13 @@ fn look_at(p: Place, sought: Sought, s: &[u8]) -> Place
         return Place {
             line,
             before: p.before,
-            said: year_in(said),
-            found: true,
+            found: Some(said),
         };
     }
     Place {
         line,
         before: wrapping_add_u64(p.before, 1),
-        said: 0,
-        found: false,
+        found: None,
     }
 }
 
@@ -129,8 +114,7 @@ fn no_place() -> Place
     Place {
         line: 0,
         before: 0,
-        said: 0,
-        found: false,
+        found: None,
     }
 }
 
@@ -138,13 +122,14 @@ fn no_place() -> Place
 fn look_through<F: Read>(file: &mut F, sought: Sought, piece: &mut [u8], line: &mut [u8]) -> Place
     ensures { Looks sought nowhere result }
 {
+    // A loop: the input is a state, which each line changes.
     let mut p = no_place();
     let mut input = lines::start(50000);
     while 0 < input.left {
         input = lines::next_line(file, input, piece, line);
         let n = input.len;
         p = look_at(p, sought, &line[..n]);
-        if p.found {
+        if p.found.is_some() {
             return p;
         }
     }
@@ -171,7 +156,7 @@ fn put_place(out: &mut [u8], at: usize, path: &[u8], p: Place) -> usize
     ensures { Wrote out.old at (place_text path.now p) out.new result }
 {
     let a = text::put(out, at, path);
-    if p.found {
+    if p.found.is_some() {
         let b = text::put(out, a, b": line ");
         return text::put_decimal(out, b, p.line);
     }
@@ -189,16 +174,17 @@ fn put_years(out: &mut [u8], at: usize, said: u16, year: u64) -> usize
     text::put(out, d, b"\n")
 }
 
-// Writes that the comment at a place says another year than its row, which is this one, has.
-fn put_warning(out: &mut [u8], at: usize, path: &[u8], p: Place, year: u64) -> usize
-    ensures { Wrote out.old at (warning_text path.now p year) out.new result }
+// Writes that the comment at a place says a year and its row has another.
+fn put_warning(out: &mut [u8], at: usize, path: &[u8], p: Place, said: u16, year: u64) -> usize
+    ensures { Wrote out.old at (warning_text path.now p said year) out.new result }
 {
     let a = text::put(out, at, b"warning: ");
     let b = put_place(out, a, path, p);
-    put_years(out, b, p.said, year)
+    put_years(out, b, said, year)
 }
 
 // Says what is wrong with a file.
+#[tactic(auto, using(crate::proofs::Fits::front_taken))]
 pub fn report(path: &[u8], p: Problem) {
     let mut out = [0u8; 4608];
     let n = crate::put_problem(&mut out, 0, path, p);
@@ -206,52 +192,31 @@ pub fn report(path: &[u8], p: Problem) {
 }
 
 // Says where a table breaks a rule.
-fn report_table(path: &[u8], p: Place, table: Table, b: Broken) {
+#[tactic(auto, using(crate::proofs::Fits::front_taken))]
+fn report_table(path: &[u8], p: Place, table: Table, b: Option<Broken>) {
     let mut out = [0u8; 4608];
     let a = put_place(&mut out, 0, path, p);
     let n = tables::put_refusal(&mut out, a, table, b);
     io::write_all(STDERR, &out[..n]);
 }
 
-// How many lines of a text are the ones due in a rule file, and the place behind them.
-#[derive(Clone, Copy)]
-struct Walked {
-    count: usize,
-    at: usize,
-}
-
-// The line due after i lines.
-fn read_due(s: &[u8], c: Cursor, i: usize) -> Line {
-    match i % 8 {
-        0 => keyed::read_line(s, c, b"kind"),
-        1 => keyed::read_line(s, c, b"year"),
-        2 => keyed::read_line(s, c, b"month"),
-        3 => keyed::read_line(s, c, b"day"),
-        4 => keyed::read_line(s, c, b"half"),
-        5 => keyed::read_line(s, c, b"kala"),
-        6 => keyed::read_line(s, c, b"name"),
-        _ => keyed::read_line(s, c, b"holiday"),
-    }
-}
-
-// Walks over the lines that are the ones due, and stores their numbers as long as there is room.
-fn walk(s: &[u8], numbers: &mut [u16]) -> Walked
-    ensures { result.count ≤ length numbers.new }
+// How many lines of a text are the ones due in a rule file, and the place behind them; their numbers are stored, and it ends where there is no room.
+fn walk(s: &[u8], numbers: &mut [u16]) -> (usize, Cursor)
+    ensures { result.0 ≤ length numbers.new }
 {
-    let mut at = 0;
-    let mut i = 0;
-    while i < numbers.len() {
-        let Line::Number(n, next) = read_due(s, Cursor { at }, i) else {
-            return Walked { count: i, at };
+    let mut c = text::start();
+    for (i, number) in numbers.iter_mut().enumerate() {
+        let Some((n, next)) = keyed::read_line(s, c, rulefile::key(i)) else {
+            return (i, c);
         };
-        numbers[i] = n;
-        at = next.at;
-        i += 1;
+        *number = n;
+        c = next;
     }
-    Walked { count: i, at }
+    (numbers.len(), c)
 }
 
 // Says what was expected in the line that i come before, with which this text begins.
+#[tactic(auto, using(crate::proofs::Fits::front_taken))]
 fn report_line(path: &[u8], i: usize, rest: &[u8]) {
     let mut out = [0u8; 4608];
     let a = faults::put_line(&mut out, 0, path, wrapping_add_u64(i as u64, 1));
@@ -262,15 +227,16 @@ fn report_line(path: &[u8], i: usize, rest: &[u8]) {
 // Says which line of a rule file is out of form, and why. A text of 65,536 bytes has less than 8,888 lines that are the ones due.
 pub fn tell_out_of_form(path: &[u8], s: &[u8]) {
     let mut numbers = [0u16; 8888];
-    let w = walk(s, &mut numbers);
-    let at = w.at;
+    let (i, c) = walk(s, &mut numbers);
+    let at = c.at;
     if at <= s.len() {
-        report_line(path, w.count, &s[at..]);
+        report_line(path, i, &s[at..]);
     }
 }
 
 // Says where a list of rules breaks a rule.
-fn report_rules(path: &[u8], f: Fault) {
+#[tactic(auto, using(crate::proofs::Fits::front_taken))]
+fn report_rules(path: &[u8], f: Option<Fault>) {
     let mut out = [0u8; 4608];
     let a = text::put(&mut out, 0, path);
     let n = faults::put_refusal(&mut out, a, f);
@@ -280,8 +246,7 @@ fn report_rules(path: &[u8], f: Fault) {
 // Says where the rules of a file in form are refused.
 pub fn tell_refused(path: &[u8], s: &[u8]) {
     let mut numbers = [0u16; 8888];
-    let w = walk(s, &mut numbers);
-    let n = w.count;
+    let (n, _) = walk(s, &mut numbers);
     report_rules(path, faults::first_fault(&numbers[..n]));
 }
 
@@ -335,6 +300,7 @@ fn put_name_fault(out: &mut [u8], at: usize, fault: naming::Fault) -> usize
 }
 
 // Says which line of a file of names is out of form, and why.
+#[tactic(auto, using(crate::proofs::Fits::front_taken))]
 pub fn tell_name(path: &[u8], line: usize, fault: naming::Fault) {
     let mut out = [0u8; 4608];
     let a = faults::put_line(&mut out, 0, path, line as u64);
@@ -343,17 +309,18 @@ pub fn tell_name(path: &[u8], line: usize, fault: naming::Fault) {
 }
 
 // Warns of a comment that says another year.
-fn warn(path: &[u8], p: Place, first: u16) {
+#[tactic(auto, using(crate::proofs::Fits::front_taken))]
+fn warn(path: &[u8], p: Place, said: u16, first: u16) {
     let mut out = [0u8; 4608];
-    let n = put_warning(&mut out, 0, path, p, year_of(first, p.before));
+    let n = put_warning(&mut out, 0, path, p, said, year_of(first, p.before));
     io::write_all(STDERR, &out[..n]);
 }
 
 // Says what is wrong with the years that the comments of a table say.
 fn tell_years<F: Read + Seek>(file: &mut F, path: &[u8], first: u16) {
     let p = look(file, Sought::OtherYear(first));
-    if p.found {
-        warn(path, p, first);
+    if let Some(Some(said)) = p.found {
+        warn(path, p, said, first);
     }
 }
 
@@ -372,15 +339,20 @@ fn judge_table<F: Read + Seek>(file: &mut F, path: &[u8], table: Table, rows: &[
 }
 
 // Says what there is to say of a table that was read.
-pub fn tell_table<F: Read + Seek>(file: &mut Option<F>, path: &[u8], r: TableRead, rows: &[u16]) {
+pub fn tell_table<F: Read + Seek>(
+    file: &mut Option<F>,
+    path: &[u8],
+    r: Result<(Table, usize), Problem>,
+    rows: &[u16],
+) {
     match r {
-        TableRead::Is(table, n) => {
+        Ok((table, n)) => {
             if let Some(open) = file {
                 if n <= rows.len() {
                     judge_table(open, path, table, &rows[..n]);
                 }
             }
         }
-        TableRead::Not(p) => report(path, p),
+        Err(p) => report(path, p),
     }
 }

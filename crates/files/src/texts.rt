@@ -7,25 +7,17 @@ use std::fs;
 use std::io::Read;
 use std::rt::Files;
 
-// How many bytes a file has, or what is wrong.
-#[derive(Clone, Copy)]
-pub enum TextRead {
-    Is(usize),
-    Not(Problem),
-}
-
 // The file that a path names, opened for reading. A path that is not UTF-8 names none.
 pub fn open<R: Files>(rt: &R, path: &[u8]) -> Option<R::File> {
-    match str::from_utf8(path) {
-        Ok(name) => fs::open(rt, name).ok(),
-        Err(_) => None,
-    }
+    let name = str::from_utf8(path).ok()?;
+    fs::open(rt, name).ok()
 }
 
 // Reads until the text is full, the file ends or a read fails, and answers how many bytes stand at the front of the text.
 fn read_full<F: Read>(file: &mut F, text: &mut [u8]) -> usize
     ensures { result ≤ length text.new }
 {
+    // A loop: the place moves by as much as a read brings.
     let mut n = 0;
     while n < text.len() {
         match file.read(&mut text[n..]) {
@@ -38,24 +30,22 @@ fn read_full<F: Read>(file: &mut F, text: &mut [u8]) -> usize
 }
 
 // The bytes of an open file. Behind them a read must bring nothing: what fails, fails again there, and what is larger than the buffer brings more.
-fn read_open<F: Read>(file: &mut F, text: &mut [u8]) -> TextRead
+fn read_open<F: Read>(file: &mut F, text: &mut [u8]) -> Result<usize, Problem>
     ensures { Inside result text.new }
 {
     let n = read_full(file, text);
     let mut more = [0u8; 1];
     match file.read(&mut more) {
-        Ok(0) => TextRead::Is(n),
-        Ok(_) => TextRead::Not(Problem::TooLarge),
-        Err(_) => TextRead::Not(Problem::NotRead),
+        Ok(0) => Ok(n),
+        Ok(_) => Err(Problem::TooLarge),
+        Err(_) => Err(Problem::NotRead),
     }
 }
 
 // The bytes of the file that a path names.
-pub fn read_named<R: Files>(rt: &R, path: &[u8], text: &mut [u8]) -> TextRead
+pub fn read_named<R: Files>(rt: &R, path: &[u8], text: &mut [u8]) -> Result<usize, Problem>
     ensures { Inside result text.new }
 {
-    match open(rt, path) {
-        Some(mut file) => read_open(&mut file, text),
-        None => TextRead::Not(Problem::NotOpened),
-    }
+    let mut file = open(rt, path).ok_or(Problem::NotOpened)?;
+    read_open(&mut file, text)
 }

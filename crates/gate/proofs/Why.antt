@@ -1,4 +1,5 @@
 -- The reason of a date: from what was stored and found, and that there is one exactly if the date is a holiday. Assumes nothing.
+use Rattle.std.specs.Prelude.{Err, Ok, None, Option, Some}
 use Prim.Native.Nat.{ℕ, suc, ◌+◌, ◌-◌, ◌*◌, ◌≤◌, ◌<◌}
 use mathlib.Core.Path.{◌≡◌, refl, sym, ap, ◌∙◌}
 use mathlib.Core.Bool.{Bool, true, false, cond, ◌||◌}
@@ -11,7 +12,7 @@ use lib.ListN.{length, get_or, drop}
 use lib.Seq.{sets, get_or-drop, drop-drop}
 use Rattle.paper.specs.declared.Refusal.{Refusal}
 use Rattle.paper.specs.declared.Refusal.TheVariants.{BadTable, BadRules}
-use Rattle.paper.specs.Answers.{Answer, answered, refused, given, then}
+use Rattle.paper.specs.Answers.{Answer, given, then}
 use Rattle.paper.proofs.Answers.{given_then}
 use Rattle.paper.proofs.Stores.{sets_front}
 use Rattle.gregorian.specs.Calendar.{weekday_of}
@@ -27,28 +28,28 @@ use Rattle.festivals.specs.Kathmandu.{day_list_of}
 use Rattle.grid.specs.Cells.{saturday, any_holiday, holiday_of}
 use Rattle.holiday.specs.Holiday.{holiday_by}
 use Rattle.gate.specs.declared.reasons.Reason.{Reason}
-use Rattle.gate.specs.declared.reasons.Reason.TheVariants.{Nothing, Saturday, Festival}
+use Rattle.gate.specs.declared.reasons.Reason.TheVariants.{Saturday, Festival}
 use Rattle.gate.specs.Claims.{is_yes, YesExactly}
 use Rattle.gate.specs.Inner.{marked_from}
 use Rattle.gate.specs.Reasons.{first_holiday, reason_of, reason_under}
 
 -- ---- the loop over the pairs
 
-marked_suc : (xs : List ℕ) (i k : ℕ) → marked_from xs i (suc k) ≡ cond (eqb (get_or xs (i * 2 + 1) 0) 1) (Festival (get_or xs (i * 2) 0)) (marked_from xs (i + 1) k)
+marked_suc : (xs : List ℕ) (i k : ℕ) → marked_from xs i (suc k) ≡ cond (eqb (get_or xs (i * 2 + 1) 0) 1) (Some (Festival (get_or xs (i * 2) 0))) (marked_from xs (i + 1) k)
 unfolding marked_from
 marked_suc xs i k = refl
 
-pub marked_none : (xs : List ℕ) (i k : ℕ) (r : Reason) → k ≡ 0 → marked_from xs i k ≡ r → Nothing ≡ r
+pub marked_none : (xs : List ℕ) (i k : ℕ) (r : Option Reason) → k ≡ 0 → marked_from xs i k ≡ r → None ≡ r
 unfolding marked_from
 marked_none xs i k r e q = rw e at q
 
-module _ (xs : List ℕ) (i n : ℕ) (h : i < n) (r : Reason) (q : marked_from xs i (n - i) ≡ r) where
-  turn : cond (eqb (get_or xs (i * 2 + 1) 0) 1) (Festival (get_or xs (i * 2) 0)) (marked_from xs (i + 1) (n - (i + 1))) ≡ r
+module _ (xs : List ℕ) (i n : ℕ) (h : i < n) (r : Option Reason) (q : marked_from xs i (n - i) ≡ r) where
+  turn : cond (eqb (get_or xs (i * 2 + 1) 0) 1) (Some (Festival (get_or xs (i * 2) 0))) (marked_from xs (i + 1) (n - (i + 1))) ≡ r
   turn =
       let e : n - i ≡ suc (n - (i + 1)) = omega arith in
       sym (ap (marked_from xs i) e ∙ marked_suc xs i (n - (i + 1))) ∙ q
 
-  pub marked_here : get_or xs (i * 2 + 1) 0 ≡ 1 → Festival (get_or xs (i * 2) 0) ≡ r
+  pub marked_here : get_or xs (i * 2 + 1) 0 ≡ 1 → Some (Festival (get_or xs (i * 2) 0)) ≡ r
   marked_here e = rw (eq-eqb (get_or xs (i * 2 + 1) 0) 1 e) at turn
 
   pub marked_on : (get_or xs (i * 2 + 1) 0 ≡ 1 → ⊥) → marked_from xs (i + 1) (n - (i + 1)) ≡ r
@@ -76,11 +77,11 @@ stored l xs ys n p q h =
 -- ---- a day
 
 module _ (n w : ℕ) (l : List Pair) (e : w ≡ weekday_of n) where
-  pub on_saturday : w ≡ 6 → Saturday ≡ reason_of n l
+  pub on_saturday : w ≡ 6 → Some Saturday ≡ reason_of n l
   unfolding reason_of
   on_saturday h = rw (← e, eq-eqb w 6 h)
 
-  pub by_list : (w ≡ 6 → ⊥) → (r : Reason) → r ≡ first_holiday l → r ≡ reason_of n l
+  pub by_list : (w ≡ 6 → ⊥) → (r : Option Reason) → r ≡ first_holiday l → r ≡ reason_of n l
   unfolding reason_of
   by_list h r q = rw (← e, ne_eqb w 6 h) q
 
@@ -88,20 +89,20 @@ module _ (n w : ℕ) (l : List Pair) (e : w ≡ weekday_of n) where
 
 module _ (c : Calendar) (rules : List ℕ) (y m d : ℕ) where
   -- what is lent is refused
-  pub not_lent : (k : Refusal) → refused k ≡ accepting c (accepted_rules rules) → refused k ≡ reason_under c rules y m d
+  pub not_lent : (k : Refusal) → Err k ≡ accepting c (accepted_rules rules) → Err k ≡ reason_under c rules y m d
   unfolding reason_under
   not_lent k e = sym (lent_not c (accepted_rules rules) _ k e)
 
   module _ (g : c.good ≡ true) (o : accepted_rules rules ≡ true) where
-    by-day : reason_under c rules y m d ≡ then (to_day c y m d) (λ n. answered (reason_of n (day_list_of c (rules_of rules) (bs y m d) n)))
+    by-day : reason_under c rules y m d ≡ then (to_day c y m d) (λ n. Ok (reason_of n (day_list_of c (rules_of rules) (bs y m d) n)))
     unfolding reason_under
     by-day = lent_on c (accepted_rules rules) _ g o
 
-    pub no_day_law : (k : Refusal) → to_day c y m d ≡ refused k → refused k ≡ reason_under c rules y m d
+    pub no_day_law : (k : Refusal) → to_day c y m d ≡ Err k → Err k ≡ reason_under c rules y m d
     no_day_law k e = sym (by-day ∙ then_not (to_day c y m d) _ k e)
 
-    pub told-on : (n : ℕ) (r : Reason) → to_day c y m d ≡ answered n → r ≡ reason_of n (day_list_of c (rules_of rules) (bs y m d) n) → answered r ≡ reason_under c rules y m d
-    told-on n r e q = ap answered q ∙ sym (by-day ∙ then_by (to_day c y m d) _ n e)
+    pub told-on : (n : ℕ) (r : Option Reason) → to_day c y m d ≡ Ok n → r ≡ reason_of n (day_list_of c (rules_of rules) (bs y m d) n) → Ok r ≡ reason_under c rules y m d
+    told-on n r e q = ap Ok q ∙ sym (by-day ∙ then_by (to_day c y m d) _ n e)
 
 -- ---- A REASON IS GIVEN EXACTLY IF THE DATE IS A HOLIDAY
 
@@ -110,7 +111,7 @@ unfolding first_holiday any_holiday
 first_yes [] = refl
 first_yes (e ∷ es) = go (eqb e.1 1) (first_yes es)
   where
-    go : (b : Bool) → is_yes (first_holiday es) ≡ any_holiday es → is_yes (cond b (Festival e.0) (first_holiday es)) ≡ (b || any_holiday es)
+    go : (b : Bool) → is_yes (first_holiday es) ≡ any_holiday es → is_yes (cond b (Some (Festival e.0)) (first_holiday es)) ≡ (b || any_holiday es)
     go true h = refl
     go false h = h
 
@@ -118,15 +119,14 @@ reason_yes : (n : ℕ) (l : List Pair) → is_yes (reason_of n l) ≡ holiday_of
 unfolding reason_of
 reason_yes n l = go (saturday n)
   where
-    go : (b : Bool) → is_yes (cond b Saturday (first_holiday l)) ≡ (b || any_holiday l)
+    go : (b : Bool) → is_yes (cond b (Some Saturday) (first_holiday l)) ≡ (b || any_holiday l)
     go true = refl
     go false = first_yes l
 
-then_yes : (a : Answer ℕ) (p : ℕ → Reason) (q : ℕ → Bool) → ((n : ℕ) → is_yes (p n) ≡ q n)
-    → then (then a (λ n. answered (p n))) (λ r. answered (is_yes r)) ≡ then a (λ n. answered (q n))
-unfolding then
-then_yes (answered n) p q h = ap answered (h n)
-then_yes (refused k) p q h = refl
+then_yes : (a : Answer ℕ) (p : ℕ → Option Reason) (q : ℕ → Bool) → ((n : ℕ) → is_yes (p n) ≡ q n)
+    → then (then a (λ n. Ok (p n))) (λ r. Ok (is_yes r)) ≡ then a (λ n. Ok (q n))
+then_yes (Ok n) p q h = ap Ok (h n)
+then_yes (Err k) p q h = refl
 
 pub yes_exactly : YesExactly
 unfolding reason_under holiday_by

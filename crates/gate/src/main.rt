@@ -5,17 +5,16 @@
 mod reasons;
 mod said;
 
-use commands::words::{Asked, Words};
+use commands::words::Asked;
 use commands::{refusals, words};
 use conversion::Table;
-use files::{NamesRead, RulesRead, TableRead};
 use output::{STDERR, STDOUT};
 use paper::Refusal;
-use reasons::{Reason, ReasonAnswer};
+use reasons::Reason;
 use std::rt::{Env, Files};
 
 // What the words from the fourth argument on ask: one or three. A word that is longer than its buffer is empty.
-fn from_words<R: Env>(rt: &R) -> Words {
+fn from_words<R: Env>(rt: &R) -> Option<Asked> {
     let mut first = [0u8; 16];
     let mut second = [0u8; 16];
     let mut third = [0u8; 16];
@@ -29,7 +28,7 @@ fn from_words<R: Env>(rt: &R) -> Words {
     if count == 7 {
         return words::asked_by(3, &first[..a], &second[..b], &third[..c]);
     }
-    Words::Other
+    None
 }
 
 // Writes the line that says why there is no answer to standard error. Where the table or the rules are refused, with 1 or 2, that was said with the
@@ -44,7 +43,7 @@ fn refuse(why: Refusal, asked: Asked) {
 }
 
 // Writes yes or no, and why, to standard output.
-fn tell(reason: Reason, names: &[u8]) {
+fn tell(reason: Option<Reason>, names: &[u8]) {
     let mut line = [0u8; 65600];
     let n = said::put_reason(&mut line, 0, reason, names);
     if !io::write_all(STDOUT, &line[..n]) {
@@ -55,8 +54,8 @@ fn tell(reason: Reason, names: &[u8]) {
 // Writes what is answered.
 fn show(asked: Asked, table: Table, rows: &[u16], rules: &[u16], names: &[u8]) {
     match reasons::reason_asked(table, rows, rules, asked) {
-        ReasonAnswer::Is(reason) => tell(reason, names),
-        ReasonAnswer::Refused(why) => refuse(why, asked),
+        Ok(reason) => tell(reason, names),
+        Err(why) => refuse(why, asked),
     }
 }
 
@@ -69,13 +68,13 @@ fn run<R: Env + Files>(
     rules: &mut [u16],
     names: &mut [u8],
 ) {
-    let TableRead::Is(table, n) = files::table_at(rt, 1, rows) else {
+    let Ok((table, n)) = files::table_at(rt, 1, rows) else {
         return;
     };
-    let RulesRead::Are(k) = files::rules_at(rt, 2, rules) else {
+    let Ok(k) = files::rules_at(rt, 2, rules) else {
         return;
     };
-    let NamesRead::Are(m) = files::names_at(rt, 3, names) else {
+    let Some(m) = files::names_at(rt, 3, names) else {
         return;
     };
     show(asked, table, &rows[..n], &rules[..k], &names[..m]);
@@ -86,8 +85,8 @@ fn main(rt: HostRuntime) {
     let mut rules = [0u16; 2600];
     let mut names = [0u8; 65536];
     match from_words(&rt) {
-        Words::Ask(asked) => run(&rt, asked, &mut rows, &mut rules, &mut names),
-        Words::Other => {
+        Some(asked) => run(&rt, asked, &mut rows, &mut rules, &mut names),
+        None => {
             io::write_all(
                 STDERR,
                 b"patro: not in form: give a BS date (2083 7 29) or a Gregorian date (2026-11-15)\n",

@@ -14,11 +14,13 @@ fn put_festival(out: &mut [u8], at: usize, n: u16, names: &[u8]) -> usize
 }
 
 // Writes whether a day is a holiday, and why, and answers the place after it.
-pub fn put_reason(out: &mut [u8], at: usize, reason: Reason, names: &[u8]) -> usize
+pub fn put_reason(out: &mut [u8], at: usize, reason: Option<Reason>, names: &[u8]) -> usize
     ensures { Wrote out.old at (line_of names.now reason) out.new result }
 {
-    match reason {
-        Reason::Nothing => text::put(out, at, b"no\n"),
+    let Some(why) = reason else {
+        return text::put(out, at, b"no\n");
+    };
+    match why {
         Reason::Saturday => text::put(out, at, b"yes (Saturday)\n"),
         Reason::Festival(n) => put_festival(out, at, n, names),
     }

@@ -5,45 +5,29 @@ ghost use Rattle.std.specs.Prelude.{◌≡◌, ◌+◌, ◌<◌, ◌≤◌, T};
 ghost use Rattle.paper.specs.Floats.{floor_of};
 ghost use Rattle.gregorian.specs.Calendar.{leap, month_length, month_start, year_start, year_length, all_days, is_date, day_number, weekday_of, date_after};
 ghost use Rattle.gregorian.specs.Instants.{instant, zero_of, julian_says, julian_answer, npt_answer, local_day};
-ghost use Rattle.gregorian.specs.Answers.{date_says, number_says, new_date, number_answer, weekday_answer, next_answer, date_answer};
+ghost use Rattle.gregorian.specs.Answers.{new_date, number_answer, weekday_answer, next_answer, date_answer};
 
-use paper::Refusal;
+use paper::{Answer, Refusal};
 
 // A date as three numbers. A record that is no date is refused by every call, with 3.
-#[derive(Clone, Copy)]
+#[derive(Clone, Copy, PartialEq, Eq)]
 pub struct Date {
     pub year: u16,
     pub month: u16,
     pub day: u16,
 }
 
-// A date, or a refusal.
-#[derive(Clone, Copy)]
-pub enum DateAnswer {
-    Is(Date),
-    Refused(Refusal),
-}
-
-// The number of a day or of a weekday, or a refusal.
-#[derive(Clone, Copy)]
-pub enum NumberAnswer {
-    Number(u32),
-    Refused(Refusal),
-}
-
 // A Julian day of universal time.
 #[derive(Clone, Copy)]
 pub struct UtDay(pub f64);
 
-// An instant, or a refusal.
-#[derive(Clone, Copy)]
-pub enum JulianAnswer {
-    At(UtDay),
-    Refused(Refusal),
-}
-
 // Nepal time, 5 hours and 45 minutes east, as a fraction of a day.
 pub const NPT_OFFSET: f64 = 5.75 / 24.0;
+
+// The numbers of 1 January 1900 and 31 December 2149.
+const FIRST: u32 = 2415021;
+
+const LAST: u32 = 2506331;
 
 // The lengths of the months of a common year.
 const LENGTHS: [u16; 13] = [0, 31, 28, 31, 30, 31, 30, 31, 31, 30, 31, 30, 31];
@@ -67,29 +51,17 @@ fn month_length(l: bool, m: u16) -> u16
     if m > 12 {
         return 0;
     }
-    if l {
-        if m == 2 {
-            return 29;
-        }
+    if l && m == 2 {
+        return 29;
     }
-    let i = m as usize;
-    LENGTHS[i]
+    LENGTHS[m as usize]
 }
 
 // Whether three numbers are a date from 1900 to 2149.
 fn is_date(y: u16, m: u16, d: u16) -> bool
     ensures { result ≡ is_date y m d }
 {
-    if y < 1900 {
-        return false;
-    }
-    if 2149 < y {
-        return false;
-    }
-    if d < 1 {
-        return false;
-    }
-    d <= month_length(is_leap(y), m)
+    (1900..=2149).contains(&y) && (1..=month_length(is_leap(y), m)).contains(&d)
 }
 
 // The days before a month of a year, for months up to 13.
@@ -97,14 +69,8 @@ fn month_start(l: bool, m: u16) -> u32
     requires { m < 14 }
     ensures { result ≡ month_start l m }
 {
-    let i = m as usize;
-    let common = STARTS[i] as u32;
-    if l {
-        if 2 < m {
-            return common + 1;
-        }
-    }
-    common
+    let common = STARTS[m as usize] as u32;
+    if l && 2 < m { common + 1 } else { common }
 }
 
 // The days before the year 1900 + n.
@@ -123,7 +89,7 @@ fn number(y: u16, m: u16, d: u16) -> u32
 {
     let years = year_start((y - 1900) as u32);
     let months = month_start(is_leap(y), m);
-    2415021 + years + months + ((d - 1) as u32)
+    FIRST + years + months + ((d - 1) as u32)
 }
 
 // The day of the week of a day number, 0 for Sunday.
@@ -177,82 +143,68 @@ fn date_after(n: u32) -> Date
 
 impl Date {
     // The date with these numbers, if there is one.
-    pub fn new(year: u16, month: u16, day: u16) -> DateAnswer
-        ensures { date_says result ≡ new_date year month day }
+    pub fn new(year: u16, month: u16, day: u16) -> Answer<Date>
+        ensures { result ≡ new_date year month day }
     {
         if is_date(year, month, day) {
-            DateAnswer::Is(Date { year, month, day })
+            Ok(Date { year, month, day })
         } else {
-            DateAnswer::Refused(Refusal::NoSuchDate)
+            Err(Refusal::NoSuchDate)
         }
     }
 
     // The Julian day number of the day's noon.
-    pub fn day_number(self) -> NumberAnswer
-        ensures { number_says result ≡ number_answer self }
+    pub fn day_number(self) -> Answer<u32>
+        ensures { result ≡ number_answer self }
     {
         if is_date(self.year, self.month, self.day) {
-            NumberAnswer::Number(number(self.year, self.month, self.day))
+            Ok(number(self.year, self.month, self.day))
         } else {
-            NumberAnswer::Refused(Refusal::NoSuchDate)
+            Err(Refusal::NoSuchDate)
         }
     }
 
     // The day of the week, 0 for Sunday.
-    pub fn weekday(self) -> NumberAnswer
-        ensures { number_says result ≡ weekday_answer self }
+    pub fn weekday(self) -> Answer<u32>
+        ensures { result ≡ weekday_answer self }
     {
-        if is_date(self.year, self.month, self.day) {
-            NumberAnswer::Number(weekday_of(number(self.year, self.month, self.day)))
-        } else {
-            NumberAnswer::Refused(Refusal::NoSuchDate)
-        }
+        let n = self.day_number()?;
+        Ok(weekday_of(n))
     }
 
     // The day after; none after 31 December 2149.
-    pub fn next(self) -> DateAnswer
-        ensures { date_says result ≡ next_answer self }
+    pub fn next(self) -> Answer<Date>
+        ensures { result ≡ next_answer self }
     {
-        let y = self.year;
-        let m = self.month;
-        let d = self.day;
-        if is_date(y, m, d) {
-            if d < month_length(is_leap(y), m) {
-                return DateAnswer::Is(Date {
-                    year: y,
-                    month: m,
-                    day: d + 1,
-                });
-            }
-            if m < 12 {
-                return DateAnswer::Is(Date {
-                    year: y,
-                    month: m + 1,
-                    day: 1,
-                });
-            }
-            if y < 2149 {
-                return DateAnswer::Is(Date {
-                    year: y + 1,
-                    month: 1,
-                    day: 1,
-                });
-            }
+        let Date { year, month, day } = self;
+        if !is_date(year, month, day) {
+            return Err(Refusal::NoSuchDate);
         }
-        DateAnswer::Refused(Refusal::NoSuchDate)
+        if day < month_length(is_leap(year), month) {
+            return Ok(Date {
+                year,
+                month,
+                day: day + 1,
+            });
+        }
+        if month < 12 {
+            return Ok(Date {
+                year,
+                month: month + 1,
+                day: 1,
+            });
+        }
+        Date::new(year + 1, 1, 1)
     }
 
     // The date of a day number.
-    pub fn from_day_number(n: u32) -> DateAnswer
-        ensures { date_says result ≡ date_answer n }
+    pub fn from_day_number(n: u32) -> Answer<Date>
+        ensures { result ≡ date_answer n }
     {
-        if n < 2415021 {
-            return DateAnswer::Refused(Refusal::NoSuchDate);
+        if !(FIRST..=LAST).contains(&n) {
+            return Err(Refusal::NoSuchDate);
         }
-        if 2506332 <= n {
-            return DateAnswer::Refused(Refusal::NoSuchDate);
-        }
-        DateAnswer::Is(date_after(n - 2415021))
+        Ok(date_after(n - FIRST))
     }
 }
 
@@ -260,10 +212,7 @@ impl Date {
 pub fn is_instant(x: f64) -> bool
     ensures { result ≡ instant x }
 {
-    if 2400000.0 <= x {
-        return x <= 2510000.0;
-    }
-    false
+    2400000.0 <= x && x <= 2510000.0
 }
 
 // 0h of the day whose number is n, as a Julian day: half a day before its noon.
@@ -274,17 +223,15 @@ pub fn zero_hour(n: u32) -> f64
 }
 
 // The Julian day of a date at a fraction of the day.
-pub fn julian_day(date: Date, fraction: f64) -> JulianAnswer
+pub fn julian_day(date: Date, fraction: f64) -> Answer<UtDay>
     ensures { julian_says result ≡ julian_answer date fraction }
 {
-    if is_date(date.year, date.month, date.day) {
-        let t = zero_hour(number(date.year, date.month, date.day)) + fraction;
-        if is_instant(t) {
-            return JulianAnswer::At(UtDay(t));
-        }
-        return JulianAnswer::Refused(Refusal::OutOfRange);
+    let n = date.day_number()?;
+    let t = zero_hour(n) + fraction;
+    if !is_instant(t) {
+        return Err(Refusal::OutOfRange);
     }
-    JulianAnswer::Refused(Refusal::NoSuchDate)
+    Ok(UtDay(t))
 }
 
 // The local day in Nepal of an instant: its whole part is the number of the date there, and its fraction the part of that date gone by.
@@ -303,12 +250,11 @@ fn whole_day(x: f64) -> u32
 }
 
 // The date in Nepal at an instant.
-pub fn npt_date(instant: UtDay) -> DateAnswer
-    ensures { date_says result ≡ npt_answer instant.0 }
+pub fn npt_date(instant: UtDay) -> Answer<Date>
+    ensures { result ≡ npt_answer instant.0 }
 {
-    let x = instant.0;
-    if is_instant(x) {
-        return Date::from_day_number(whole_day(x));
+    if !is_instant(instant.0) {
+        return Err(Refusal::OutOfRange);
     }
-    DateAnswer::Refused(Refusal::OutOfRange)
+    Date::from_day_number(whole_day(instant.0))
 }

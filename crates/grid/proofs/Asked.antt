@@ -1,4 +1,5 @@
 -- A month that is asked for: which refusal comes first, and what is known where none does. Assumes nothing.
+use Rattle.std.specs.Prelude.{Err, Ok}
 use Prim.Native.Nat.{ℕ, zero, suc, ◌+◌, ◌-◌, ◌≤◌, ◌<◌}
 use mathlib.Core.Path.{◌≡◌, refl, ap, ◌∙◌}
 use mathlib.Core.Bool.{Bool, true}
@@ -6,7 +7,7 @@ use mathlib.Core.List.{List}
 use native.Mathlib.Omega.{arith}
 use Rattle.paper.specs.declared.Refusal.{Refusal}
 use Rattle.paper.specs.declared.Refusal.TheVariants.{BadTable, BadRules, NoSuchDate, NoRoom}
-use Rattle.paper.specs.Answers.{answered, refused, given, then}
+use Rattle.paper.specs.Answers.{given, then}
 use Rattle.paper.proofs.Answers.{answered_same, given_answered, given_on, given_then, then_answered}
 use Rattle.gregorian.specs.declared.Date.{Date}
 use Rattle.gregorian.specs.Answers.{real, number_answer}
@@ -28,12 +29,12 @@ use Rattle.grid.specs.Month.{Grid, day_on, list_on, cell_on, grid_of, fitted, mo
 
 module _ (c : Calendar) (ok : Bool) (list : Day → List Pair) (reading : Day → Reading) (today : Date) (y m a b : ℕ) where
   -- what is lent is refused
-  pub not_lent : (k : Refusal) → refused k ≡ accepting c ok → month_grid c ok list reading today y m a b ≡ refused k
+  pub not_lent : (k : Refusal) → Err k ≡ accepting c ok → month_grid c ok list reading today y m a b ≡ Err k
   unfolding month_grid
   not_lent k e = lent_not c ok _ k e
 
   -- today has no number
-  pub no_today : c.good ≡ true → ok ≡ true → (k : Refusal) → refused k ≡ number_answer today → month_grid c ok list reading today y m a b ≡ refused k
+  pub no_today : c.good ≡ true → ok ≡ true → (k : Refusal) → Err k ≡ number_answer today → month_grid c ok list reading today y m a b ≡ Err k
   unfolding month_grid
   no_today g o k e = lent_on c ok _ g o ∙ given_not (real today) NoSuchDate k _ _ e
 
@@ -55,7 +56,7 @@ module _ (c : Calendar) (ok : Bool) (list : Day → List Pair) (reading : Day �
     pub is_date_law : real today ≡ true
     pub grid : grid_of list reading today y m (day_at c (y - c.first) (m - 1) 0) (c.len (y - c.first) (m - 1)) ≡ g
 
-  pub told : (g : Grid) → month_grid c ok list reading today y m a b ≡ answered g → Told g
+  pub told : (g : Grid) → month_grid c ok list reading today y m a b ≡ Ok g → Told g
   unfolding month_grid fitted
   told g h =
       let p = lent_told c ok _ h in

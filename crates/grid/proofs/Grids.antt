@@ -1,4 +1,5 @@
 -- A month's answer and its two buffers: how long what is written is, and what fits. Assumes nothing.
+use Rattle.std.specs.Prelude.{Err, Ok}
 use Prim.Native.Nat.{ℕ, ◌*◌, ◌≤◌, ◌<◌}
 use mathlib.Core.Path.{◌≡◌, refl, sym, ap, ◌∙◌}
 use mathlib.Core.Bool.{and-false}
@@ -9,7 +10,7 @@ use lib.ListN.{length, take, replicate}
 use lib.Seq.{sets}
 use Rattle.paper.specs.declared.Refusal.{Refusal}
 use Rattle.paper.specs.declared.Refusal.TheVariants.{NoRoom}
-use Rattle.paper.specs.Answers.{Answer, answered, refused, given}
+use Rattle.paper.specs.Answers.{Answer}
 use Rattle.paper.proofs.Stores.{sets_front, front_of}
 use Rattle.gregorian.specs.Calendar.{weekday_of}
 use Rattle.rules.specs.Festivals.{numbers}
@@ -26,16 +27,16 @@ use Rattle.grid.proofs.Weeks.{month_length_law, month-numbers, month-laid}
 -- ---- what fits
 
 module _ (g : Grid) (a b : ℕ) where
-  pub no_cells : a < length (cell_numbers g) → fitted g a b ≡ refused NoRoom
-  unfolding fitted given
+  pub no_cells : a < length (cell_numbers g) → fitted g a b ≡ Err NoRoom
+  unfolding fitted
   no_cells h = rw (lt-leb (length (cell_numbers g)) a h)
 
-  pub no_festivals : b < length (festival_numbers g) → fitted g a b ≡ refused NoRoom
-  unfolding fitted given
+  pub no_festivals : b < length (festival_numbers g) → fitted g a b ≡ Err NoRoom
+  unfolding fitted
   no_festivals h = rw (lt-leb (length (festival_numbers g)) b h, and-false (leb (length (cell_numbers g)) a))
 
-  pub fits : length (cell_numbers g) ≤ a → length (festival_numbers g) ≤ b → fitted g a b ≡ answered g
-  unfolding fitted given
+  pub fits : length (cell_numbers g) ≤ a → length (festival_numbers g) ≤ b → fitted g a b ≡ Ok g
+  unfolding fitted
   fits h k = rw (le-leb _ _ h, le-leb _ _ k)
 
 -- an answer and two buffers are what is shown
@@ -45,7 +46,7 @@ pub record Says (a : Answer Grid) (cells festivals : List ℕ) (r : Answer Month
   pub second : festivals' ≡ (shown a cells festivals).festivals
 
 -- a refusal changes nothing
-pub says_refused : (a : Answer Grid) (k : Refusal) (cells festivals : List ℕ) → a ≡ refused k → Says a cells festivals (refused k) cells festivals
+pub says_refused : (a : Answer Grid) (k : Refusal) (cells festivals : List ℕ) → a ≡ Err k → Says a cells festivals (Err k) cells festivals
 unfolding shown
 says_refused a k cells festivals e = rw e (record { answer = refl; first = refl; second = refl })
 
@@ -53,10 +54,10 @@ pub says_by : {a b : Answer Grid} {cells festivals cells' festivals' : List ℕ}
 says_by e s = rw e s
 
 -- what fits is stored from the front
-pub says_grid : (a : Answer Grid) (g : Grid) (cells festivals vs ws : List ℕ) (r : Month) → a ≡ answered g
+pub says_grid : (a : Answer Grid) (g : Grid) (cells festivals vs ws : List ℕ) (r : Month) → a ≡ Ok g
     → r ≡ record { days = g.days; first = g.first; last = g.last; cells = length g.cells; festivals = length g.festivals }
     → vs ≡ cell_numbers g → ws ≡ festival_numbers g → length (cell_numbers g) ≤ length cells → length (festival_numbers g) ≤ length festivals
-    → Says a cells festivals (answered r) (sets cells 0 vs) (sets festivals 0 ws)
+    → Says a cells festivals (Ok r) (sets cells 0 vs) (sets festivals 0 ws)
 unfolding shown
 says_grid a g cells festivals vs ws r e m p q h k =
     rw (e, m, p, q) (record { answer = refl; first = sets_front (cell_numbers g) cells h; second = sets_front (festival_numbers g) festivals k })

@@ -1,12 +1,13 @@
 -- DEMAND 3 for the month, over two good calendars of which the longer begins as the shorter does: what the shorter answers the longer answers, with the
 -- same numbers in both buffers, and the shorter refuses a month of the longer exactly if its year is added. Assumes nothing.
+use Rattle.std.specs.Prelude.{Ok}
 use Prim.Native.Nat.{ℕ, ◌+◌, ◌-◌, ◌<◌}
 use mathlib.Core.Path.{◌≡◌, sym, ap, ◌∙◌}
 use mathlib.Core.Bool.{Bool, true}
 use mathlib.Core.List.{List, ◌++◌}
 use native.Mathlib.Omega.{arith}
 use Rattle.paper.specs.declared.Refusal.TheVariants.{NoYear}
-use Rattle.paper.specs.Answers.{Answer, answered}
+use Rattle.paper.specs.Answers.{Answer}
 use Rattle.paper.proofs.Answers.{answered_same}
 use Rattle.gregorian.specs.declared.Date.{Date}
 use Rattle.conversion.specs.declared.Table.{Table}
@@ -32,10 +33,10 @@ use Rattle.grid.proofs.Asked.{by_length, told, grid_ext}
 -- ---- for any lists that agree on the days of the shorter
 
 module _ (c e : Calendar) (x : Extends c e) (w : Filled c) (ok : Bool) (list other : Day → List Pair)
-    (same : (y m d n : ℕ) → to_day c y m d ≡ answered n → list (day_numbered (bs y m d) n) ≡ other (day_numbered (bs y m d) n))
+    (same : (y m d n : ℕ) → to_day c y m d ≡ Ok n → list (day_numbered (bs y m d) n) ≡ other (day_numbered (bs y m d) n))
     (reading : Day → Reading) (today : Date) (y m a b : ℕ) where
   -- the month begins on the same day
-  first_same : (n : ℕ) → month_len c y m ≡ answered n → day_at c (y - c.first) (m - 1) 0 ≡ day_at e (y - e.first) (m - 1) 0
+  first_same : (n : ℕ) → month_len c y m ≡ Ok n → day_at c (y - c.first) (m - 1) 0 ≡ day_at e (y - e.first) (m - 1) 0
   first_same n h =
       let k = (len_told c y m n (sym h)).0 in
       let v : Valid c y m 1 = record { month = k; day_from = omega arith; day_to = w (y - c.first) (m - 1) (omega (arith, k)) (omega (arith, k)) } in
@@ -43,27 +44,27 @@ module _ (c e : Calendar) (x : Extends c e) (w : Filled c) (ok : Bool) (list oth
       answered_same (sym q ∙ converts e y m 1 (converted e y m 1 _ q))
 
   -- each day has its number, and so its list
-  list_on : (n : ℕ) → month_len c y m ≡ answered n → (d : ℕ) → d < n
+  list_on : (n : ℕ) → month_len c y m ≡ Ok n → (d : ℕ) → d < n
       → let t = day_numbered (bs y m (d + 1)) (day_at c (y - c.first) (m - 1) 0 + d) in list t ≡ other t
   list_on n h d l =
       let k = len_told c y m n (sym h) in
       let v : Valid c y m (d + 1) = record { month = k.0; day_from = omega arith; day_to = omega (arith, k.1) } in
       let q : day_at c (y - c.first) (m - 1) (d + 1 - 1) ≡ day_at c (y - c.first) (m - 1) 0 + d = omega arith in
-      same y m (d + 1) _ (converts c y m (d + 1) v ∙ ap answered q)
+      same y m (d + 1) _ (converts c y m (d + 1) v ∙ ap Ok q)
 
-  fitted_same : (n : ℕ) → month_len c y m ≡ answered n
+  fitted_same : (n : ℕ) → month_len c y m ≡ Ok n
       → fitted (grid_of list reading today y m (day_at c (y - c.first) (m - 1) 0) n) a b ≡ fitted (grid_of other reading today y m (day_at e (y - e.first) (m - 1) 0) n) a b
   fitted_same n h =
       ap (λ (g : Grid). fitted g a b)
       (grid_ext list other reading today y m _ n (list_on n h) ∙ ap (λ (f : ℕ). grid_of other reading today y m f n) (first_same n h))
 
-  pub grid_longer : (g : Grid) → month_grid c ok list reading today y m a b ≡ answered g → month_grid e ok other reading today y m a b ≡ answered g
+  pub grid_longer : (g : Grid) → month_grid c ok list reading today y m a b ≡ Ok g → month_grid e ok other reading today y m a b ≡ Ok g
   grid_longer g h =
       let t = told c ok list reading today y m a b g h in
       by_length e ok other reading today y m a b t.rules t.is_date_law
       ∙ then_longer (month_len c y m) (month_len e y m) _ _ (len_longer c e x y m) fitted_same g (sym (by_length c ok list reading today y m a b t.rules t.is_date_law) ∙ h)
 
-  pub grid_added : (g : Grid) → month_grid e ok other reading today y m a b ≡ answered g → RefusedIf (month_grid c ok list reading today y m a b) NoYear (Added c y)
+  pub grid_added : (g : Grid) → month_grid e ok other reading today y m a b ≡ Ok g → RefusedIf (month_grid c ok list reading today y m a b) NoYear (Added c y)
   grid_added g h =
       let t = told e ok other reading today y m a b g h in
       let q = sym (by_length e ok other reading today y m a b t.rules t.is_date_law) ∙ h in
@@ -74,7 +75,7 @@ module _ (c e : Calendar) (x : Extends c e) (w : Filled c) (ok : Bool) (list oth
 -- ---- over Kathmandu
 
 module _ (rules : List ℕ) (today : Date) (c e : Calendar) (x : Extends c e) (w : Filled c) where
-  list_under_law : (y m d n : ℕ) → to_day c y m d ≡ answered n → list_under c rules (day_numbered (bs y m d) n) ≡ list_under e rules (day_numbered (bs y m d) n)
+  list_under_law : (y m d n : ℕ) → to_day c y m d ≡ Ok n → list_under c rules (day_numbered (bs y m d) n) ≡ list_under e rules (day_numbered (bs y m d) n)
   list_under_law y m d n h = list_same _ c e x w (rules_of rules) n (bs y m d) (from_to c y m d n h)
 
   pub steady_by : MonthsStay rules today c e

@@ -1,7 +1,8 @@
 -- Holidays among the pairs that stand in a buffer. Assumes nothing.
-use Prim.Native.Nat.{ℕ, suc, ◌+◌, ◌-◌, ◌*◌, ◌≤◌, ◌<◌}
+use Rattle.std.specs.List.{list_any, range_with_len}
+use Prim.Native.Nat.{ℕ, zero, suc, ◌+◌, ◌-◌, ◌*◌, ◌≤◌}
 use mathlib.Core.Path.{◌≡◌, refl, sym, ap, ◌∙◌}
-use mathlib.Core.Bool.{Bool, ◌||◌, or_assoc, or-false}
+use mathlib.Core.Bool.{Bool, ◌||◌}
 use mathlib.Core.List.{List, [], ◌∷◌, ◌++◌, append_assoc}
 use native.Mathlib.Omega.{arith}
 use lib.Dec.{eqb}
@@ -15,21 +16,11 @@ use Rattle.panchanga.specs.declared.lunar.Reading.{Reading}
 use Rattle.grid.specs.Cells.{any_holiday, holiday_of, cell_with, day_cell}
 use Rattle.grid.specs.Inner.{any_mark}
 
-mark_suc : (xs : List ℕ) (i k : ℕ) → any_mark xs i (suc k) ≡ (eqb (get_or xs (i * 2 + 1) 0) 1 || any_mark xs (i + 1) k)
+-- pair by pair
+pub any_pair : (xs : List ℕ) (i k : ℕ) → list_any (λ j. eqb (get_or xs (j * 2 + 1) 0) 1) (range_with_len i k) ≡ any_mark xs i k
 unfolding any_mark
-mark_suc xs i k = refl
-
--- no pair is left
-pub mark_end : (found : Bool) (xs : List ℕ) (i k : ℕ) → k ≡ 0 → found ≡ (found || any_mark xs i k)
-unfolding any_mark
-mark_end found xs i k e = rw e (sym (or-false found))
-
--- a turn of the loop: pair i is looked at
-pub mark_turn : (found : Bool) (xs : List ℕ) (i n : ℕ) → i < n
-    → (found || eqb (get_or xs (i * 2 + 1) 0) 1 || any_mark xs (i + 1) (n - (i + 1))) ≡ (found || any_mark xs i (n - i))
-mark_turn found xs i n h =
-    let e : n - i ≡ suc (n - (i + 1)) = omega arith in
-    rw (e, mark_suc) (or_assoc found _ _)
+any_pair xs i zero = refl
+any_pair xs i (suc k) = ap (λ (b : Bool). eqb (get_or xs (i * 2 + 1) 0) 1 || b) (any_pair xs (i + 1) k)
 
 -- the marks of a list that stands at pair i on
 marks : (l : List Pair) (xs ys : List ℕ) (i : ℕ) → drop (i * 2) xs ≡ numbers l ++ ys → any_mark xs i (length l) ≡ any_holiday l

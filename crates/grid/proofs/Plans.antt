@@ -1,12 +1,10 @@
 -- A month of an accepted table: its first day, its plan, and that the plan shows what the rules themselves say. Assumes nothing.
+use Rattle.std.specs.Prelude.{Ok}
 use Prim.Native.Nat.{ℕ, ◌+◌, ◌-◌}
 use mathlib.Core.Path.{◌≡◌, sym, ap, ◌∙◌}
 use mathlib.Core.Bool.{true}
 use mathlib.Core.List.{List}
 use native.Mathlib.Omega.{arith}
-use Rattle.paper.specs.declared.Refusal.{Refusal}
-use Rattle.paper.specs.Answers.{answered, refused}
-use Rattle.paper.proofs.Answers.{answered_same, refused_answered}
 use Rattle.gregorian.specs.declared.Date.{Date}
 use Rattle.conversion.specs.declared.Table.{Table}
 use Rattle.conversion.specs.Calendar.{Calendar, bs, day_at, month_len, to_day}
@@ -31,21 +29,15 @@ module _ (t : Table) (rows : List ℕ) (e : accepted t rows ≡ true) (y m d : �
   abbrev c : Calendar
   c = flat t rows
 
-  has_first : to_day c y m d ≡ answered (day_at c (y - t.first_year) (m - 1) 0)
+  pub has_first : to_day c y m d ≡ Ok (day_at c (y - t.first_year) (m - 1) 0)
   has_first =
       let i = y - t.first_year in
       let l = row_lens rows i (m - 1) ((facts t rows e).row i (omega arith)) (omega arith) in
       rw q (converts c y m 1 (record { month = record { good = e; year_from = a.0; year_to = a.1; month_from = b.0; month_to = b.1 }; day_from = omega arith; day_to = omega (arith, l) }))
 
-  pub first_is : (n : ℕ) → answered n ≡ to_day c y m d → n ≡ day_at c (y - t.first_year) (m - 1) 0
-  first_is n h = answered_same (h ∙ has_first)
-
-  pub always_first : {A : Type 0} (k : Refusal) → refused k ≡ to_day c y m d → A
-  always_first k h = absurd (refused_answered (sym h) has_first)
-
 -- ---- the plan
 
-module _ (t : Table) (rows : List ℕ) (e : accepted t rows ≡ true) (y m n : ℕ) (h : answered n ≡ month_len (flat t rows) y m) where
+module _ (t : Table) (rows : List ℕ) (e : accepted t rows ≡ true) (y m n : ℕ) (h : Ok n ≡ month_len (flat t rows) y m) where
   pub in_year : YearIn (flat t rows) y × MonthIn m
   in_year = let k = (len_told (flat t rows) y m n h).0 in ((k.year_from, k.year_to), (k.month_from, k.month_to))
 

@@ -1,6 +1,7 @@
 -- What is proved of a month that is answered, for any calendar, any day lists, any readings and any today: whole weeks from Sunday, as many blanks
 -- before the first day as its weekday says, the days in their order with no gap, blanks to the week's end; and what a cell's holiday number and its
 -- count say of the day's list. Assumes nothing.
+use Rattle.std.specs.Prelude.{Err, Ok}
 use Prim.Native.Nat.{ℕ, ◌+◌, ◌-◌, ◌*◌, ◌%◌, ◌<◌}
 use mathlib.Core.Path.{◌≡◌, refl, sym, ap, subst, ◌∙◌}
 use mathlib.Core.Bool.{Bool}
@@ -8,7 +9,7 @@ use mathlib.Core.List.{List}
 use native.Mathlib.Nat.{zero-add}
 use lib.ListN.{length, get_or}
 use lib.Seq.{take_at}
-use Rattle.paper.specs.Answers.{Answer, answered, refused}
+use Rattle.paper.specs.Answers.{Answer}
 use Rattle.paper.proofs.Answers.{answered_same, refused_answered}
 use Rattle.gregorian.specs.declared.Date.{Date}
 use Rattle.gregorian.specs.Calendar.{weekday_of}
@@ -55,7 +56,7 @@ module _ (list : Day → List Pair) (reading : Day → Reading) (today : Date) (
 
 -- ---- a month that is answered
 
-module _ (c : Calendar) (ok : Bool) (list : Day → List Pair) (reading : Day → Reading) (today : Date) (y m a b : ℕ) (g : Grid) (h : month_grid c ok list reading today y m a b ≡ answered g) where
+module _ (c : Calendar) (ok : Bool) (list : Day → List Pair) (reading : Day → Reading) (today : Date) (y m a b : ℕ) (g : Grid) (h : month_grid c ok list reading today y m a b ≡ Ok g) where
   abbrev first : ℕ
   first = day_at c (y - c.first) (m - 1) 0
 
@@ -80,13 +81,13 @@ numbers_count list reading today y m first days =
     let f = cell_on list reading today y m first in
     month-numbers f (weekday_of first) days (λ d. cell_length _ _ _ _ _) ∙ ap (λ (k : ℕ). k * 12) (sym (month_length_law f (weekday_of first) days))
 
-answered_grid : (a : Answer Grid) (cells festivals : List ℕ) (r : Month) → (shown a cells festivals).answer ≡ answered r → (g : Grid) × (a ≡ answered g)
+answered_grid : (a : Answer Grid) (cells festivals : List ℕ) (r : Month) → (shown a cells festivals).answer ≡ Ok r → (g : Grid) × (a ≡ Ok g)
 unfolding shown
-answered_grid (answered g) cells festivals r h = (g, refl)
-answered_grid (refused k) cells festivals r h = absurd (refused_answered refl h)
+answered_grid (Ok g) cells festivals r h = (g, refl)
+answered_grid (Err k) cells festivals r h = absurd (refused_answered refl h)
 
-written : (a : Answer Grid) (g : Grid) (cells festivals : List ℕ) (r : Month) → a ≡ answered g → length g.cells % 7 ≡ 0 → length (cell_numbers g) ≡ length g.cells * 12
-    → (shown a cells festivals).answer ≡ answered r → Written g (shown a cells festivals).cells (shown a cells festivals).festivals r
+written : (a : Answer Grid) (g : Grid) (cells festivals : List ℕ) (r : Month) → a ≡ Ok g → length g.cells % 7 ≡ 0 → length (cell_numbers g) ≡ length g.cells * 12
+    → (shown a cells festivals).answer ≡ Ok r → Written g (shown a cells festivals).cells (shown a cells festivals).festivals r
 unfolding shown
 written a g cells festivals r e w n h =
     let q : r ≡ record { days = g.days; first = g.first; last = g.last; cells = length g.cells; festivals = length g.festivals } = sym (answered_same (rw e at h)) in
@@ -101,8 +102,8 @@ module _ (c : Calendar) (ok : Bool) (list : Day → List Pair) (reading : Day �
   abbrev asked : Answer Grid
   asked = month_grid c ok list reading today y m (length cells) (length festivals)
 
-  pub month_written : (shown asked cells festivals).answer ≡ answered r
-      → (g : Grid) × ((asked ≡ answered g) × Written g (shown asked cells festivals).cells (shown asked cells festivals).festivals r)
+  pub month_written : (shown asked cells festivals).answer ≡ Ok r
+      → (g : Grid) × ((asked ≡ Ok g) × Written g (shown asked cells festivals).cells (shown asked cells festivals).festivals r)
   month_written h =
       let z = answered_grid asked cells festivals r h in
       let g = z.0 in

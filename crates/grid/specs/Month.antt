@@ -1,7 +1,7 @@
 -- A month's cells and festivals, over any calendar, any day lists and any reading. Assumes nothing.
-use Rattle.std.specs.Prelude.{ℕ, ◌+◌, ◌-◌, Bool, ◌&&◌, List, ◌++◌, leb, length, drop}
+use Rattle.std.specs.Prelude.{ℕ, ◌+◌, ◌-◌, Bool, ◌&&◌, List, ◌++◌, leb, length, drop, Err, Ok}
 use Rattle.paper.specs.declared.Refusal.TheVariants.{NoSuchDate, NoYear, NoMonth, NoRoom}
-use Rattle.paper.specs.Answers.{Answer, answered, refused, given}
+use Rattle.paper.specs.Answers.{Answer, given}
 use Rattle.gregorian.specs.declared.Date.{Date}
 use Rattle.gregorian.specs.Calendar.{date_of, weekday_of}
 use Rattle.gregorian.specs.Answers.{real}
@@ -12,8 +12,6 @@ use Rattle.rules.specs.Festivals.{Pair, numbers}
 use Rattle.rules.specs.Resolved.{day_numbered}
 use Rattle.panchanga.specs.declared.lunar.Reading.{Reading}
 use Rattle.grid.specs.declared.Month.{Month}
-use Rattle.grid.specs.declared.GridAnswer.{GridAnswer}
-use Rattle.grid.specs.declared.GridAnswer.TheVariants as GA
 use Rattle.festivals.specs.Months.{each}
 use Rattle.grid.specs.Cells.{day_cell, weeks, joined}
 
@@ -57,7 +55,7 @@ festival_numbers g = numbers g.festivals
 -- the month, where each buffer of these lengths is long enough: refusal 9
 unfoldable pub fitted : Grid → ℕ → ℕ → Answer Grid
 fitted g cellRoom festivalRoom =
-    given (leb (length (cell_numbers g)) cellRoom && leb (length (festival_numbers g)) festivalRoom) NoRoom (answered g)
+    given (leb (length (cell_numbers g)) cellRoom && leb (length (festival_numbers g)) festivalRoom) NoRoom (Ok g)
 
 -- month m of year y: refusals 1, 2, 3 (today), 4, 5, 9
 unfoldable pub month_grid : Calendar → Bool → (Day → List Pair) → (Day → Reading) → Date → ℕ → ℕ → ℕ → ℕ → Answer Grid
@@ -81,14 +79,10 @@ over vs l = vs ++ drop (length vs) l
 
 -- days, first and last Gregorian date, cells and festivals are answered, and both are written; a refusal changes nothing
 unfoldable pub shown : Answer Grid → List ℕ → List ℕ → Shown
-shown (answered g) cells festivals =
+shown (Ok g) cells festivals =
     record {
-      answer = answered (record { days = g.days; first = g.first; last = g.last; cells = length g.cells; festivals = length g.festivals });
+      answer = Ok (record { days = g.days; first = g.first; last = g.last; cells = length g.cells; festivals = length g.festivals });
       cells = over (cell_numbers g) cells;
       festivals = over (festival_numbers g) festivals;
     }
-shown (refused k) cells festivals = record { answer = refused k; cells = cells; festivals = festivals }
-
-abbrev pub grid_says : GridAnswer → Answer Month
-grid_says (GA.Is m) = answered m
-grid_says (GA.Refused k) = refused k
+shown (Err k) cells festivals = record { answer = Err k; cells = cells; festivals = festivals }

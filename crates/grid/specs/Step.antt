@@ -1,12 +1,10 @@
 -- A month stepped by a number of months: the Rust's sum, worked exactly, over any calendar. Assumes nothing.
-use Rattle.std.specs.Prelude.{ℕ, ◌+◌, ◌-◌, ◌*◌, ◌/◌, ◌%◌, Bool, ◌&&◌, ℤ, pos, negsuc, nat_abs, ◌+ℤ◌, ◌-ℤ◌}
+use Rattle.std.specs.Prelude.{ℕ, ◌+◌, ◌-◌, ◌*◌, ◌/◌, ◌%◌, Bool, ◌&&◌, ℤ, pos, negsuc, nat_abs, ◌+ℤ◌, ◌-ℤ◌, Ok}
 use Rattle.std.specs.Int.Signed.{le_z, lt_z}
 use Rattle.paper.specs.declared.Refusal.TheVariants.{BadTable, OffTable}
-use Rattle.paper.specs.Answers.{Answer, answered, refused, given}
+use Rattle.paper.specs.Answers.{Answer, given}
 use Rattle.conversion.specs.Calendar.{Calendar}
 use Rattle.grid.specs.declared.BsMonth.{BsMonth}
-use Rattle.grid.specs.declared.StepAnswer.{StepAnswer}
-use Rattle.grid.specs.declared.StepAnswer.TheVariants as SA
 
 -- the months from the beginning of year 0 to a month, and the step
 unfoldable pub absolute : ℕ → ℕ → ℤ → ℤ
@@ -30,13 +28,9 @@ in_years first years z = le_z (pos first) z && lt_z z (pos (first + years))
 unfoldable pub month_at : ℕ → ℕ → ℤ → Answer BsMonth
 unfolding whole_years months_left
 month_at first years a =
-    given (in_years first years (whole_years a)) OffTable (answered (record { year = nat_abs (whole_years a); month = months_left a + 1 }))
+    given (in_years first years (whole_years a)) OffTable (Ok (record { year = nat_abs (whole_years a); month = months_left a + 1 }))
 
 -- a month stepped: refusals 1, 10
 unfoldable pub step_month : Calendar → ℕ → ℕ → ℤ → Answer BsMonth
 unfolding absolute month_at
 step_month c y m s = given c.good BadTable (month_at c.first c.years (absolute y m s))
-
-abbrev pub step_says : StepAnswer → Answer BsMonth
-step_says (SA.Month x) = answered x
-step_says (SA.Refused k) = refused k

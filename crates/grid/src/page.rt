@@ -1,18 +1,17 @@
 // A month's page: the cells of its days and the lists of its days, before either goes to a lent buffer.
-ghost use Rattle.std.specs.Prelude.{◌≡◌, true, ◌+◌, ◌-◌, ◌*◌, ◌≤◌, ◌<◌, length, take, replicate};
+ghost use Rattle.std.specs.Prelude.{◌≡◌, true, ◌+◌, ◌-◌, ◌*◌, ◌≤◌, ◌<◌, length, replicate};
 ghost use Rattle.std.proofs.lemmas.List.Edits.{sets};
 ghost use Rattle.gregorian.specs.Calendar.{weekday_of};
 ghost use Rattle.rules.specs.Rules.{accepted_rules};
 ghost use Rattle.rules.specs.Festivals.{numbers};
 ghost use Rattle.festivals.specs.Months.{each};
 ghost use Rattle.grid.specs.Cells.{joined};
-ghost use Rattle.grid.specs.Month.{grid_says};
 ghost use Rattle.grid.specs.Inner.{Planned, Roomy, list_at, cell_at, shown_by, cells_of, month_of};
 
+use crate::Month;
 use crate::cells::{day_cell, day_on, is_holiday, reading_on};
-use crate::{GridAnswer, Month};
 use gregorian::Date;
-use paper::Refusal;
+use paper::{Answer, Refusal};
 use rules::lists::{Years, put_day_list};
 
 // A month of an accepted table: its first day's number, its days, and the two resolved years that its lists come from.
@@ -31,11 +30,7 @@ pub fn put_at(out: &mut [u16], at: usize, src: &[u16])
     requires { at + length src.now ≤ length out.old }
     ensures { out.new ≡ sets out.old at src.now }
 {
-    let mut i = 0;
-    while i < src.len() {
-        out[at + i] = src[i];
-        i += 1;
-    }
+    out[at..at + src.len()].copy_from_slice(src);
 }
 
 // How many blanks stand before a day in its week.
@@ -81,22 +76,11 @@ fn fill(rules: &[u16], plan: Plan, page: &mut [u16], lists: &mut [u16]) -> usize
     ensures value { result ≡ length (joined (each (list_at rules.now plan) 0 plan.days)) }
     ensures upper_bound { result ≤ 12288 }
 {
-    let days = plan.days;
     let mut at = 0;
-    let mut d = 0;
-    while d < days {
+    for d in 0..plan.days {
         at = put_cell(rules, plan, d, page, lists, at);
-        d += 1;
     }
     at
-}
-
-// Stores the first n numbers of src at the front of out.
-fn put_front(out: &mut [u16], src: &[u16], n: usize)
-    requires { (n ≤ length src.now) × (n ≤ length out.old) }
-    ensures { out.new ≡ sets out.old 0 (take n src.now) }
-{
-    put_at(out, 0, &src[..n]);
 }
 
 // How many cells a month takes: whole weeks.
@@ -112,13 +96,10 @@ fn month_of(plan: Plan, cells: usize, festivals: usize) -> Month
     requires { Planned plan }
     ensures { result ≡ month_of plan cells festivals }
 {
-    let days = plan.days;
-    let first_day = day_on(plan.year, plan.month, plan.first, 0);
-    let last_day = day_on(plan.year, plan.month, plan.first, days - 1);
-    let first = first_day.ad;
-    let last = last_day.ad;
+    let first = day_on(plan.year, plan.month, plan.first, 0).ad;
+    let last = day_on(plan.year, plan.month, plan.first, plan.days - 1).ad;
     Month {
-        days,
+        days: plan.days,
         first,
         last,
         cells,
@@ -134,25 +115,25 @@ fn copy_month(
     lists: &mut [u16],
     cells: &mut [u16],
     festivals: &mut [u16],
-) -> GridAnswer
+) -> Answer<Month>
     requires rules_value { accepted_rules rules.now ≡ true }
     requires planned { Planned plan × Roomy page.old lists.old }
     requires page_value { page.old ≡ replicate (length page.old) 0 }
-    ensures result_value { grid_says result ≡ (shown_by rules.now plan cells.old festivals.old).answer }
+    ensures result_value { result ≡ (shown_by rules.now plan cells.old festivals.old).answer }
     ensures cells_after { cells.new ≡ (shown_by rules.now plan cells.old festivals.old).cells }
     ensures festivals_after { festivals.new ≡ (shown_by rules.now plan cells.old festivals.old).festivals }
 {
     let total = cell_count(plan);
     if cells.len() < total * 12 {
-        return GridAnswer::Refused(Refusal::NoRoom);
+        return Err(Refusal::NoRoom);
     }
     let count = fill(rules, plan, page, lists);
     if festivals.len() < count * 2 {
-        return GridAnswer::Refused(Refusal::NoRoom);
+        return Err(Refusal::NoRoom);
     }
-    put_front(cells, page, total * 12);
-    put_front(festivals, lists, count * 2);
-    GridAnswer::Is(month_of(plan, total, count))
+    put_at(cells, 0, &page[..total * 12]);
+    put_at(festivals, 0, &lists[..count * 2]);
+    Ok(month_of(plan, total, count))
 }
 
 // The month in the two lent buffers, if each is long enough.
@@ -161,10 +142,10 @@ pub fn write_month(
     plan: Plan,
     cells: &mut [u16],
     festivals: &mut [u16],
-) -> GridAnswer
+) -> Answer<Month>
     requires rules_value { accepted_rules rules.now ≡ true }
     requires planned { Planned plan }
-    ensures result_value { grid_says result ≡ (shown_by rules.now plan cells.old festivals.old).answer }
+    ensures result_value { result ≡ (shown_by rules.now plan cells.old festivals.old).answer }
     ensures cells_after { cells.new ≡ (shown_by rules.now plan cells.old festivals.old).cells }
     ensures festivals_after { festivals.new ≡ (shown_by rules.now plan cells.old festivals.old).festivals }
 {

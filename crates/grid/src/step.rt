@@ -1,9 +1,9 @@
 // A month stepped by a number of months.
 ghost use Rattle.std.specs.Prelude.{◌≡◌, ◌+◌, ◌<◌};
-ghost use Rattle.grid.specs.Step.{absolute, month_at, step_says};
+ghost use Rattle.grid.specs.Step.{absolute, month_at};
 
-use crate::{BsMonth, StepAnswer};
-use paper::Refusal;
+use crate::BsMonth;
+use paper::{Answer, Refusal};
 
 // The months from the beginning of year 0 to a month, and the step.
 pub fn absolute_month(year: u16, month: u8, step: i32) -> i64
@@ -13,22 +13,22 @@ pub fn absolute_month(year: u16, month: u8, step: i32) -> i64
 }
 
 // The month that so many months lead to, if its year is one of the years from first on.
-pub fn month_at(first: u16, years: u16, absolute: i64) -> StepAnswer
+pub fn month_at(first: u16, years: u16, absolute: i64) -> Answer<BsMonth>
     requires { first + years < 65536 }
-    ensures { step_says result ≡ month_at first years absolute }
+    ensures { result ≡ month_at first years absolute }
 {
     if absolute < 0 {
-        return StepAnswer::Refused(Refusal::OffTable);
+        return Err(Refusal::OffTable);
     }
     let months = absolute as u64;
     let year = months / 12;
     if year < first as u64 {
-        return StepAnswer::Refused(Refusal::OffTable);
+        return Err(Refusal::OffTable);
     }
     if (first + years) as u64 <= year {
-        return StepAnswer::Refused(Refusal::OffTable);
+        return Err(Refusal::OffTable);
     }
-    StepAnswer::Month(BsMonth {
+    Ok(BsMonth {
         year: year as u16,
         month: (months % 12) as u8 + 1,
     })

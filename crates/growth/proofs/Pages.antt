@@ -1,8 +1,8 @@
 -- The lines on a table that grows, put together. Assumes nothing.
+use Rattle.std.specs.Prelude.{None, Option, Some}
 use Prim.Native.Nat.{ℕ, ◌+◌, ◌-◌, ◌≤◌, ◌<◌}
 use mathlib.Core.Path.{◌≡◌, sym, ap, ◌∙◌}
 use mathlib.Core.List.{List, [], ◌∷◌}
-use mathlib.Core.Option.{Option, some}
 use borrow.Author.Tests.{le-leb, lt-leb}
 use Rattle.text.specs.Quoted.{bytes}
 use Rattle.output.specs.Gathered.{Gathered, gathered}
@@ -10,9 +10,6 @@ use Rattle.output.specs.declared.Out.{Out}
 use Rattle.conversion.specs.Calendar.{Calendar}
 use Rattle.rules.specs.declared.Rule.{Rule}
 use Rattle.festivals.specs.Months.{year_days}
-use Rattle.festivals.specs.Answers.{days_are}
-use Rattle.festivals.specs.declared.months.YearDays.{YearDays}
-use Rattle.festivals.specs.declared.months.YearDays.TheVariants as YD
 use Rattle.output.specs.Pieces.{Text, Puts}
 use Rattle.doubtful.specs.declared.page.Page.{Page}
 use Rattle.doubtful.specs.Tallies.{tally_of, page_with, count_pieces}
@@ -21,23 +18,23 @@ use Rattle.growth.specs.Growth.{last_year, line_pieces, between_pieces, years_pi
 
 -- ---- the years from one to another
 
-module _ (c : Calendar) (label : Text) (year last : ℕ) (q : YearDays) (e : days_are q ≡ year_days c year) where
-  from_first : {d : Option (ℕ × ℕ)} → days_are q ≡ d → between_pieces label year last d (year_days c last) ≡ years_pieces c label year last
+module _ (c : Calendar) (label : Text) (year last : ℕ) (q : Option (ℕ × ℕ)) (e : q ≡ year_days c year) where
+  from_first : {d : Option (ℕ × ℕ)} → q ≡ d → between_pieces label year last d (year_days c last) ≡ years_pieces c label year last
   unfolding years_pieces
   from_first g = ap (λ (d : Option (ℕ × ℕ)). between_pieces label year last d (year_days c last)) (sym g ∙ e)
 
-  pub no_first : q ≡ YD.Nothing → [] ≡ years_pieces c label year last
-  no_first g = from_first (ap days_are g)
+  pub no_first : q ≡ None → [] ≡ years_pieces c label year last
+  no_first g = from_first g
 
-  module _ {a b : ℕ} (g : q ≡ YD.Days a b) (r : YearDays) (f : days_are r ≡ year_days c last) where
-    to_last : {d : Option (ℕ × ℕ)} → days_are r ≡ d → between_pieces label year last (some (a, b)) d ≡ years_pieces c label year last
-    to_last h = ap (between_pieces label year last (some (a, b))) (sym h ∙ f) ∙ from_first (ap days_are g)
+  module _ {a b : ℕ} (g : q ≡ Some (a, b)) (r : Option (ℕ × ℕ)) (f : r ≡ year_days c last) where
+    to_last : {d : Option (ℕ × ℕ)} → r ≡ d → between_pieces label year last (Some (a, b)) d ≡ years_pieces c label year last
+    to_last h = ap (between_pieces label year last (Some (a, b))) (sym h ∙ f) ∙ from_first g
 
-    pub no_last : r ≡ YD.Nothing → [] ≡ years_pieces c label year last
-    no_last h = to_last (ap days_are h)
+    pub no_last : r ≡ None → [] ≡ years_pieces c label year last
+    no_last h = to_last h
 
-    pub span-is : {x y : ℕ} → r ≡ YD.Days x y → line_pieces label year last a y ≡ years_pieces c label year last
-    span-is h = to_last (ap days_are h)
+    pub span-is : {x y : ℕ} → r ≡ Some (x, y) → line_pieces label year last a y ≡ years_pieces c label year last
+    span-is h = to_last h
 
 -- ---- the page
 

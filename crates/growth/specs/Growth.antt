@@ -1,6 +1,5 @@
 -- The page on a year table and the same with rows added, as it is printed. Assumes nothing.
-use Rattle.std.specs.Prelude.{ℕ, ◌+◌, ◌-◌, ◌≡◌, Bool, true, cond, ◌&&◌, List, [], ◌∷◌, ◌++◌, leb, eqb, length, drop}
-use Rattle.std.proofs.Math.Option.{Option, some, none}
+use Rattle.std.specs.Prelude.{ℕ, ◌+◌, ◌-◌, ◌≡◌, Bool, true, cond, ◌&&◌, List, [], ◌∷◌, ◌++◌, leb, eqb, length, drop, None, Option, Some}
 use Rattle.text.specs.Digits.{digits}
 use Rattle.text.specs.Quoted.{bytes}
 use Rattle.output.specs.Gathered.{Gathered}
@@ -39,9 +38,9 @@ line_pieces label year last first_day last_day =
 
 -- by the first and the last day of the one year and of the other; nothing where one is not in the table
 abbrev pub between_pieces : Text → ℕ → ℕ → Option (ℕ × ℕ) → Option (ℕ × ℕ) → List Text
-between_pieces label year last none e = []
-between_pieces label year last (some d) none = []
-between_pieces label year last (some d) (some e) = line_pieces label year last d.0 e.1
+between_pieces label year last None e = []
+between_pieces label year last (Some d) None = []
+between_pieces label year last (Some d) (Some e) = line_pieces label year last d.0 e.1
 
 -- years of a table from one to another
 unfoldable pub years_pieces : Calendar → Text → ℕ → ℕ → List Text

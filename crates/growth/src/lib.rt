@@ -11,14 +11,13 @@ ghost use Rattle.growth.specs.Growth.{same_pieces, new_pieces, gained_pieces, ad
 
 use conversion::Table;
 use festivals::months;
-use festivals::months::YearDays;
 use output::Out;
 
 // Whether two tables begin with the same year and day.
 pub fn same_first(a: Table, b: Table) -> bool
     ensures { result ≡ same_first a b }
 {
-    (a.first_year == b.first_year) & (a.year == b.year) & (a.month == b.month) & (a.day == b.day)
+    a == b
 }
 
 // The year of the last row of an accepted table.
@@ -70,10 +69,10 @@ fn put_years_of(
     requires { accepted table rows.now ≡ true }
     ensures { Puts out.old o (years_pieces (flat table rows.now) label.now year last) out.new result }
 {
-    let YearDays::Days(first_day, _) = months::year_days(table, rows, year) else {
+    let Some((first_day, _)) = months::year_days(table, rows, year) else {
         return o;
     };
-    let YearDays::Days(_, last_day) = months::year_days(table, rows, last) else {
+    let Some((_, last_day)) = months::year_days(table, rows, last) else {
         return o;
     };
     put_years_line(o, out, label, year, last, first_day, last_day)

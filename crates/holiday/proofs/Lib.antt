@@ -1,5 +1,4 @@
 pub mod Asked
-pub mod Unique
 pub mod Longer
 pub mod Cells
 pub mod Theorems

@@ -1,12 +1,13 @@
 -- THE ANSWER IS THE CELL'S: for every table, every list of rules and every date of a month that is answered, what is answered of the date is the holiday
 -- number of its cell. Assumes nothing.
+use Rattle.std.specs.Prelude.{Ok}
 use Prim.Native.Nat.{ℕ, ◌+◌, ◌-◌, ◌≤◌, ◌<◌}
 use mathlib.Core.Path.{◌≡◌, refl, sym, ap, subst, ◌∙◌}
 use mathlib.Core.Bool.{Bool, true}
 use mathlib.Core.List.{List}
 use native.Mathlib.Omega.{arith}
 use lib.ListN.{length, get_or}
-use Rattle.paper.specs.Answers.{Answer, answered}
+use Rattle.paper.specs.Answers.{Answer}
 use Rattle.paper.proofs.Answers.{answered_same}
 use Rattle.gregorian.specs.declared.Date.{Date}
 use Rattle.gregorian.specs.Calendar.{weekday_of}
@@ -43,7 +44,7 @@ day_says list reading today y m first d = refl
 
 -- ---- in the month's cells
 
-module _ (t : Table) (rows rules : List ℕ) (today : Date) (y m d a b : ℕ) (g : Grid) (h : month_under (flat t rows) rules today y m a b ≡ answered g) where
+module _ (t : Table) (rows rules : List ℕ) (today : Date) (y m d a b : ℕ) (g : Grid) (h : month_under (flat t rows) rules today y m a b ≡ Ok g) where
   abbrev c : Calendar
   c = flat t rows
 
@@ -70,11 +71,11 @@ module _ (t : Table) (rows rules : List ℕ) (today : Date) (y m d a b : ℕ) (g
     below : d - 1 < c.len (y - c.first) (m - 1)
     below = omega (arith, days_are_law)
 
-    has-number : to_day c y m d ≡ answered n
+    has-number : to_day c y m d ≡ Ok n
     has-number =
         let v : Valid c y m d = record { month = month.month; day_from = from; day_to = omega (arith, days_are_law) } in
         let q : day_at c (y - c.first) (m - 1) (d - 1) ≡ n = omega arith in
-        converts c y m d v ∙ ap answered q
+        converts c y m d v ∙ ap Ok q
 
     pub in-grid : AsInCell d (get_or g.cells (place_of c y m d) blank) (holiday_on t rows rules y m d)
     in-grid =
@@ -97,16 +98,16 @@ module _ (t : Table) (rows rules : List ℕ) (today : Date) (y m d a b : ℕ) (g
 
 -- ---- in what `month_grid` answers and writes
 
-shown_days : (a : Answer Grid) (g : Grid) (cells festivals : List ℕ) (r : Month) → a ≡ answered g → (shown a cells festivals).answer ≡ answered r → g.days ≡ r.days
+shown_days : (a : Answer Grid) (g : Grid) (cells festivals : List ℕ) (r : Month) → a ≡ Ok g → (shown a cells festivals).answer ≡ Ok r → g.days ≡ r.days
 unfolding shown
 shown_days a g cells festivals r e h = ap (λ (z : Month). z.days) (answered_same (rw e at h))
 
-shown_cells : (a : Answer Grid) (g : Grid) (cells festivals : List ℕ) → a ≡ answered g → over (cell_numbers g) cells ≡ (shown a cells festivals).cells
+shown_cells : (a : Answer Grid) (g : Grid) (cells festivals : List ℕ) → a ≡ Ok g → over (cell_numbers g) cells ≡ (shown a cells festivals).cells
 unfolding shown
 shown_cells a g cells festivals e = rw e
 
 module _ (t : Table) (rows rules : List ℕ) (today : Date) (y m d : ℕ) (cells festivals : List ℕ) (r : Month) where
-  pub in_cells : (month_shown t rows rules today y m cells festivals).answer ≡ answered r → 1 ≤ d → d ≤ r.days
+  pub in_cells : (month_shown t rows rules today y m cells festivals).answer ≡ Ok r → 1 ≤ d → d ≤ r.days
       → AsInCell d (cell_in (month_shown t rows rules today y m cells festivals).cells (place_of (flat t rows) y m d)) (holiday_on t rows rules y m d)
   in_cells h from to =
       let z = month_written (flat t rows) (accepted_rules rules) (list_under (flat t rows) rules) reading_on today y m cells festivals r h in
@@ -126,20 +127,20 @@ module _ (t : Table) (rows rules : List ℕ) (today : Date) (y m d : ℕ) (v : B
   abbrev around : Grid
   around = grid_under calendar rules today y m (calendar.len (y - calendar.first) (m - 1))
 
-  dated : holiday_on t rows rules y m d ≡ answered v → (accepted_rules rules ≡ true) × Valid calendar y m d
+  dated : holiday_on t rows rules y m d ≡ Ok v → (accepted_rules rules ≡ true) × Valid calendar y m d
   unfolding holiday_by
   dated h =
       let l = lent_told calendar (accepted_rules rules) _ h in
       let n = then_told (to_day calendar y m d) _ l.2 in
       (l.1, converted calendar y m d n.0 n.1.0)
 
-  len_is : Valid calendar y m d → month_len calendar y m ≡ answered (calendar.len (y - calendar.first) (m - 1))
+  len_is : Valid calendar y m d → month_len calendar y m ≡ Ok (calendar.len (y - calendar.first) (m - 1))
   unfolding month_len
   len_is w = of_month_law calendar y m _ w.month
 
   -- its month is answered wherever today is a date and both buffers are long enough, and the day is one of the month's
-  pub has_cell : holiday_on t rows rules y m d ≡ answered v → real today ≡ true → (a b : ℕ) → length (cell_numbers around) ≤ a → length (festival_numbers around) ≤ b
-      → (month_under calendar rules today y m a b ≡ answered around) × (1 ≤ d) × (d ≤ calendar.len (y - calendar.first) (m - 1))
+  pub has_cell : holiday_on t rows rules y m d ≡ Ok v → real today ≡ true → (a b : ℕ) → length (cell_numbers around) ≤ a → length (festival_numbers around) ≤ b
+      → (month_under calendar rules today y m a b ≡ Ok around) × (1 ≤ d) × (d ≤ calendar.len (y - calendar.first) (m - 1))
   has_cell h k a b p q =
       let w = dated h in (
         by_length calendar (accepted_rules rules) (list_under calendar rules) reading_on today y m a b w.0 k ∙ then_by (month_len calendar y m) _ _ (len_is w.1) ∙ fits around a b p q,

@@ -1,6 +1,6 @@
 -- What is claimed of a holiday and the month's cell of the same date. Assumes nothing.
-use Rattle.std.specs.Prelude.{ℕ, ◌+◌, ◌-◌, ◌*◌, ◌≡◌, Bool, List, get_or, take, drop}
-use Rattle.paper.specs.Answers.{Answer, answered}
+use Rattle.std.specs.Prelude.{ℕ, ◌+◌, ◌-◌, ◌*◌, ◌≡◌, Bool, List, get_or, take, drop, Ok}
+use Rattle.paper.specs.Answers.{Answer}
 use Rattle.gregorian.specs.Calendar.{weekday_of}
 use Rattle.conversion.specs.Calendar.{Calendar, day_at}
 use Rattle.grid.specs.Cells.{one}
@@ -17,5 +17,5 @@ cell_in cells k = take 12 (drop (k * 12) cells)
 pub record AsInCell (d : ℕ) (cell : List ℕ) (a : Answer Bool) : Type 0 where
   pub yes : Bool
   pub day : get_or cell 0 0 ≡ d
-  pub answer : a ≡ answered yes
+  pub answer : a ≡ Ok yes
   pub mark : get_or cell 6 0 ≡ one yes

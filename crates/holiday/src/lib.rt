@@ -7,22 +7,14 @@ ghost use Rattle.conversion.specs.Flat.{accepted, flat};
 ghost use Rattle.rules.specs.Rules.{rules_of, accepted_rules};
 ghost use Rattle.festivals.specs.Kathmandu.{day_list_of};
 ghost use Rattle.grid.specs.Cells.{any_holiday, holiday_of};
-ghost use Rattle.holiday.specs.Holiday.{holiday_on, holiday_says};
+ghost use Rattle.holiday.specs.Holiday.{holiday_on};
 
-use conversion::{BsDate, Table, Validity};
+use conversion::{BsDate, Table};
 use festivals::day_numbered;
 use festivals::years::years_for;
-use gregorian::NumberAnswer;
 use grid::cells::any_holiday;
-use paper::Refusal;
+use paper::Answer;
 use rules::lists::put_day_list;
-
-// Yes or no, or a refusal.
-#[derive(Clone, Copy)]
-pub enum HolidayAnswer {
-    Is(bool),
-    Refused(Refusal),
-}
 
 // Whether a holiday is in the list of a day of an accepted table.
 fn has_holiday(table: Table, rows: &[u16], rules: &[u16], bs: BsDate, number: u32) -> bool
@@ -41,13 +33,11 @@ fn is_free(table: Table, rows: &[u16], rules: &[u16], bs: BsDate, number: u32) -
     requires { (accepted table rows.now ≡ true) × (accepted_rules rules.now ≡ true) × (numbered number ≡ true) }
     ensures { result ≡ holiday_of number (day_list_of (flat table rows.now) (rules_of rules.now) bs number) }
 {
-    if gregorian::weekday_of(number) == 6 {
-        return true;
-    }
-    has_holiday(table, rows, rules, bs, number)
+    gregorian::weekday_of(number) == 6 || has_holiday(table, rows, rules, bs, number)
 }
 
 // Whether a BS date is a holiday. Refusals 1, 2, 4, 5, 6.
+#[tactic(auto, using(crate::proofs::Asked::asked))]
 pub fn is_holiday(
     table: Table,
     rows: &[u16],
@@ -55,19 +45,11 @@ pub fn is_holiday(
     year: u16,
     month: u16,
     day: u16,
-) -> HolidayAnswer
-    ensures { holiday_says result ≡ holiday_on table rows.now rules.now year month day }
+) -> Answer<bool>
+    ensures { result ≡ holiday_on table rows.now rules.now year month day }
 {
-    let lent = rules::accept(table, rows, rules);
-    match lent {
-        Validity::Refused(k) => HolidayAnswer::Refused(k),
-        Validity::Valid => {
-            let bs = BsDate { year, month, day };
-            let number = conversion::day_of(table, rows, bs);
-            match number {
-                NumberAnswer::Refused(k) => HolidayAnswer::Refused(k),
-                NumberAnswer::Number(n) => { HolidayAnswer::Is(is_free(table, rows, rules, bs, n)) }
-            }
-        }
-    }
+    rules::accept(table, rows, rules)?;
+    let bs = BsDate { year, month, day };
+    let number = conversion::day_of(table, rows, bs)?;
+    Ok(is_free(table, rows, rules, bs, number))
 }

@@ -1,4 +1,5 @@
 -- The conversions over a kept state, case by case. Assumes nothing.
+use Rattle.std.specs.Prelude.{Err}
 use Prim.Native.Nat.{ℕ}
 use mathlib.Core.Path.{◌≡◌, ap, ◌∙◌, subst⁻¹}
 use mathlib.Core.Bool.{true}
@@ -6,7 +7,7 @@ use mathlib.Core.List.{List}
 use mathlib.Core.Logic.{⊎_elim}
 use lib.ListN.{length}
 use Rattle.paper.specs.declared.Refusal.TheVariants.{NoRow}
-use Rattle.paper.specs.Answers.{Answer, refused}
+use Rattle.paper.specs.Answers.{Answer}
 use Rattle.conversion.specs.declared.Table.{Table}
 use Rattle.conversion.specs.Calendar.{Calendar}
 use Rattle.conversion.specs.Flat.{accepted, flat}
@@ -17,7 +18,7 @@ use Rattle.kept.specs.Converting.{TableHeld, if_row}
 use Rattle.kept.proofs.Replies.{is_empty, not_empty}
 
 module _ {A : Type 0} (rows : List ℕ) (a : Answer A) where
-  pub if_none : length rows ≡ 0 → if_row rows a ≡ refused NoRow
+  pub if_none : length rows ≡ 0 → if_row rows a ≡ Err NoRow
   unfolding if_row
   if_none h = rw (is_empty rows h)
 

@@ -1,9 +1,9 @@
 -- Laws of the years that are stored: which they are, and what they are worked out to. Assumes nothing.
+use Rattle.std.specs.Prelude.{None}
 use Prim.Native.Nat.{ℕ, ◌+◌, ◌-◌, ◌≤◌, ◌<◌}
 use mathlib.Core.Path.{◌≡◌, refl, sym, ap}
 use mathlib.Core.Bool.{Bool, true, false, cond, and-false}
 use mathlib.Core.List.{List, [], ◌∷◌}
-use mathlib.Core.Option.{none}
 use native.Mathlib.Omega.{arith}
 use borrow.Author.Tests.{eq-eqb, le-leb, lt-leb, lt-ltb, leb-true, ltb-true}
 use lib.Dec.{leb, ltb, eqb}
@@ -93,7 +93,7 @@ module _ (c e : Calendar) (p : c.first ≡ e.first) (q : c.years ≤ e.years) wh
 -- ---- a year that the table has not has no entry
 
 module _ {I : Type 0} (s : Sky I) (c : Calendar) (y : ℕ) (h : year_ok c y ≡ false) where
-  no_entry : (r : Rule) → entry s c y r ≡ none
+  no_entry : (r : Rule) → entry s c y r ≡ None
   unfolding entry rule_day opening moons last_of next
   no_entry r = rw (h, and-false c.good)
 

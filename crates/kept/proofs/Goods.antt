@@ -1,4 +1,5 @@
 -- Each operation makes a good state of a good one. Assumes nothing.
+use Rattle.std.specs.Prelude.{Err, Ok}
 use Prim.Native.Nat.{ℕ, ◌≤◌}
 use mathlib.Core.Path.{◌≡◌, refl, sym, ap, ◌∙◌}
 use mathlib.Core.Bool.{Bool, true, false}
@@ -10,7 +11,7 @@ use lib.Dec.{leb, eqb}
 use lib.ListN.{length, length-append}
 use Rattle.paper.specs.declared.Refusal.{Refusal}
 use Rattle.paper.specs.declared.Refusal.TheVariants.{BadTable, BadRules}
-use Rattle.paper.specs.Answers.{Answer, answered, refused, given}
+use Rattle.paper.specs.Answers.{Answer, given}
 use Rattle.paper.proofs.Answers.{answered_same, given_answered}
 use Rattle.paper.proofs.Tests.{and_left, and_right}
 use Rattle.gregorian.specs.declared.Date.{Date}
@@ -39,7 +40,7 @@ first_from_law t e = leb-true _ _ (and_left (leb 1 t.first_year) _ e)
 pub good_blank : (t : Table) → startable t ≡ true → Good (blank t)
 good_blank t e = record { start = e; table = inl refl; rules = no_rules; stored = refl; in_table = refl; follow = refl }
 
-pub good_start : (t : Table) (σ : State) → start t ≡ answered σ → Good σ
+pub good_start : (t : Table) (σ : State) → start t ≡ Ok σ → Good σ
 unfolding start
 good_start t σ e =
     let g = given_answered (startable t) BadTable _ e in
@@ -49,8 +50,7 @@ good_start t σ e =
 
 module _ (σ : State) (g : Good σ) where
   -- what an operation that is given under a test makes of a good state
-  good_outcome : (b : Bool) (k : Refusal) (τ : State) → (b ≡ true → Good τ) → Good (outcome σ (given b k (answered τ))).state
-  unfolding given
+  good_outcome : (b : Bool) (k : Refusal) (τ : State) → (b ≡ true → Good τ) → Good (outcome σ (given b k (Ok τ))).state
   good_outcome true k τ h = h refl
   good_outcome false k τ h = g
 
@@ -99,12 +99,12 @@ module _ (σ : State) (g : Good σ) where
   good_drawn y m = good_years (drawn (calendar σ) y m) (drawn_among (calendar σ) y m) (drawn_follow (calendar σ) (first_from_law σ.table g.start) y m)
 
   pub good_on : (a : Answer BsDate) → Good (with_years σ (drawn_on (calendar σ) a))
-  good_on (answered t) = good_drawn t.year t.month
-  good_on (refused k) = good_forgotten
+  good_on (Ok t) = good_drawn t.year t.month
+  good_on (Err k) = good_forgotten
 
   good_after : {A : Type 0} (ys : List ℕ) → Good (with_years σ ys) → (a : Answer A) → Good (after σ ys a)
-  good_after ys h (answered x) = h
-  good_after ys h (refused k) = g
+  good_after ys h (Ok x) = h
+  good_after ys h (Err k) = g
 
   good_bs : (y m d : ℕ) (out : List ℕ) → Good (ask_bs σ y m d out).state
   unfolding ask_bs

@@ -1,12 +1,11 @@
 -- The record that holds a state: it holds it, and it is what the calls make. Assumes nothing.
 use Prim.Native.Nat.{ℕ, ◌+◌, ◌-◌, ◌≤◌}
-use mathlib.Core.Path.{◌≡◌, sym, ap, ◌∙◌, subst⁻¹}
+use mathlib.Core.Path.{◌≡◌, refl, sym, ap, ◌∙◌, subst⁻¹}
 use mathlib.Core.List.{List, [], ◌++◌}
 use native.Mathlib.Nat.{zero-add}
 use native.Mathlib.Omega.{arith}
 use lib.ListN.{length, take, drop, replicate, length-replicate, replicate-append-replicate, length-append}
 use lib.Seq.{sets, drop_at, take-append_seam}
-use Rattle.paper.specs.Answers.{Answer, answered, refused}
 use Rattle.paper.proofs.Stores.{sets_append, sets_front}
 use Rattle.conversion.specs.Flat.{flat}
 use Rattle.kept.specs.declared.Store.{Store}
@@ -14,7 +13,7 @@ use Rattle.kept.specs.declared.Kept.{Kept}
 use Rattle.kept.specs.State.{State, calendar, anew, Good}
 use Rattle.kept.specs.Operations.{with_rules, with_row, with_years, after}
 use Rattle.kept.specs.Held.{years, held, padded, store_of, record_of, Ready, Holds}
-use Rattle.kept.specs.Inner.{with_store, store_for, store_after}
+use Rattle.kept.specs.Inner.{with_store, store_for}
 use Rattle.kept.proofs.Stores.{years_stored}
 
 -- ---- a list at the front of a list of zeros
@@ -65,9 +64,11 @@ module _ (k : Kept) (w : Ready k) where
   stored_other ys s r e q = q ∙ ap (with_store k) e ∙ ap (λ (z : Kept). with_store z (store_for (calendar σ) σ.rules ys)) w.is
 
   -- what a question leaves: other years where it is answered, and else the state
-  pub settled : {A : Type 0} (ys : List ℕ) → Good (with_years σ ys) → (a : Answer A) (s : Store) (r : Kept) → s ≡ store_after (calendar σ) σ.rules k.store ys a → r ≡ with_store k s → Holds r (after σ ys a)
-  settled ys g (answered x) s r e q = made r (with_years σ ys) g (stored_other ys s r e q)
-  settled ys g (refused n) s r e q = made r σ w.good (q ∙ ap (with_store k) e ∙ w.is)
+  pub settled : (ys : List ℕ) → Good (with_years σ ys) → {r : Kept} → r ≡ with_store k (store_for (calendar σ) σ.rules ys) → Holds r (with_years σ ys)
+  settled ys g {r} q = made r (with_years σ ys) g (stored_other ys (store_for (calendar σ) σ.rules ys) r refl q)
+
+  pub untouched : {r : Kept} → r ≡ k → Holds r σ
+  untouched {r} q = made r σ w.good (q ∙ w.is)
 
   pub forgot : Good (with_years σ []) → (s : Store) (r : Kept) → s ≡ store_of [] → r ≡ with_store k s → Holds r (with_years σ [])
   forgot g s r e q = made r (with_years σ []) g (stored_other [] s r e q)

@@ -1,4 +1,5 @@
 -- WHAT IS KEPT holds after every sequence of operations from an answered start. Assumes nothing.
+use Rattle.std.specs.Prelude.{Err, Ok}
 use Prim.Native.Nat.{ℕ}
 use mathlib.Core.Path.{◌≡◌, refl, ap, ◌∙◌}
 use mathlib.Core.Bool.{Bool, true, false, ◌&&◌}
@@ -7,7 +8,7 @@ use native.Mathlib.Omega.{arith}
 use lib.Dec.{eqb}
 use lib.ListN.{length}
 use Rattle.paper.specs.declared.Refusal.TheVariants.{BadTable, BadRules, NoSuchDate}
-use Rattle.paper.specs.Answers.{Answer, answered, refused, given, then}
+use Rattle.paper.specs.Answers.{Answer, given, then}
 use Rattle.paper.proofs.Answers.{refused_answered, given_answered}
 use Rattle.gregorian.specs.declared.Date.{Date}
 use Rattle.gregorian.specs.Calendar.{is_date, day_number}
@@ -36,22 +37,21 @@ use Rattle.kept.proofs.Conversions.{if_none, if_some}
 
 -- ---- a Gregorian date whose list is answered has a BS date
 
-then_told : {A B : Type 0} (a : Answer A) (f : A → Answer B) (x : B) → then a f ≡ answered x → (t : A) × (a ≡ answered t)
-unfolding then
-then_told (answered t) f x e = (t, refl)
-then_told (refused k) f x e = absurd (refused_answered refl e)
+then_told : {A B : Type 0} (a : Answer A) (f : A → Answer B) (x : B) → then a f ≡ Ok x → (t : A) × (a ≡ Ok t)
+then_told (Ok t) f x e = (t, refl)
+then_told (Err k) f x e = absurd (refused_answered refl e)
 
-listed_told : (a : Answer (List Pair)) (out : List ℕ) (n : ℕ) → (listed a out).answer ≡ answered n → (l : List Pair) × (a ≡ answered l)
+listed_told : (a : Answer (List Pair)) (out : List ℕ) (n : ℕ) → (listed a out).answer ≡ Ok n → (l : List Pair) × (a ≡ Ok l)
 unfolding listed
-listed_told (answered l) out n e = (l, refl)
-listed_told (refused k) out n e = absurd (refused_answered refl e)
+listed_told (Ok l) out n e = (l, refl)
+listed_told (Err k) out n e = absurd (refused_answered refl e)
 
-row_told : (rows : List ℕ) (l : Listed) (out : List ℕ) (n : ℕ) → (row_first rows l out).answer ≡ answered n → l.answer ≡ answered n
+row_told : (rows : List ℕ) (l : Listed) (out : List ℕ) (n : ℕ) → (row_first rows l out).answer ≡ Ok n → l.answer ≡ Ok n
 unfolding row_first
 row_told [] l out n e = absurd (refused_answered refl e)
 row_told (x ∷ rows) l out n e = e
 
-ad_dated : {I : Type 0} (s : Sky I) (c : Calendar) (rs : List Rule) (ok : Bool) (y m d : ℕ) (l : List Pair) → listOnAd s c rs ok y m d ≡ answered l → (t : BsDate) × (from_ad c y m d ≡ answered t)
+ad_dated : {I : Type 0} (s : Sky I) (c : Calendar) (rs : List Rule) (ok : Bool) (y m d : ℕ) (l : List Pair) → listOnAd s c rs ok y m d ≡ Ok l → (t : BsDate) × (from_ad c y m d ≡ Ok t)
 unfolding listOnAd
 ad_dated s c rs ok y m d l e =
     let p = lent_told c ok _ e in
@@ -78,30 +78,28 @@ module _ (σ : State) where
 
   -- a refusal leaves the state
   outcome_leaves : (a : Answer State) → Leaves σ (outcome σ a).answer (outcome σ a).state
-  outcome_leaves (answered τ) k e = absurd (refused_answered e refl)
-  outcome_leaves (refused j) k e = refl
+  outcome_leaves (Ok τ) k e = absurd (refused_answered e refl)
+  outcome_leaves (Err j) k e = refl
 
   after_leaves : {A : Type 0} (ys : List ℕ) (a : Answer A) → Leaves σ a (after σ ys a)
-  after_leaves ys (answered x) k e = absurd (refused_answered e refl)
-  after_leaves ys (refused j) k e = refl
+  after_leaves ys (Ok x) k e = absurd (refused_answered e refl)
+  after_leaves ys (Err j) k e = refl
 
   -- an answer leaves its years
-  after_stores : {A : Type 0} (ys : List ℕ) (a : Answer A) (x : A) → a ≡ answered x → year_numbers (after σ ys a).stored ≡ ys
+  after_stores : {A : Type 0} (ys : List ℕ) (a : Answer A) (x : A) → a ≡ Ok x → year_numbers (after σ ys a).stored ≡ ys
   after_stores {A} ys a x e = ap (λ (b : Answer A). year_numbers (after σ ys b).stored) e ∙ numbers_fresh (calendar σ) σ.rules ys
 
-  row_years : (row : List ℕ) (b : Bool) → year_numbers (outcome σ (given b BadTable (answered (with_row σ row)))).state.stored ≡ year_numbers σ.stored
-  unfolding given
+  row_years : (row : List ℕ) (b : Bool) → year_numbers (outcome σ (given b BadTable (Ok (with_row σ row)))).state.stored ≡ year_numbers σ.stored
   row_years row true = numbers_fresh (flat σ.table (σ.rows ++ row)) σ.rules (year_numbers σ.stored)
   row_years row false = refl
 
-  rules_none : (xs : List ℕ) (b : Bool) → (outcome σ (given b BadRules (answered (with_rules σ xs)))).answer ≡ answered tt → (outcome σ (given b BadRules (answered (with_rules σ xs)))).state.stored ≡ []
-  unfolding given
+  rules_none : (xs : List ℕ) (b : Bool) → (outcome σ (given b BadRules (Ok (with_rules σ xs)))).answer ≡ Ok tt → (outcome σ (given b BadRules (Ok (with_rules σ xs)))).state.stored ≡ []
   rules_none xs true e = refl
   rules_none xs false e = absurd (refused_answered refl e)
 
   -- the answered list of a Gregorian date leaves the years of its BS date
-  ad_stores : (y m d : ℕ) (out : List ℕ) (n : ℕ) → (ask_ad σ y m d out).listed.answer ≡ answered n
-      → (t : BsDate) × ((from_ad (calendar σ) y m d ≡ answered t) × (year_numbers (ask_ad σ y m d out).state.stored ≡ drawn (calendar σ) t.year t.month))
+  ad_stores : (y m d : ℕ) (out : List ℕ) (n : ℕ) → (ask_ad σ y m d out).listed.answer ≡ Ok n
+      → (t : BsDate) × ((from_ad (calendar σ) y m d ≡ Ok t) × (year_numbers (ask_ad σ y m d out).state.stored ≡ drawn (calendar σ) t.year t.month))
   unfolding ask_ad
   ad_stores y m d out n e =
       let c = calendar σ in
@@ -131,13 +129,13 @@ module _ (σ : State) where
         row_keeps = λ row. row_years row _;
         rules_empty = λ xs e. rules_none xs _ e;
         forget_empties = refl;
-        rules_refused = λ xs. outcome_leaves (given (accepted_rules xs) BadRules (answered (with_rules σ xs)));
-        row_refused = λ row. outcome_leaves (given (eqb (length row) 13 && accepted σ.table (σ.rows ++ row)) BadTable (answered (with_row σ row)));
+        rules_refused = λ xs. outcome_leaves (given (accepted_rules xs) BadRules (Ok (with_rules σ xs)));
+        row_refused = λ row. outcome_leaves (given (eqb (length row) 13 && accepted σ.table (σ.rows ++ row)) BadTable (Ok (with_row σ row)));
         list_refused = λ y m d out. after_leaves (drawn c y m) (row_first σ.rows (bs y m d out) out).answer;
         list_ad_refused = λ y m d out. after_leaves (drawn_on c (from_ad c y m d)) (row_first σ.rows (ad y m d out) out).answer;
         month_refused = λ today y m cells festivals. after_leaves (drawn c y m) (row_first_month σ.rows (page today y m cells festivals) cells festivals).answer;
       }
 
 -- AFTER ANY SEQUENCE of operations from an answered start
-pub always : (t : Table) (σ : State) → start t ≡ answered σ → (os : List Operation) → Keeps (run σ os)
+pub always : (t : Table) (σ : State) → start t ≡ Ok σ → (os : List Operation) → Keeps (run σ os)
 always t σ e os = keeps (run σ os) (good_run σ (good_start t σ e) os)

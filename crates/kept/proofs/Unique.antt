@@ -3,15 +3,10 @@ use Prim.Native.Nat.{ℕ}
 use mathlib.Core.Path.{◌≡◌, refl, sym, ap, ◌∙◌}
 use mathlib.Core.List.{List, [], ◌∷◌}
 use Rattle.conversion.specs.declared.Table.{Table}
-use Rattle.conversion.proofs.Unique.{valid_only}
+use Rattle.grid.specs.declared.Month.{Month}
 use Rattle.paper.proofs.Answers.{told_by_law}
-use Rattle.festivals.proofs.Unique.{list_only}
-use Rattle.grid.proofs.Unique.{grid_only}
 use Rattle.kept.specs.declared.Kept.{Kept}
-use Rattle.kept.specs.declared.Started.{Started}
-use Rattle.kept.specs.declared.Done.{Done}
-use Rattle.kept.specs.declared.Asked.{Asked}
-use Rattle.kept.specs.declared.AskedMonth.{AskedMonth}
+use Rattle.kept.specs.declared.After.{After}
 use Rattle.kept.specs.declared.StoredYears.{StoredYears}
 use Rattle.kept.specs.declared.StoredYears.TheVariants as ST
 use Rattle.kept.specs.State.{State}
@@ -24,27 +19,27 @@ is_record r σ h = h.ready.is ∙ ap record_of h.state
 pub holds_only : (r s : Kept) (σ : State) → Holds r σ → Holds s σ → r ≡ s
 holds_only r s σ h k = is_record r σ h ∙ sym (is_record s σ k)
 
-pub started_only : (r s : Started) (t : Table) → StartedAs r t → StartedAs s t → r ≡ s
+pub started_only : (r s : After Unit) (t : Table) → StartedAs r t → StartedAs s t → r ≡ s
 started_only r s t h k =
-    let a = valid_only r.answer s.answer (h.answer ∙ sym k.answer) in
+    let a = h.answer ∙ sym k.answer in
     let b = h.is ∙ sym k.is in
     λ i. record { answer = a i; state = b i }
 
-pub done_only : (r s : Done) (w : Outcome) → DoneAs r w → DoneAs s w → r ≡ s
+pub done_only : (r s : After Unit) (w : Outcome) → DoneAs r w → DoneAs s w → r ≡ s
 done_only r s w h k =
-    let a = valid_only r.answer s.answer (h.answer ∙ sym k.answer) in
+    let a = h.answer ∙ sym k.answer in
     let b = holds_only r.state s.state w.state h.holds k.holds in
     λ i. record { answer = a i; state = b i }
 
-pub asked_only : (r s : Asked) (l m : List ℕ) (w : Reply) → AskedAs r l w → AskedAs s m w → (r ≡ s) × (l ≡ m)
+pub asked_only : (r s : After ℕ) (l m : List ℕ) (w : Reply) → AskedAs r l w → AskedAs s m w → (r ≡ s) × (l ≡ m)
 asked_only r s l m w h k =
-    let a = list_only r.answer s.answer (h.answer ∙ sym k.answer) in
+    let a = h.answer ∙ sym k.answer in
     let b = holds_only r.state s.state w.state h.holds k.holds in
     (λ i. record { answer = a i; state = b i }, h.written ∙ sym k.written)
 
-pub month_only : (r s : AskedMonth) (a b l m : List ℕ) (w : MonthReply) → MonthAs r a b w → MonthAs s l m w → (r ≡ s) × ((a ≡ l) × (b ≡ m))
+pub month_only : (r s : After Month) (a b l m : List ℕ) (w : MonthReply) → MonthAs r a b w → MonthAs s l m w → (r ≡ s) × ((a ≡ l) × (b ≡ m))
 month_only r s a b l m w h k =
-    let p = grid_only r.answer s.answer (h.answer ∙ sym k.answer) in
+    let p = h.answer ∙ sym k.answer in
     let q = holds_only r.state s.state w.state h.holds k.holds in
     (λ i. record { answer = p i; state = q i }, (h.first ∙ sym k.first, h.second ∙ sym k.second))
 

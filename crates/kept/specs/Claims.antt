@@ -1,8 +1,8 @@
 -- What is claimed of a kept state, after any sequence of operations. Assumes nothing.
-use Rattle.std.specs.Prelude.{ℕ, ◌≡◌, List, []}
+use Rattle.std.specs.Prelude.{ℕ, ◌≡◌, List, [], Err, Ok}
 use Rattle.paper.specs.declared.Refusal.{Refusal}
 use Rattle.paper.specs.declared.Refusal.TheVariants.{NoRow}
-use Rattle.paper.specs.Answers.{Answer, answered, refused}
+use Rattle.paper.specs.Answers.{Answer}
 use Rattle.gregorian.specs.declared.Date.{Date}
 use Rattle.conversion.specs.declared.BsDate.{BsDate}
 use Rattle.conversion.specs.Calendar.{to_ad, from_ad}
@@ -15,7 +15,7 @@ use Rattle.kept.specs.Converting.{ask_to_ad, ask_from_ad}
 
 -- a refusal leaves the state
 abbrev pub Leaves : {A : Type 0} → State → Answer A → State → Type 0
-Leaves σ a τ = (k : Refusal) → a ≡ refused k → τ ≡ σ
+Leaves σ a τ = (k : Refusal) → a ≡ Err k → τ ≡ σ
 
 pub record Keeps (σ : State) : Type 0 where
   -- each stored year equals the year worked out afresh from the table and the rules now held
@@ -28,22 +28,22 @@ pub record Keeps (σ : State) : Type 0 where
   pub to_ad_law : (σ.rows ≡ [] → ⊥) → (y m d : ℕ) → ask_to_ad σ y m d ≡ to_ad (calendar σ) y m d
   pub to_bs : (σ.rows ≡ [] → ⊥) → (y m d : ℕ) → ask_from_ad σ y m d ≡ from_ad (calendar σ) y m d
   -- before a row is held each question is refused with 13, and no lent number changes
-  pub no_row : σ.rows ≡ [] → (y m d : ℕ) (out : List ℕ) → (ask_bs σ y m d out).listed ≡ record { answer = refused NoRow; buffer = out }
-  pub no_row_ad : σ.rows ≡ [] → (y m d : ℕ) (out : List ℕ) → (ask_ad σ y m d out).listed ≡ record { answer = refused NoRow; buffer = out }
+  pub no_row : σ.rows ≡ [] → (y m d : ℕ) (out : List ℕ) → (ask_bs σ y m d out).listed ≡ record { answer = Err NoRow; buffer = out }
+  pub no_row_ad : σ.rows ≡ [] → (y m d : ℕ) (out : List ℕ) → (ask_ad σ y m d out).listed ≡ record { answer = Err NoRow; buffer = out }
   pub no_row_month : σ.rows ≡ [] → (today : Date) (y m : ℕ) (cells festivals : List ℕ)
-      → (ask_month σ today y m cells festivals).shown ≡ record { answer = refused NoRow; cells = cells; festivals = festivals }
-  pub no_row_to_ad : σ.rows ≡ [] → (y m d : ℕ) → ask_to_ad σ y m d ≡ refused NoRow
-  pub no_row_to_bs : σ.rows ≡ [] → (y m d : ℕ) → ask_from_ad σ y m d ≡ refused NoRow
+      → (ask_month σ today y m cells festivals).shown ≡ record { answer = Err NoRow; cells = cells; festivals = festivals }
+  pub no_row_to_ad : σ.rows ≡ [] → (y m d : ℕ) → ask_to_ad σ y m d ≡ Err NoRow
+  pub no_row_to_bs : σ.rows ≡ [] → (y m d : ℕ) → ask_from_ad σ y m d ≡ Err NoRow
   -- an answered question leaves stored exactly the table years that its day or its month draws from
-  pub list_stores : (y m d : ℕ) (out : List ℕ) (n : ℕ) → (ask_bs σ y m d out).listed.answer ≡ answered n
+  pub list_stores : (y m d : ℕ) (out : List ℕ) (n : ℕ) → (ask_bs σ y m d out).listed.answer ≡ Ok n
       → year_numbers (ask_bs σ y m d out).state.stored ≡ drawn (calendar σ) y m
-  pub list_ad_stores : (y m d : ℕ) (out : List ℕ) (n : ℕ) → (ask_ad σ y m d out).listed.answer ≡ answered n → (t : BsDate) × (
-      (from_ad (calendar σ) y m d ≡ answered t) × (year_numbers (ask_ad σ y m d out).state.stored ≡ drawn (calendar σ) t.year t.month))
-  pub month_stores : (today : Date) (y m : ℕ) (cells festivals : List ℕ) (x : Month) → (ask_month σ today y m cells festivals).shown.answer ≡ answered x
+  pub list_ad_stores : (y m d : ℕ) (out : List ℕ) (n : ℕ) → (ask_ad σ y m d out).listed.answer ≡ Ok n → (t : BsDate) × (
+      (from_ad (calendar σ) y m d ≡ Ok t) × (year_numbers (ask_ad σ y m d out).state.stored ≡ drawn (calendar σ) t.year t.month))
+  pub month_stores : (today : Date) (y m : ℕ) (cells festivals : List ℕ) (x : Month) → (ask_month σ today y m cells festivals).shown.answer ≡ Ok x
       → year_numbers (ask_month σ today y m cells festivals).state.stored ≡ drawn (calendar σ) y m
   -- appended rows keep the years that are stored; other rules and `forget` leave none
   pub row_keeps : (row : List ℕ) → year_numbers (append_row σ row).state.stored ≡ year_numbers σ.stored
-  pub rules_empty : (xs : List ℕ) → (take_rules σ xs).answer ≡ answered tt → (take_rules σ xs).state.stored ≡ []
+  pub rules_empty : (xs : List ℕ) → (take_rules σ xs).answer ≡ Ok tt → (take_rules σ xs).state.stored ≡ []
   pub forget_empties : (forgotten σ).stored ≡ []
   -- a refused operation leaves the state
   pub rules_refused : (xs : List ℕ) → Leaves σ (take_rules σ xs).answer (take_rules σ xs).state

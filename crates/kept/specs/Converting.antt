@@ -1,7 +1,7 @@
 -- The two conversions over a kept state: they ask its table alone, and leave the state. Assumes nothing.
-use Rattle.std.specs.Prelude.{ℕ, ◌≡◌, true, cond, List, [], ◌⊎◌}
+use Rattle.std.specs.Prelude.{ℕ, ◌≡◌, true, cond, List, [], ◌⊎◌, Err}
 use Rattle.paper.specs.declared.Refusal.TheVariants.{NoRow}
-use Rattle.paper.specs.Answers.{Answer, refused}
+use Rattle.paper.specs.Answers.{Answer}
 use Rattle.gregorian.specs.declared.Date.{Date}
 use Rattle.conversion.specs.declared.Table.{Table}
 use Rattle.conversion.specs.declared.BsDate.{BsDate}
@@ -16,7 +16,7 @@ TableHeld t rows = (rows ≡ []) ⊎ (accepted t rows ≡ true)
 
 -- a question before a row is held: refusal 13, before every other
 unfoldable pub if_row : {A : Type 0} → List ℕ → Answer A → Answer A
-if_row rows a = cond (empty rows) (refused NoRow) a
+if_row rows a = cond (empty rows) (Err NoRow) a
 
 -- the Gregorian date of a BS date, over the table now held: refusals 13, 4, 5, 6
 unfoldable pub ask_to_ad : State → ℕ → ℕ → ℕ → Answer Date

@@ -1,17 +1,12 @@
 -- How the code's records are read: the state that a record holds, and the one record that holds a state. Assumes nothing.
-use Rattle.std.specs.Prelude.{ℕ, ◌-◌, ◌≡◌, cond, List, [], ◌∷◌, ◌++◌, eqb, length, take, replicate}
-use Rattle.paper.specs.Answers.{answered, then}
-use Rattle.conversion.specs.Answers.{valid_says}
+use Rattle.std.specs.Prelude.{ℕ, ◌-◌, ◌≡◌, cond, List, [], ◌∷◌, ◌++◌, eqb, length, take, replicate, Ok}
+use Rattle.paper.specs.Answers.{then}
 use Rattle.conversion.specs.declared.Table.{Table}
 use Rattle.rules.specs.declared.lists.Resolved.{Resolved}
-use Rattle.festivals.specs.Answers.{list_says}
-use Rattle.grid.specs.Month.{grid_says}
+use Rattle.grid.specs.declared.Month.{Month}
 use Rattle.kept.specs.declared.Store.{Store}
 use Rattle.kept.specs.declared.Kept.{Kept}
-use Rattle.kept.specs.declared.Started.{Started}
-use Rattle.kept.specs.declared.Done.{Done}
-use Rattle.kept.specs.declared.Asked.{Asked}
-use Rattle.kept.specs.declared.AskedMonth.{AskedMonth}
+use Rattle.kept.specs.declared.After.{After}
 use Rattle.kept.specs.declared.StoredYears.{StoredYears}
 use Rattle.kept.specs.declared.StoredYears.TheVariants as ST
 use Rattle.kept.specs.State.{Year, year_of, State, Good}
@@ -70,22 +65,22 @@ pub record Holds (k : Kept) (σ : State) : Type 0 where
   pub ready : Ready k
 
 -- a start: its record is the blank state's even where it is refused
-pub record StartedAs (r : Started) (t : Table) : Type 0 where
-  pub answer : valid_says r.answer ≡ then (start t) (λ σ. answered tt)
+pub record StartedAs (r : After Unit) (t : Table) : Type 0 where
+  pub answer : r.answer ≡ then (start t) (λ σ. Ok tt)
   pub is : r.state ≡ record_of (blank t)
-  pub ready : valid_says r.answer ≡ answered tt → Holds r.state (blank t)
+  pub ready : r.answer ≡ Ok tt → Holds r.state (blank t)
 
-pub record DoneAs (r : Done) (w : Outcome) : Type 0 where
-  pub answer : valid_says r.answer ≡ w.answer
+pub record DoneAs (r : After Unit) (w : Outcome) : Type 0 where
+  pub answer : r.answer ≡ w.answer
   pub holds : Holds r.state w.state
 
-pub record AskedAs (r : Asked) (buffer : List ℕ) (w : Reply) : Type 0 where
-  pub answer : list_says r.answer ≡ w.listed.answer
+pub record AskedAs (r : After ℕ) (buffer : List ℕ) (w : Reply) : Type 0 where
+  pub answer : r.answer ≡ w.listed.answer
   pub written : buffer ≡ w.listed.buffer
   pub holds : Holds r.state w.state
 
-pub record MonthAs (r : AskedMonth) (cells festivals : List ℕ) (w : MonthReply) : Type 0 where
-  pub answer : grid_says r.answer ≡ w.shown.answer
+pub record MonthAs (r : After Month) (cells festivals : List ℕ) (w : MonthReply) : Type 0 where
+  pub answer : r.answer ≡ w.shown.answer
   pub first : cells ≡ w.shown.cells
   pub second : festivals ≡ w.shown.festivals
   pub holds : Holds r.state w.state

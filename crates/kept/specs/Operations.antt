@@ -1,7 +1,7 @@
 -- The operations on a kept state, each with its refusals in their order. Assumes nothing.
-use Rattle.std.specs.Prelude.{ℕ, Bool, true, false, cond, ◌&&◌, List, [], ◌∷◌, ◌++◌, eqb, length}
+use Rattle.std.specs.Prelude.{ℕ, Bool, true, false, cond, ◌&&◌, List, [], ◌∷◌, ◌++◌, eqb, length, Err, Ok}
 use Rattle.paper.specs.declared.Refusal.TheVariants.{BadTable, BadRules, NoRow}
-use Rattle.paper.specs.Answers.{Answer, answered, refused, given}
+use Rattle.paper.specs.Answers.{Answer, given}
 use Rattle.gregorian.specs.declared.Date.{Date}
 use Rattle.conversion.specs.declared.Table.{Table}
 use Rattle.conversion.specs.declared.BsDate.{BsDate}
@@ -20,7 +20,7 @@ abbrev pub blank : Table → State
 blank t = record { table = t; rows = []; rules = []; stored = [] }
 
 unfoldable pub start : Table → Answer State
-start t = given (startable t) BadTable (answered (blank t))
+start t = given (startable t) BadTable (Ok (blank t))
 
 -- ---- take, append, forget
 
@@ -31,15 +31,15 @@ pub record Outcome : Type 0 where
 
 -- a refused operation leaves the state
 abbrev pub outcome : State → Answer State → Outcome
-outcome σ (answered τ) = record { answer = answered tt; state = τ }
-outcome σ (refused k) = record { answer = refused k; state = σ }
+outcome σ (Ok τ) = record { answer = Ok tt; state = τ }
+outcome σ (Err k) = record { answer = Err k; state = σ }
 
 -- other rules, and no stored year: refusal 2
 abbrev pub with_rules : State → List ℕ → State
 with_rules σ xs = record { table = σ.table; rows = σ.rows; rules = xs; stored = [] }
 
 unfoldable pub take_rules : State → List ℕ → Outcome
-take_rules σ xs = outcome σ (given (accepted_rules xs) BadRules (answered (with_rules σ xs)))
+take_rules σ xs = outcome σ (given (accepted_rules xs) BadRules (Ok (with_rules σ xs)))
 
 -- one year row more, and the stored years worked out with it: refusal 1
 abbrev pub with_row : State → List ℕ → State
@@ -52,7 +52,7 @@ with_row σ row =
     }
 
 unfoldable pub append_row : State → List ℕ → Outcome
-append_row σ row = outcome σ (given (eqb (length row) 13 && accepted σ.table (σ.rows ++ row)) BadTable (answered (with_row σ row)))
+append_row σ row = outcome σ (given (eqb (length row) 13 && accepted σ.table (σ.rows ++ row)) BadTable (Ok (with_row σ row)))
 
 -- other stored years: these, worked out from the table and the rules
 abbrev pub with_years : State → List ℕ → State
@@ -70,8 +70,8 @@ pub record Reply : Type 0 where
 
 -- an answered question leaves stored exactly the years ys that it drew from; a refused one leaves the state
 abbrev pub after : {A : Type 0} → State → List ℕ → Answer A → State
-after σ ys (answered x) = with_years σ ys
-after σ ys (refused k) = σ
+after σ ys (Ok x) = with_years σ ys
+after σ ys (Err k) = σ
 
 abbrev pub replied : State → Listed → List ℕ → Reply
 replied σ l ys = record { listed = l; state = after σ ys l.answer }
@@ -82,7 +82,7 @@ empty (x ∷ xs) = false
 
 -- a question before a row is held: refusal 13, before every other
 unfoldable pub row_first : List ℕ → Listed → List ℕ → Listed
-row_first rows l out = cond (empty rows) (record { answer = refused NoRow; buffer = out }) l
+row_first rows l out = cond (empty rows) (record { answer = Err NoRow; buffer = out }) l
 
 -- a day's list by BS date, over the table and the rules now held: refusals 13, 4, 5, 6, 9
 unfoldable pub ask_bs : State → ℕ → ℕ → ℕ → List ℕ → Reply
@@ -90,8 +90,8 @@ ask_bs σ y m d out = replied σ (row_first σ.rows (on_bs σ.table σ.rows σ.r
 
 -- the years that the day of a BS date draws from
 abbrev pub drawn_on : Calendar → Answer BsDate → List ℕ
-drawn_on c (answered t) = drawn c t.year t.month
-drawn_on c (refused k) = []
+drawn_on c (Ok t) = drawn c t.year t.month
+drawn_on c (Err k) = []
 
 -- by Gregorian date: refusals 13, 3, 7, 9
 unfoldable pub ask_ad : State → ℕ → ℕ → ℕ → List ℕ → Reply
@@ -109,7 +109,7 @@ abbrev pub replied_month : State → Shown → List ℕ → MonthReply
 replied_month σ w ys = record { shown = w; state = after σ ys w.answer }
 
 unfoldable pub row_first_month : List ℕ → Shown → List ℕ → List ℕ → Shown
-row_first_month rows w cells festivals = cond (empty rows) (record { answer = refused NoRow; cells = cells; festivals = festivals }) w
+row_first_month rows w cells festivals = cond (empty rows) (record { answer = Err NoRow; cells = cells; festivals = festivals }) w
 
 -- a month, over the table and the rules now held: refusals 13, 3 (today), 4, 5, 9
 unfoldable pub ask_month : State → Date → ℕ → ℕ → List ℕ → List ℕ → MonthReply

@@ -1,6 +1,6 @@
 // Asking a state for a day's list.
 ghost use Rattle.std.specs.Prelude.{◌≡◌, true};
-ghost use Rattle.paper.specs.Answers.{answered};
+ghost use Rattle.std.specs.Prelude.{Ok};
 ghost use Rattle.conversion.specs.Calendar.{to_day, from_day, from_ad};
 ghost use Rattle.conversion.specs.Flat.{accepted, flat};
 ghost use Rattle.rules.specs.Rules.{accepted_rules};
@@ -12,20 +12,13 @@ ghost use Rattle.kept.specs.Held.{held, Ready, AskedAs};
 ghost use Rattle.kept.specs.Inner.{Fresh, DrewDay};
 
 use crate::years::drawn_years;
-use crate::{Asked, Kept, Store, front, with_store};
-use conversion::{BsDate, Placed, Table, Validity};
-use festivals::{ListAnswer, list_from};
-use gregorian::{Date, NumberAnswer};
-use paper::Refusal;
+use crate::{After, Kept, Store, asked, front};
+use conversion::{BsDate, Table};
+use festivals::list_from;
+use gregorian::Date;
+use paper::{Answer, Refusal};
 
-// A day's answer, and what is stored after it: a refused question leaves it as it was.
-#[derive(Clone, Copy)]
-struct Drawn {
-    answer: ListAnswer,
-    store: Store,
-}
-
-// The list of a day of an accepted table, by the stored years where they are there.
+// The list of a day of an accepted table, by the stored years where they are there, and the years that it was drawn from.
 fn list_day(
     table: Table,
     rows: &[u16],
@@ -34,25 +27,16 @@ fn list_day(
     bs: BsDate,
     number: u32,
     out: &mut [u16],
-) -> Drawn
+) -> Answer<(usize, Store)>
     requires rows_value { (accepted table rows.now ≡ true) × (accepted_rules rules.now ≡ true) }
-    requires day_value { to_day (flat table rows.now) bs.year bs.month bs.day ≡ answered number }
+    requires day_value { to_day (flat table rows.now) bs.year bs.month bs.day ≡ Ok number }
     ensures { Fresh (flat table rows.now) rules.now store
-        → DrewDay (flat table rows.now) rules.now store (drawn (flat table rows.now) bs.year bs.month)
+        → DrewDay (flat table rows.now) rules.now (drawn (flat table rows.now) bs.year bs.month)
         (listed_on table rows.now rules.now number out.old bs) result out.new }
 {
     let years = drawn_years(table, rows, rules, store, bs.year, bs.month);
-    let answer = list_from(rules, bs, number, years.years, out);
-    match answer {
-        ListAnswer::Refused(k) => Drawn {
-            answer: ListAnswer::Refused(k),
-            store,
-        },
-        ListAnswer::Count(n) => Drawn {
-            answer: ListAnswer::Count(n),
-            store: years,
-        },
-    }
+    let count = list_from(rules, bs, number, years.years, out)?;
+    Ok((count, years))
 }
 
 // The list of a day by its number, if the accepted table has it.
@@ -63,25 +47,15 @@ fn list_placed(
     store: Store,
     number: u32,
     out: &mut [u16],
-) -> Drawn
+) -> Answer<(usize, Store)>
     requires { (accepted table rows.now ≡ true) × (accepted_rules rules.now ≡ true) }
     ensures { Fresh (flat table rows.now) rules.now store
-        → DrewDay (flat table rows.now) rules.now store
+        → DrewDay (flat table rows.now) rules.now
         (drawn_on (flat table rows.now) (from_day (flat table rows.now) number))
         (listed_at table rows.now rules.now number out.old) result out.new }
 {
-    let place = conversion::place(table, rows, number);
-    match place {
-        Placed::Before(k) => Drawn {
-            answer: ListAnswer::Refused(Refusal::Before(k)),
-            store,
-        },
-        Placed::After(k) => Drawn {
-            answer: ListAnswer::Refused(Refusal::After(k)),
-            store,
-        },
-        Placed::Inside(bs) => list_day(table, rows, rules, store, bs, number, out),
-    }
+    let bs = conversion::place(table, rows, number)?;
+    list_day(table, rows, rules, store, bs, number, out)
 }
 
 // The list of a BS date. Refusals 13, 1, 2, 4, 5, 6, 9.
@@ -92,35 +66,18 @@ fn list_bs(
     store: Store,
     bs: BsDate,
     out: &mut [u16],
-) -> Drawn
+) -> Answer<(usize, Store)>
     ensures { Fresh (flat table rows.now) rules.now store
-        → DrewDay (flat table rows.now) rules.now store (drawn (flat table rows.now) bs.year bs.month)
+        → DrewDay (flat table rows.now) rules.now (drawn (flat table rows.now) bs.year bs.month)
         (row_first rows.now (on_bs table rows.now rules.now bs.year bs.month bs.day out.old)
         out.old) result out.new }
 {
-    if rows.len() == 0 {
-        return Drawn {
-            answer: ListAnswer::Refused(Refusal::NoRow),
-            store,
-        };
+    if rows.is_empty() {
+        return Err(Refusal::NoRow);
     }
-    let lent = rules::accept(table, rows, rules);
-    match lent {
-        Validity::Refused(k) => Drawn {
-            answer: ListAnswer::Refused(k),
-            store,
-        },
-        Validity::Valid => {
-            let number = conversion::day_of(table, rows, bs);
-            match number {
-                NumberAnswer::Refused(k) => Drawn {
-                    answer: ListAnswer::Refused(k),
-                    store,
-                },
-                NumberAnswer::Number(n) => list_day(table, rows, rules, store, bs, n, out),
-            }
-        }
-    }
+    rules::accept(table, rows, rules)?;
+    let number = conversion::day_of(table, rows, bs)?;
+    list_day(table, rows, rules, store, bs, number, out)
 }
 
 // The list of a Gregorian date. Refusals 13, 1, 2, 3, 7, 9.
@@ -131,84 +88,47 @@ fn list_ad(
     store: Store,
     ad: Date,
     out: &mut [u16],
-) -> Drawn
+) -> Answer<(usize, Store)>
     ensures { Fresh (flat table rows.now) rules.now store
-        → DrewDay (flat table rows.now) rules.now store
+        → DrewDay (flat table rows.now) rules.now
         (drawn_on (flat table rows.now) (from_ad (flat table rows.now) ad.year ad.month ad.day))
         (row_first rows.now (on_ad table rows.now rules.now ad.year ad.month ad.day out.old)
         out.old) result out.new }
 {
-    if rows.len() == 0 {
-        return Drawn {
-            answer: ListAnswer::Refused(Refusal::NoRow),
-            store,
-        };
+    if rows.is_empty() {
+        return Err(Refusal::NoRow);
     }
-    let lent = rules::accept(table, rows, rules);
-    match lent {
-        Validity::Refused(k) => Drawn {
-            answer: ListAnswer::Refused(k),
-            store,
-        },
-        Validity::Valid => {
-            let number = ad.day_number();
-            match number {
-                NumberAnswer::Refused(k) => Drawn {
-                    answer: ListAnswer::Refused(k),
-                    store,
-                },
-                NumberAnswer::Number(n) => list_placed(table, rows, rules, store, n, out),
-            }
-        }
-    }
+    rules::accept(table, rows, rules)?;
+    let number = ad.day_number()?;
+    list_placed(table, rows, rules, store, number, out)
 }
 
 // The festivals of a BS date, as name, holiday. Refusals 13, 4, 5, 6, 9.
-pub fn ask_bs(state: Kept, year: u16, month: u16, day: u16, out: &mut [u16]) -> Asked
+pub fn ask_bs(state: Kept, year: u16, month: u16, day: u16, out: &mut [u16]) -> After<usize>
     ensures { Ready state → AskedAs result out.new (ask_bs (held state) year month day out.old) }
 {
-    let table = state.table;
-    let rows = state.rows;
-    let rules = state.rules;
-    let store = state.store;
-    let bs = BsDate { year, month, day };
     let drawn = list_bs(
-        table,
-        front(&rows, state.row_len),
-        front(&rules, state.rule_len),
-        store,
-        bs,
+        state.table,
+        front(&state.rows, state.row_len),
+        front(&state.rules, state.rule_len),
+        state.store,
+        BsDate { year, month, day },
         out,
     );
-    let answer = drawn.answer;
-    let after = with_store(state, drawn.store);
-    Asked {
-        answer,
-        state: after,
-    }
+    asked(state, drawn)
 }
 
 // The festivals of a Gregorian date, as name, holiday. Refusals 13, 3, 7, 9; 7 tells how far outside the table the date lies.
-pub fn ask_ad(state: Kept, year: u16, month: u16, day: u16, out: &mut [u16]) -> Asked
+pub fn ask_ad(state: Kept, year: u16, month: u16, day: u16, out: &mut [u16]) -> After<usize>
     ensures { Ready state → AskedAs result out.new (ask_ad (held state) year month day out.old) }
 {
-    let table = state.table;
-    let rows = state.rows;
-    let rules = state.rules;
-    let store = state.store;
-    let ad = Date { year, month, day };
     let drawn = list_ad(
-        table,
-        front(&rows, state.row_len),
-        front(&rules, state.rule_len),
-        store,
-        ad,
+        state.table,
+        front(&state.rows, state.row_len),
+        front(&state.rules, state.rule_len),
+        state.store,
+        Date { year, month, day },
         out,
     );
-    let answer = drawn.answer;
-    let after = with_store(state, drawn.store);
-    Asked {
-        answer,
-        state: after,
-    }
+    asked(state, drawn)
 }

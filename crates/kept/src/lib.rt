@@ -10,18 +10,17 @@ ghost use Rattle.std.specs.Prelude.{◌≡◌, ◌++◌, ◌+◌, ◌≤◌, len
 ghost use Rattle.kept.specs.State.{startable, year_numbers};
 ghost use Rattle.kept.specs.Operations.{take_rules, append_row, forgotten};
 ghost use Rattle.kept.specs.Held.{held, padded, Ready, Holds, StartedAs, DoneAs, stored_says};
-ghost use Rattle.kept.specs.Inner.{with_store};
+ghost use Rattle.kept.specs.Inner.{with_store, done, asked, HoldsAnswer, taking, appending};
 
 use crate::years::{no_years, renewed};
-use conversion::{Table, Validity};
-use festivals::ListAnswer;
+use conversion::Table;
 use festivals::years::year_before;
-use grid::GridAnswer;
 use grid::page::put_at;
-use paper::Refusal;
+use paper::{Answer, Refusal};
 use rules::lists::Years;
 
 // The resolved years that are stored: none (count 0), a year (1), or the year before it and the year (2).
+// A count and no enum: crate shelf reads any number as the count and writes it back as it stands (`kept_of`, `numbers_of`).
 #[derive(Clone, Copy)]
 pub struct Store {
     pub count: u16,
@@ -40,35 +39,14 @@ pub struct Kept {
     pub store: Store,
 }
 
-// Whether a state was started, and the state; after a refusal it is not to be asked.
+// What is answered, and the state after it: what is refused leaves the state as it was, and a state whose start is refused is not to be asked.
 #[derive(Clone, Copy)]
-pub struct Started {
-    pub answer: Validity,
+pub struct After<T> {
+    pub answer: Answer<T>,
     pub state: Kept,
 }
 
-// Whether an operation was done, and the state after it: a refused one leaves it as it was.
-#[derive(Clone, Copy)]
-pub struct Done {
-    pub answer: Validity,
-    pub state: Kept,
-}
-
-// A day's answer, and the state after it: a refused question leaves it as it was.
-#[derive(Clone, Copy)]
-pub struct Asked {
-    pub answer: ListAnswer,
-    pub state: Kept,
-}
-
-// A month's answer, and the state after it: a refused question leaves it as it was.
-#[derive(Clone, Copy)]
-pub struct AskedMonth {
-    pub answer: GridAnswer,
-    pub state: Kept,
-}
-
-// Which BS years are stored, rising.
+// Which BS years are stored, rising: none is one of three kinds here, and no missing value.
 #[derive(Clone, Copy)]
 pub enum StoredYears {
     Nothing,
@@ -80,26 +58,45 @@ pub enum StoredYears {
 pub fn front(list: &[u16], n: usize) -> &[u16]
     ensures { result.now ≡ take n list.now }
 {
-    if n <= list.len() {
-        return &list[..n];
-    }
-    list
+    &list[..n.min(list.len())]
 }
 
 // A state with other stored years.
 fn with_store(state: Kept, store: Store) -> Kept
     ensures { result ≡ with_store state store }
 {
-    let table = state.table;
-    let rows = state.rows;
-    let rules = state.rules;
-    Kept {
-        table,
-        rows,
-        row_len: state.row_len,
-        rules,
-        rule_len: state.rule_len,
-        store,
+    Kept { store, ..state }
+}
+
+// The state after an operation: a refused one leaves it as it was.
+fn done(state: Kept, made: Answer<Kept>) -> After<()>
+    ensures { result ≡ done state made }
+{
+    match made {
+        Ok(after) => After {
+            answer: Ok(()),
+            state: after,
+        },
+        Err(k) => After {
+            answer: Err(k),
+            state,
+        },
+    }
+}
+
+// The state after a question, with the years that its answer drew from; a refused one leaves it as it was.
+fn asked<T>(state: Kept, drawn: Answer<(T, Store)>) -> After<T>
+    ensures { result ≡ asked state drawn }
+{
+    match drawn {
+        Ok((value, store)) => After {
+            answer: Ok(value),
+            state: with_store(state, store),
+        },
+        Err(k) => After {
+            answer: Err(k),
+            state,
+        },
     }
 }
 
@@ -107,41 +104,33 @@ fn with_store(state: Kept, store: Store) -> Kept
 fn can_start(table: Table) -> bool
     ensures { result ≡ startable table }
 {
-    if table.first_year < 1 {
+    if !(1..=3000).contains(&table.first_year) {
         return false;
     }
-    if 3000 < table.first_year {
+    let Ok(first) = conversion::first_day(table) else {
         return false;
-    }
-    let first = conversion::first_day(table);
-    (2415386 <= first) & (first <= 2488069)
+    };
+    (2415386..=2488069).contains(&first)
 }
 
 // A state with no row, no rules and no stored year. Refusal 1.
-pub fn start(table: Table) -> Started
+pub fn start(table: Table) -> After<()>
     ensures { StartedAs result table }
 {
-    let rows = [0u16; 1664];
-    let rules = [0u16; 2560];
-    let store = no_years();
     let state = Kept {
         table,
-        rows,
+        rows: [0; 1664],
         row_len: 0,
-        rules,
+        rules: [0; 2560],
         rule_len: 0,
-        store,
+        store: no_years(),
     };
-    if !can_start(table) {
-        return Started {
-            answer: Validity::Refused(Refusal::BadTable),
-            state,
-        };
-    }
-    Started {
-        answer: Validity::Valid,
-        state,
-    }
+    let answer = if can_start(table) {
+        Ok(())
+    } else {
+        Err(Refusal::BadTable)
+    };
+    After { answer, state }
 }
 
 // The state without its stored years.
@@ -156,42 +145,35 @@ pub fn stored(state: Kept) -> StoredYears
     ensures { stored_says result ≡ year_numbers (held state).stored }
 {
     let store = state.store;
-    if store.count == 0 {
-        return StoredYears::Nothing;
+    match store.count {
+        0 => StoredYears::Nothing,
+        1 => StoredYears::One(store.year),
+        _ => StoredYears::Two(year_before(store.year), store.year),
     }
-    if store.count == 1 {
-        return StoredYears::One(store.year);
+}
+
+// The state with these rules in place of its own, and no stored year, if they are accepted.
+fn with_rules(state: Kept, list: &[u16]) -> Answer<Kept>
+    ensures { Ready state → HoldsAnswer result (taking (held state) list.now) }
+{
+    if !rules::accepts_rules(list) {
+        return Err(Refusal::BadRules);
     }
-    StoredYears::Two(year_before(store.year), store.year)
+    let mut rules = [0u16; 2560];
+    put_at(&mut rules, 0, list);
+    Ok(Kept {
+        rules,
+        rule_len: list.len(),
+        store: no_years(),
+        ..state
+    })
 }
 
 // The state with these rules in place of its own, and no stored year. Refusal 2.
-pub fn take_rules(state: Kept, list: &[u16]) -> Done
+pub fn take_rules(state: Kept, list: &[u16]) -> After<()>
     ensures { Ready state → DoneAs result (take_rules (held state) list.now) }
 {
-    if !rules::accepts_rules(list) {
-        return Done {
-            answer: Validity::Refused(Refusal::BadRules),
-            state,
-        };
-    }
-    let table = state.table;
-    let rows = state.rows;
-    let mut rules = [0u16; 2560];
-    put_at(&mut rules, 0, list);
-    let store = no_years();
-    let after = Kept {
-        table,
-        rows,
-        row_len: state.row_len,
-        rules,
-        rule_len: list.len(),
-        store,
-    };
-    Done {
-        answer: Validity::Valid,
-        state: after,
-    }
+    done(state, with_rules(state, list))
 }
 
 // The rows of a table with one row more, and 0 behind them.
@@ -205,50 +187,31 @@ fn with_row(rows: &[u16], row: &[u16]) -> [u16; 1664]
     all
 }
 
+// The state with one year row more, and its stored years resolved anew, if the table is accepted with it.
+fn with_year(state: Kept, row: &[u16]) -> Answer<Kept>
+    ensures { Ready state → HoldsAnswer result (appending (held state) row.now) }
+{
+    let before = front(&state.rows, state.row_len);
+    let rules = front(&state.rules, state.rule_len);
+    if row.len() != 13 || 1651 < before.len() {
+        return Err(Refusal::BadTable);
+    }
+    let rows = with_row(before, row);
+    let row_len = before.len() + 13;
+    let longer = front(&rows, row_len);
+    rules::accept(state.table, longer, rules)?;
+    let store = renewed(state.table, longer, rules, state.store);
+    Ok(Kept {
+        rows,
+        row_len,
+        store,
+        ..state
+    })
+}
+
 // The state with one year row more; the stored years are resolved anew. Refusal 1.
-pub fn append_row(state: Kept, row: &[u16]) -> Done
+pub fn append_row(state: Kept, row: &[u16]) -> After<()>
     ensures { Ready state → DoneAs result (append_row (held state) row.now) }
 {
-    let held_rows = state.rows;
-    let held_rules = state.rules;
-    let before = front(&held_rows, state.row_len);
-    let rules = front(&held_rules, state.rule_len);
-    let n = before.len();
-    if row.len() != 13 {
-        return Done {
-            answer: Validity::Refused(Refusal::BadTable),
-            state,
-        };
-    }
-    if 1651 < n {
-        return Done {
-            answer: Validity::Refused(Refusal::BadTable),
-            state,
-        };
-    }
-    let table = state.table;
-    let rows = with_row(before, row);
-    let end = n + 13;
-    let lent = rules::accept(table, front(&rows, end), rules);
-    match lent {
-        Validity::Refused(k) => Done {
-            answer: Validity::Refused(k),
-            state,
-        },
-        Validity::Valid => {
-            let store = renewed(table, front(&rows, end), rules, state.store);
-            let after = Kept {
-                table,
-                rows,
-                row_len: end,
-                rules: held_rules,
-                rule_len: state.rule_len,
-                store,
-            };
-            Done {
-                answer: Validity::Valid,
-                state: after,
-            }
-        }
-    }
+    done(state, with_year(state, row))
 }

@@ -13,44 +13,48 @@ use conversion::Table;
 use festivals::years::{resolve_year, year_before};
 use rules::lists::{Resolved, Years};
 
+// No year's days.
+const NO_DAYS: Resolved = Resolved { days: [0; 64] };
+
 // No year.
+#[tactic(auto, unfolding(crate::specs::Held::store_of))]
 pub fn no_years() -> Store
     ensures { result ≡ store_of [] }
 {
-    let none = Resolved { days: [0; 64] };
-    let years = Years {
-        before: none,
-        this: none,
-    };
     Store {
         count: 0,
         year: 0,
-        years,
+        years: Years {
+            before: NO_DAYS,
+            this: NO_DAYS,
+        },
     }
 }
 
 // A year alone.
+#[tactic(auto, unfolding(crate::specs::Held::store_of))]
 fn one_year(year: u16, this: Resolved) -> Store
     ensures { result ≡ store_of (year_of year this.days ∷ []) }
 {
-    let before = Resolved { days: [0; 64] };
-    let years = Years { before, this };
     Store {
         count: 1,
         year,
-        years,
+        years: Years {
+            before: NO_DAYS,
+            this,
+        },
     }
 }
 
 // A year and the one before it.
+#[tactic(auto, unfolding(crate::specs::Held::store_of))]
 fn two_years(year: u16, before: Resolved, this: Resolved) -> Store
     ensures { result ≡ store_of (year_of (year - 1) before.days ∷ year_of year this.days ∷ []) }
 {
-    let years = Years { before, this };
     Store {
         count: 2,
         year,
-        years,
+        years: Years { before, this },
     }
 }
 
@@ -107,10 +111,8 @@ pub fn drawn_years(
         → result ≡ store_for (flat table rows.now) rules.now (drawn (flat table rows.now) year month) }
 {
     let this = year_from(table, rows, rules, store, year);
-    if 2 < month {
-        return one_year(year, this);
-    }
-    if year <= table.first_year {
+    let late = 2 < month;
+    if late || year <= table.first_year {
         return one_year(year, this);
     }
     let before = year_from(table, rows, rules, store, year_before(year));

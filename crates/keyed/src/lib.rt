@@ -2,37 +2,19 @@
 #![tactic(auto)]
 
 ghost use Rattle.std.specs.Prelude.{drop};
-ghost use Rattle.text.specs.Reading.{Says};
+ghost use Rattle.text.specs.Reading.{Says, read_says, read_end};
 ghost use Rattle.text.specs.Written.{Wrote};
 ghost use Rattle.keyed.specs.Lines.{line_text, line};
-ghost use Rattle.keyed.specs.Reading.{line_says, line_end};
 
-use text::{Cursor, Passed, Read};
-
-// The number of the line that is due and the place after it, or that another text stands there.
-#[derive(Clone, Copy)]
-pub enum Line {
-    Number(u16, Cursor),
-    NotDue,
-}
+use text::Cursor;
 
 // The line under a key.
-pub fn read_line(s: &[u8], c: Cursor, key: &[u8]) -> Line
-    ensures { Says s.now (line_says s.now result) (line_end result) (line key.now (drop c.at s.now)) }
+pub fn read_line(s: &[u8], c: Cursor, key: &[u8]) -> Option<(u16, Cursor)>
+    ensures { Says s.now (read_says s.now result) (read_end result) (line key.now (drop c.at s.now)) }
 {
-    let Passed::To(sign) = c.pass(s, key) else {
-        return Line::NotDue;
-    };
-    let Passed::To(digits) = sign.pass(s, b"=") else {
-        return Line::NotDue;
-    };
-    let Read::Number(n, end) = digits.decimal(s, 65535) else {
-        return Line::NotDue;
-    };
-    let Passed::To(next) = end.pass(s, b"\n") else {
-        return Line::NotDue;
-    };
-    Line::Number(n as u16, next)
+    let digits = c.pass(s, key)?.pass(s, b"=")?;
+    let (n, end) = digits.decimal(s, 65535)?;
+    Some((n as u16, end.pass(s, b"\n")?))
 }
 
 // Writes the line of a number under a key, and answers the place after it.

@@ -1,4 +1,5 @@
 -- Numbers that lines lend, one after the other at the end of a list. Assumes nothing.
+use Rattle.std.specs.Prelude.{Option, Some, None}
 use Prim.Native.Nat.{ℕ, zero, suc, ◌+◌, ◌≤◌}
 use mathlib.Core.Path.{◌≡◌, refl}
 use mathlib.Core.Bool.{Bool, true, false, cond}
@@ -33,17 +34,17 @@ pub wrote_longer : {l m : List ℕ} {f a : ℕ} (w : Words) (n : ℕ) → Wrote 
 wrote_longer {l} {m} {f} {a} w n p = rw (length_numbers w n) at p.end
 
 -- how many numbers a line lends
-abbrev pub how_many : Lending → ℕ
-how_many L.Table = 0
-how_many L.Rules = 0
-how_many (L.Cells n) = n
-how_many (L.Numbers n) = n
-how_many L.Text = 0
-how_many L.Octets = 0
-how_many L.Not = 0
+abbrev pub how_many : Option Lending → ℕ
+how_many (Some L.Table) = 0
+how_many (Some L.Rules) = 0
+how_many (Some (L.Cells n)) = n
+how_many (Some (L.Numbers n)) = n
+how_many (Some L.Text) = 0
+how_many (Some L.Octets) = 0
+how_many None = 0
 
 -- at most so many
-pub record Few (l : Lending) : Type 0 where
+pub record Few (l : Option Lending) : Type 0 where
   pub most : how_many l ≤ 13
 
 -- no line lends more than thirteen
@@ -57,7 +58,7 @@ few tag form bytes =
     (either (eqb tag RULE) (record { most = omega (arith, numbers_most form 8) })
     (either (eqb tag TEXT) (either (eqb form 0) (record { most = omega arith }) (record { most = omega arith })) (record { most = omega arith }))))))
   where
-    either : (t : Bool) {a b : Lending} → Few a → Few b → Few (cond t a b)
+    either : (t : Bool) {a b : Option Lending} → Few a → Few b → Few (cond t a b)
     either true p q = p
     either false p q = q
 

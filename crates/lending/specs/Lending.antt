@@ -1,5 +1,5 @@
 -- What lines lend: `table`, `rules` and `text` begin a list, `cells` and `rule` add numbers at its end, `octets` adds bytes. Assumes nothing.
-use Rattle.std.specs.Prelude.{ℕ, zero, suc, ◌+◌, ◌-◌, ◌*◌, min, Bool, true, false, cond, List, [], ◌∷◌, ◌++◌, eqb, ltb, length, take}
+use Rattle.std.specs.Prelude.{ℕ, zero, suc, Option, Some, None, ◌+◌, ◌-◌, ◌*◌, min, Bool, true, false, cond, List, [], ◌∷◌, ◌++◌, eqb, ltb, length, take}
 use Rattle.std.proofs.lemmas.List.Edits.{sets}
 use Rattle.conversion.specs.declared.Table.{Table}
 use Rattle.asked.specs.Line.{small}
@@ -23,27 +23,31 @@ unfoldable pub numbers_in : ℕ → ℕ → ℕ
 numbers_in form zero = 0
 numbers_in form (suc most) = cond (eqb form (ones (suc most))) (suc most) (numbers_in form most)
 
+-- what a line lends where it has its form
+abbrev pub in_form : Bool → Lending → Option Lending
+in_form good l = cond good (Some l) None
+
 -- `octets` with its bytes, 1 or more; `table` with four numbers, `cells` with 1 to 13, `rules` alone, `rule` with 1 to 8, `text` alone. No number is a line
 -- out of form
-unfoldable pub lending_of : ℕ → ℕ → ℕ → Lending
+unfoldable pub lending_of : ℕ → ℕ → ℕ → Option Lending
 lending_of tag form bytes =
-    cond (ltb 0 bytes) L.Octets
-    (cond (eqb tag TABLE) (cond (eqb form (ones 4)) L.Table L.Not)
-    (cond (eqb tag CELLS) (L.Cells (numbers_in form 13))
-    (cond (eqb tag RULES) (cond (eqb form 0) L.Rules L.Not)
-    (cond (eqb tag RULE) (L.Numbers (numbers_in form 8))
-    (cond (eqb tag TEXT) (cond (eqb form 0) L.Text L.Not)
-    L.Not)))))
+    cond (ltb 0 bytes) (Some L.Octets)
+    (cond (eqb tag TABLE) (in_form (eqb form (ones 4)) L.Table)
+    (cond (eqb tag CELLS) (Some (L.Cells (numbers_in form 13)))
+    (cond (eqb tag RULES) (in_form (eqb form 0) L.Rules)
+    (cond (eqb tag RULE) (Some (L.Numbers (numbers_in form 8)))
+    (cond (eqb tag TEXT) (in_form (eqb form 0) L.Text)
+    None)))))
 
 -- any line that lends is not answered
-abbrev pub lends : Lending → Bool
-lends L.Table = true
-lends L.Rules = true
-lends (L.Cells n) = ltb 0 n
-lends (L.Numbers n) = ltb 0 n
-lends L.Text = true
-lends L.Octets = true
-lends L.Not = false
+abbrev pub lends : Option Lending → Bool
+lends (Some L.Table) = true
+lends (Some L.Rules) = true
+lends (Some (L.Cells n)) = ltb 0 n
+lends (Some (L.Numbers n)) = ltb 0 n
+lends (Some L.Text) = true
+lends (Some L.Octets) = true
+lends None = false
 
 -- ---- what is lent after it
 
@@ -83,38 +87,38 @@ abbrev pub no_loan : Lent
 no_loan = record { table = record { first_year = 0; year = 0; month = 0; day = 0 }; cells = 0; numbers = 0; octets = 0 }
 
 -- a new table has no cells yet, a new rule list and a new text are empty, numbers and bytes stand at the end of theirs, and all else stays
-abbrev pub after : Loan → Words → Octets → Lending → Loan
-after x w o L.Table = record {
+abbrev pub after : Loan → Words → Octets → Option Lending → Loan
+after x w o (Some L.Table) = record {
   lent = record { table = table_in w; cells = 0; numbers = x.lent.numbers; octets = x.lent.octets };
   rows = x.rows;
   rules = x.rules;
   text = x.text;
 }
-after x w o L.Rules = record {
+after x w o (Some L.Rules) = record {
   lent = record { table = x.lent.table; cells = x.lent.cells; numbers = 0; octets = x.lent.octets };
   rows = x.rows;
   rules = x.rules;
   text = x.text;
 }
-after x w o L.Text = record {
+after x w o (Some L.Text) = record {
   lent = record { table = x.lent.table; cells = x.lent.cells; numbers = x.lent.numbers; octets = 0 };
   rows = x.rows;
   rules = x.rules;
   text = x.text;
 }
-after x w o (L.Cells n) = record {
+after x w o (Some (L.Cells n)) = record {
   lent = record { table = x.lent.table; cells = longer x.rows x.lent.cells n; numbers = x.lent.numbers; octets = x.lent.octets };
   rows = sets x.rows x.lent.cells (numbers_of w n);
   rules = x.rules;
   text = x.text;
 }
-after x w o (L.Numbers n) = record {
+after x w o (Some (L.Numbers n)) = record {
   lent = record { table = x.lent.table; cells = x.lent.cells; numbers = longer x.rules x.lent.numbers n; octets = x.lent.octets };
   rows = x.rows;
   rules = sets x.rules x.lent.numbers (numbers_of w n);
   text = x.text;
 }
-after x w o L.Octets = record {
+after x w o (Some L.Octets) = record {
   lent = record {
     table = x.lent.table;
     cells = x.lent.cells;
@@ -125,7 +129,7 @@ after x w o L.Octets = record {
   rules = x.rules;
   text = sets x.text x.lent.octets (bytes_of o);
 }
-after x w o L.Not = x
+after x w o None = x
 
 -- what is lent after a line of these words or bytes
 abbrev pub loan_after : Loan → Words → Octets → Loan

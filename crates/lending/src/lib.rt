@@ -4,7 +4,7 @@
 
 ghost use Rattle.std.specs.Prelude.{◌≡◌, ◌≤◌, [], ◌∷◌};
 ghost use Rattle.text.specs.Written.{Wrote};
-ghost use Rattle.lending.specs.Lending.{numbers_in, lending_of, lends, numbers_of, line_numbers, table_in, no_loan, loan_of, loan_after};
+ghost use Rattle.lending.specs.Lending.{numbers_in, in_form, lending_of, lends, numbers_of, line_numbers, table_in, no_loan, loan_of, loan_after};
 
 use asked::{Octets, Words, tags};
 use conversion::Table;
@@ -18,7 +18,7 @@ pub struct Lent {
     pub octets: usize,
 }
 
-// What a line lends: a new table, a new rule list, a new text, so many cells more, so many numbers of rules more, bytes of the text more, or nothing.
+// What a line lends: a new table, a new rule list, a new text, so many cells more, so many numbers of rules more, or bytes of the text more.
 #[derive(Clone, Copy)]
 pub enum Lending {
     Table,
@@ -27,7 +27,6 @@ pub enum Lending {
     Cells(usize),
     Numbers(usize),
     Octets,
-    Not,
 }
 
 // Nothing yet.
@@ -53,12 +52,10 @@ fn count_of(form: u64, most: usize) -> usize
     ensures { result ≡ numbers_in form most }
 {
     let mut ones: u64 = 0;
-    let mut n: usize = 0;
-    while n < most {
+    for n in 0..most {
         ones = ones * 10 + 1;
-        n += 1;
         if form == ones {
-            return n;
+            return n + 1;
         }
     }
     0
@@ -71,37 +68,36 @@ pub fn count_in(form: u64) -> usize
     count_of(form, 16)
 }
 
-// What a line of this tag and form, and of so many bytes, lends.
-fn lending_of(tag: u64, form: u64, bytes: usize) -> Lending
+// What a line lends where it has its form.
+fn alone(good: bool, lending: Lending) -> Option<Lending>
+    ensures { result ≡ in_form good lending }
+{
+    good.then_some(lending)
+}
+
+// What a line of this tag and form, and of so many bytes, lends, or none.
+fn lending_of(tag: u64, form: u64, bytes: usize) -> Option<Lending>
     ensures { result ≡ lending_of tag form «bytes» }
 {
     if 0 < bytes {
-        return Lending::Octets;
+        return Some(Lending::Octets);
     }
     if tag == tags::TABLE {
-        if form == 1111 {
-            return Lending::Table;
-        }
-        return Lending::Not;
+        return alone(form == 1111, Lending::Table);
     }
     if tag == tags::CELLS {
-        return Lending::Cells(count_of(form, 13));
+        return Some(Lending::Cells(count_of(form, 13)));
     }
     if tag == tags::RULES {
-        if form == 0 {
-            return Lending::Rules;
-        }
-        return Lending::Not;
+        return alone(form == 0, Lending::Rules);
     }
     if tag == tags::RULE {
-        return Lending::Numbers(count_of(form, 8));
+        return Some(Lending::Numbers(count_of(form, 8)));
     }
     if tag == tags::TEXT {
-        if form == 0 {
-            return Lending::Text;
-        }
+        return alone(form == 0, Lending::Text);
     }
-    Lending::Not
+    None
 }
 
 // Whether a line lends, and so answers nothing.
@@ -109,13 +105,10 @@ pub fn is_lending(w: Words, x: Octets) -> bool
     ensures { result ≡ lends (lending_of w.tag w.form x.count) }
 {
     match lending_of(w.tag, w.form, x.count) {
-        Lending::Table => true,
-        Lending::Rules => true,
-        Lending::Text => true,
-        Lending::Cells(n) => 0 < n,
-        Lending::Numbers(n) => 0 < n,
-        Lending::Octets => true,
-        Lending::Not => false,
+        Some(Lending::Cells(n)) => 0 < n,
+        Some(Lending::Numbers(n)) => 0 < n,
+        Some(_) => true,
+        None => false,
     }
 }
 
@@ -136,10 +129,8 @@ fn append(list: &mut [u16], from: usize, w: Words, n: usize) -> usize
     ensures { Wrote list.old from (numbers_of w n) list.new result }
 {
     let mut at = from;
-    let mut i: usize = 0;
-    while i < n {
-        i += 1;
-        at = put(list, at, w.small(i));
+    for i in 0..n {
+        at = put(list, at, w.small(i + 1));
     }
     at
 }
@@ -175,47 +166,28 @@ pub fn lend(
     ensures { loan_of result rows.new rules.new text.new ≡ loan_after (loan_of lent rows.old rules.old
         text.old) w x }
 {
-    let table = lent.table;
-    let cells = lent.cells;
-    let numbers = lent.numbers;
-    let octets = lent.octets;
-    match lending_of(w.tag, w.form, x.count) {
+    let Some(lending) = lending_of(w.tag, w.form, x.count) else {
+        return lent;
+    };
+    match lending {
         Lending::Table => Lent {
             table: table_in(w),
             cells: 0,
-            numbers,
-            octets,
+            ..lent
         },
-        Lending::Rules => Lent {
-            table,
-            cells,
-            numbers: 0,
-            octets,
-        },
-        Lending::Text => Lent {
-            table,
-            cells,
-            numbers,
-            octets: 0,
-        },
+        Lending::Rules => Lent { numbers: 0, ..lent },
+        Lending::Text => Lent { octets: 0, ..lent },
         Lending::Cells(n) => Lent {
-            table,
-            cells: append(rows, cells, w, n),
-            numbers,
-            octets,
+            cells: append(rows, lent.cells, w, n),
+            ..lent
         },
         Lending::Numbers(n) => Lent {
-            table,
-            cells,
-            numbers: append(rules, numbers, w, n),
-            octets,
+            numbers: append(rules, lent.numbers, w, n),
+            ..lent
         },
         Lending::Octets => Lent {
-            table,
-            cells,
-            numbers,
-            octets: x.put(text, octets),
+            octets: x.put(text, lent.octets),
+            ..lent
         },
-        Lending::Not => lent,
     }
 }

@@ -1,7 +1,7 @@
--- What a descriptor brings, a line at a time. Which bytes come is outside every contract: they are any. Assumes nothing.
-use Rattle.std.specs.Prelude.{ℕ, ◌-◌, ◌≤◌, ◌≡◌, Bool, true, false, cond, ◌||◌, List, [], ◌∷◌, ◌++◌, eqb, leb, length, take, drop}
-use Rattle.text.specs.Kept.{Current, short, long, more, current, Line, whole, going, line}
-use Rattle.text.specs.declared.keeping.Held.{Held}
+-- What a reader brings, a line at a time. Which bytes come is outside every contract: they are any. Assumes nothing.
+use Rattle.std.specs.Prelude.{ℕ, ◌-◌, ◌≤◌, ◌≡◌, Bool, true, false, cond, List, [], ◌∷◌, ◌++◌, ◌==◌, eqb, leb, length, take, drop, None, Option, Some, is_none}
+use Rattle.std.specs.List.{list_any}
+use Rattle.text.specs.Kept.{Current, short, long, more, current, kept_of, Line, whole, going, line}
 use Rattle.lines.specs.declared.Input.{Input}
 
 -- before the first line, with so many steps to go
@@ -13,11 +13,11 @@ abbrev pub ended : Bool → Input
 ended failed = record { left = 0; len = 0; long = false; failed = failed; ends = true; from = 0; to = 0 }
 
 -- a line that is held, of length 0 where it is too long, and whether the input is over behind it; with no steps left it counts as not read to its end
-abbrev pub given : Held → ℕ → Bool → ℕ → ℕ → Input
+abbrev pub given : Option ℕ → ℕ → Bool → ℕ → ℕ → Input
 given held left ends from to = record {
   left = left;
-  len = cond held.skipping 0 held.kept;
-  long = held.skipping;
+  len = kept_of held;
+  long = is_none held;
   failed = eqb left 0;
   ends = ends;
   from = from;
@@ -25,8 +25,9 @@ given held left ends from to = record {
 }
 
 -- what is held at the end of the input: a last line needs no line feed, but has a byte
-abbrev pub last_of : Held → ℕ → Input
-last_of held left = cond held.skipping (given held left true 0 0) (cond (eqb held.kept 0) (ended false) (given held left true 0 0))
+abbrev pub last_of : Option ℕ → ℕ → Input
+last_of (Some kept) left = cond (eqb kept 0) (ended false) (given (Some kept) left true 0 0)
+last_of None left = given None left true 0 0
 
 -- the bytes of a piece up to a place, none where it has not so many
 abbrev pub front : List ℕ → ℕ → List ℕ
@@ -37,9 +38,8 @@ abbrev pub waiting : List ℕ → Input → List ℕ
 waiting piece input = drop input.from (front piece input.to)
 
 -- whether a line feed (10) is among bytes
-unfoldable pub has_feed : List ℕ → Bool
-has_feed [] = false
-has_feed (b ∷ s) = eqb b 10 || has_feed s
+abbrev pub has_feed : List ℕ → Bool
+has_feed s = list_any (λ b. b == 10) s
 
 -- the line that stands in the buffer, or that it was too long
 abbrev pub line_in : List ℕ → Input → Current

@@ -23,14 +23,6 @@ pub struct Input {
     pub to: usize,
 }
 
-// What a read brought: bytes at the start of the piece, or nothing, since the input is over or the read failed.
-#[derive(Clone, Copy)]
-enum Came {
-    Bytes(usize),
-    Over,
-    Failed,
-}
-
 // Before the first line, with so many steps to go.
 pub fn start(steps: u64) -> Input
     ensures { (result ≡ started steps) × (result.left ≡ steps) }
@@ -43,15 +35,6 @@ pub fn start(steps: u64) -> Input
         ends: false,
         from: 0,
         to: 0,
-    }
-}
-
-// One piece more, if one comes.
-fn read_piece<R: Read>(reader: &mut R, piece: &mut [u8]) -> Came {
-    match reader.read(piece) {
-        Ok(0) => Came::Over,
-        Ok(n) => Came::Bytes(n),
-        Err(_) => Came::Failed,
     }
 }
 
@@ -74,22 +57,10 @@ fn over(failed: bool) -> Input
 fn handed(held: Held, left: u64, ends: bool, from: usize, to: usize) -> Input
     ensures { result ≡ given held left ends from to }
 {
-    let long = held.skipping;
-    if long {
-        return Input {
-            left,
-            len: 0,
-            long,
-            failed: left == 0,
-            ends,
-            from,
-            to,
-        };
-    }
     Input {
         left,
-        len: held.kept,
-        long,
+        len: held.unwrap_or(0),
+        long: held.is_none(),
         failed: left == 0,
         ends,
         from,
@@ -101,14 +72,10 @@ fn handed(held: Held, left: u64, ends: bool, from: usize, to: usize) -> Input
 fn last(held: Held, left: u64) -> Input
     ensures { result ≡ last_of held left }
 {
-    let skipping = held.skipping;
-    if skipping {
-        return handed(held, left, true, 0, 0);
+    match held {
+        Some(0) => over(false),
+        _ => handed(held, left, true, 0, 0),
     }
-    if held.kept == 0 {
-        return over(false);
-    }
-    handed(held, left, true, 0, 0)
 }
 
 // More of a line from what is left of the piece.
@@ -125,14 +92,7 @@ fn fill_on(piece: &[u8], from: usize, to: usize, line: &mut [u8], held: Held) ->
 fn has_feed(s: &[u8], from: usize) -> bool
     ensures { result ≡ has_feed (drop from s.now) }
 {
-    let mut i = from;
-    while i < s.len() {
-        if s[i] == 10 {
-            return true;
-        }
-        i += 1;
-    }
-    false
+    s.iter().skip(from).any(|b| *b == b'\n')
 }
 
 // Whether the piece has a whole line more, so that it is handed over without a read.
@@ -165,15 +125,15 @@ fn read_on<R: Read>(reader: &mut R, input: Input, piece: &mut [u8], line: &mut [
                 held = h;
             }
         }
-        match read_piece(reader, piece) {
-            Came::Bytes(n) => {
+        match reader.read(piece) {
+            Ok(0) => {
+                return last(held, left);
+            }
+            Ok(n) => {
                 from = 0;
                 to = n;
             }
-            Came::Over => {
-                return last(held, left);
-            }
-            Came::Failed => {
+            Err(_) => {
                 return over(true);
             }
         }

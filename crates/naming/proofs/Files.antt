@@ -1,9 +1,9 @@
 -- A file in form is the file of its names, and the file of names that rise is in form. Assumes nothing.
+use Rattle.std.specs.Prelude.{None, Some}
 use Prim.Native.Nat.{ℕ, zero, suc, ◌+◌, ◌/◌, ◌%◌, ◌^◌, ◌<◌}
 use mathlib.Core.Path.{◌≡◌, refl, sym, ap, ◌∙◌, subst}
 use mathlib.Core.Bool.{Bool, true, false, cond, ◌&&◌, true≢false}
 use mathlib.Core.List.{List, [], ◌∷◌, ◌++◌, append_assoc}
-use mathlib.Core.Option.{some, none}
 use native.Mathlib.Nat.{mod-lt}
 use native.Mathlib.Omega.{arith}
 use borrow.Author.Tests.{lt-ltb, ne_eqb, eqb-true}
@@ -63,7 +63,7 @@ record Reads (least : ℕ) (lines : Lines) (xs : List Name) : Type 0 where
 
 none_read : (least : ℕ) → Reads least (last []) []
 unfolding joined
-none_read least = record { rising = tt; same = refl; text = λ number. text_none number [] none headed_empty }
+none_read least = record { rising = tt; same = refl; text = λ number. text_none number [] None headed_empty }
 
 name_read : (least : ℕ) (s : List ℕ) (more : Lines) (x : Name) (xs : List Name) → Accepted least s x → Reads (suc x.number) more xs → Reads least (ended s more) (x ∷ xs)
 unfolding joined text_of
@@ -134,7 +134,7 @@ unfolding Feedless
 feedless_clear [] h = tt
 feedless_clear (b ∷ s) h = go (control false b) refl (eqb b 10) refl h (feedless_clear s)
   where
-    go : (c : Bool) → control false b ≡ c → (f : Bool) → eqb b 10 ≡ f → missing (cond c (some b) (first_control false s)) ≡ true
+    go : (c : Bool) → control false b ≡ c → (f : Bool) → eqb b 10 ≡ f → missing (cond c (Some b) (first_control false s)) ≡ true
         → (clear false s ≡ true → Feedless s) → (f ≡ false) × Feedless s
     go true c f e h ih = absurd (true≢false (sym h))
     go false c true e h ih = absurd (true≢false (sym feed_control ∙ ap (control false) (sym (eqb-true b 10 e)) ∙ c))

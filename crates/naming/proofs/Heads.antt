@@ -1,9 +1,9 @@
 -- The number in front of a line: its cases, and that the line is the writing of it and of its text. Assumes nothing.
+use Rattle.std.specs.Prelude.{Option, Some}
 use Prim.Native.Nat.{ℕ, ◌≤◌}
 use mathlib.Core.Path.{◌≡◌, refl, ◌∙◌}
 use mathlib.Core.Bool.{Bool, true, false}
 use mathlib.Core.List.{List, [], ◌∷◌, ◌++◌}
-use mathlib.Core.Option.{Option, some}
 use lib.Dec.{eqb}
 use lib.ListN.{drop}
 use Rattle.text.specs.Digits.{worth, starts_digit, Got, got, no, found, past, digits, decimal}
@@ -72,13 +72,13 @@ module _ (number : ℕ) (s : List ℕ) (other : Option (List ℕ)) where
   unfolding text_of
   text_differs e f = rw (e, f)
 
-  pub text_here : {n : ℕ} {t : List ℕ} → headed s ≡ got n t → eqb n number ≡ true → text_of number s other ≡ some t
+  pub text_here : {n : ℕ} {t : List ℕ} → headed s ≡ got n t → eqb n number ≡ true → text_of number s other ≡ Some t
   unfolding text_of
   text_here e f = rw (e, f)
 
 -- what stands in a line does not hang on the lines after it
 pub data Texts (number : ℕ) (s : List ℕ) : Type 0 where
-  here : (t : List ℕ) → ((other : Option (List ℕ)) → text_of number s other ≡ some t) → Texts number s
+  here : (t : List ℕ) → ((other : Option (List ℕ)) → text_of number s other ≡ Some t) → Texts number s
   else : ((other : Option (List ℕ)) → text_of number s other ≡ other) → Texts number s
 
 pub texts_of : (number : ℕ) (s : List ℕ) → Texts number s

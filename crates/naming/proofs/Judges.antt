@@ -1,12 +1,12 @@
 -- What a line is, case by case. Assumes nothing.
+use Rattle.std.specs.Prelude.{None, Option, Some, Ok, Err, ◌==◌}
 use Prim.Native.Nat.{ℕ, ◌-◌, ◌≤◌, ◌<◌}
 use mathlib.Core.Path.{◌≡◌, refl, sym, ap, ◌∙◌}
 use mathlib.Core.Bool.{Bool, true, false, cond, true≢false}
 use mathlib.Core.List.{List, [], ◌∷◌, ◌++◌}
-use mathlib.Core.Option.{Option, some, none}
 use native.Mathlib.Omega.{arith}
 use borrow.Author.Tests.{leb-true, le-leb, lt-leb}
-use lib.Dec.{leb}
+use lib.Dec.{leb, eqb-suc-zero}
 use lib.ListN.{length, take, drop, length-drop}
 use lib.Seq.{take_all}
 use Rattle.text.specs.Digits.{Got, got, no, found, is_end, digits}
@@ -15,16 +15,15 @@ use Rattle.utf8.specs.Utf8.{utf8}
 use Rattle.utf8.specs.Controls.{first_control, missing}
 use Rattle.naming.specs.declared.lines.Fault.{Fault}
 use Rattle.naming.specs.declared.lines.Fault.TheVariants.{Form, NotGreater, NoText, NotUtf8}
-use Rattle.naming.specs.declared.lines.Line.TheVariants as line
 use Rattle.naming.specs.Names.{Name, Judged, is, wrong, headed, cleared, texted, judged, line_of}
 use Rattle.naming.specs.Claims.{Good}
 use Rattle.naming.proofs.Heads.{Headed, headed_only, headed_digits}
 
 -- ---- the text
 
-pub ends_empty : (s : List ℕ) → length s ≡ 0 → is_end s ≡ true
-ends_empty [] h = refl
-ends_empty (b ∷ s) h = absurd (let bad : ⊥ = omega arith in bad)
+pub ends_length : (s : List ℕ) → is_end s ≡ (length s == 0)
+ends_length [] = refl
+ends_length (b ∷ s) = sym (eqb-suc-zero (length s))
 
 pub ends_filled : (s : List ℕ) → (length s ≡ 0 → ⊥) → is_end s ≡ false
 ends_filled [] h = absurd (h refl)
@@ -85,8 +84,8 @@ module _ (least : ℕ) (s : List ℕ) (x : Name) (n : ℕ) (t : List ℕ) (h : H
           → cond a (wrong NoText) (cond b (cleared n t o) (wrong NotUtf8)) ≡ is x → Accepted least s x
       go true a b p o q e = absurd (no_name e)
       go false a false p o q e = absurd (no_name e)
-      go false a true p (some c) q e = absurd (no_name e)
-      go false a true p none q e =
+      go false a true p (Some c) q e = absurd (no_name e)
+      go false a true p None q e =
           let y : record { number = n; text = t } ≡ x = cc in
           let r : Accepted least s (record { number = n; text = t }) = record {
             greater = l;
@@ -114,13 +113,13 @@ name_judged least x h g =
     sym (line-text least s (headed_digits x.number x.text g.small) h) ∙ sym (text_cleared x.number x.text g.filled g.encoded)
     ∙ ap (cleared x.number x.text) (none-missing (first_control false x.text) g.plain)
   where
-    none-missing : (o : Option ℕ) → missing o ≡ true → o ≡ none
-    none-missing (some b) e = absurd (true≢false (sym e))
-    none-missing none e = refl
+    none-missing : (o : Option ℕ) → missing o ≡ true → o ≡ None
+    none-missing (Some b) e = absurd (true≢false (sym e))
+    none-missing None e = refl
 
 -- ---- what the code's answer tells of it
 
-pub wrong_line : (j : Judged) (fault : Fault) → line.Wrong fault ≡ line_of j → j ≡ wrong fault
+pub wrong_line : (j : Judged) (fault : Fault) → Err fault ≡ line_of j → j ≡ wrong fault
 wrong_line (is x) fault e = absurd (let z : ◌≡◌ {A = ℕ} 0 1 = cc in let bad : ⊥ = omega arith in bad)
 wrong_line (wrong f) fault e = cc
 
@@ -129,6 +128,6 @@ pub record NameIs (j : Judged) (number : ℕ) : Type 0 where
   pub same : j ≡ is name
   pub number_same : number ≡ name.number
 
-pub name_line : (j : Judged) (number : ℕ) → line.Name number ≡ line_of j → NameIs j number
+pub name_line : (j : Judged) (number : ℕ) → Ok number ≡ line_of j → NameIs j number
 name_line (is x) number e = record { name = x; same = refl; number_same = cc }
 name_line (wrong f) number e = absurd (let z : ◌≡◌ {A = ℕ} 0 1 = cc in let bad : ⊥ = omega arith in bad)

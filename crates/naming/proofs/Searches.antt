@@ -1,10 +1,10 @@
 -- The turns of the loop that looks for a name. Assumes nothing.
+use Rattle.std.specs.Prelude.{None, Option, Some, is_some}
 use Prim.Native.Nat.{ℕ, zero, suc, ◌+◌, ◌-◌, ◌≤◌}
-use mathlib.Core.Path.{◌≡◌, sym, ap, ◌∙◌, subst}
+use mathlib.Core.Path.{◌≡◌, refl, sym, ap, ◌∙◌, subst}
 use mathlib.Core.Bool.{true, false}
 use mathlib.Core.List.{List, [], ◌∷◌}
 use mathlib.Core.Logic.{⊎_elim}
-use mathlib.Core.Option.{Option, some, none}
 use native.Mathlib.Omega.{arith}
 use lib.ListN.{length, take, drop, length-append}
 use lib.Seq.{take-nil, take_at, drop-drop}
@@ -12,10 +12,6 @@ use Rattle.paper.proofs.Tests.{split}
 use Rattle.text.proofs.Texts.{over}
 use Rattle.utf8.specs.Characters.{front}
 use Rattle.utf8.proofs.Theorems.{fronts}
-use Rattle.naming.specs.declared.finding.Begin.{Begin}
-use Rattle.naming.specs.declared.finding.Begin.TheVariants as begin
-use Rattle.naming.specs.declared.finding.Found.{Found}
-use Rattle.naming.specs.declared.finding.Found.TheVariants as found
 use Rattle.naming.specs.Names.{lines_of, text_of, text_in, present, shown, has_name, name_of}
 use Rattle.naming.specs.Inner.{begin_says, BeginInside, Begins, found_says, FoundInside, Finds}
 use Rattle.naming.proofs.Splits.{line_length, line_at, line_at_law}
@@ -38,8 +34,8 @@ drop_take (suc k) (suc n) (a ∷ l) = let e : suc n - suc k ≡ n - k = omega ar
 abbrev pub text_from : List ℕ → ℕ → ℕ → Option (List ℕ)
 text_from file number at = text_in number (lines_of (drop at file))
 
-pub find_over : (file : List ℕ) (number at : ℕ) → length file ≤ at → text_from file number at ≡ none
-find_over file number at h = rw (over file at h) (text_none number [] none headed_empty)
+pub find_over : (file : List ℕ) (number at : ℕ) → length file ≤ at → text_from file number at ≡ None
+find_over file number at h = rw (over file at h) (text_none number [] None headed_empty)
 
 module _ (file : List ℕ) (number at end : ℕ) (a : at ≤ length file) (e : end ≡ at + line_length file at) where
   abbrev pub line : List ℕ
@@ -51,19 +47,19 @@ module _ (file : List ℕ) (number at end : ℕ) (a : at ≤ length file) (e : e
       let r = line_at_law file at end a e in
       ⊎_elim (λ h. rw (r.over h, find_over file number (end + 1) (omega arith))) (λ h. rw (r.feed h)) (split (length file) end)
 
-  pub find_turn : none ≡ text_of number line none → text_from file number (end + 1) ≡ text_from file number at
+  pub find_turn : None ≡ text_of number line None → text_from file number (end + 1) ≡ text_from file number at
   find_turn n = go (texts_of number line)
     where
       go : Texts number line → text_from file number (end + 1) ≡ text_from file number at
-      go (here t f) = absurd (let p = f none in let q : none ≡ some t = n ∙ p in let z : ◌≡◌ {A = ℕ} 0 1 = cc in let bad : ⊥ = omega arith in bad)
+      go (here t f) = absurd (let p = f None in let q : None ≡ Some t = n ∙ p in let z : ◌≡◌ {A = ℕ} 0 1 = cc in let bad : ⊥ = omega arith in bad)
       go (else f) = sym (find_line ∙ f (text_from file number (end + 1)))
 
-  pub find_here : (t : List ℕ) → some t ≡ text_of number line none → some t ≡ text_from file number at
+  pub find_here : (t : List ℕ) → Some t ≡ text_of number line None → Some t ≡ text_from file number at
   find_here t n = go (texts_of number line)
     where
-      go : Texts number line → some t ≡ text_from file number at
-      go (here u f) = n ∙ f none ∙ sym (find_line ∙ f (text_from file number (end + 1)))
-      go (else f) = absurd (let p = f none in let q : some t ≡ none = n ∙ p in let z : ◌≡◌ {A = ℕ} 0 1 = cc in let bad : ⊥ = omega arith in bad)
+      go : Texts number line → Some t ≡ text_from file number at
+      go (here u f) = n ∙ f None ∙ sym (find_line ∙ f (text_from file number (end + 1)))
+      go (else f) = absurd (let p = f None in let q : Some t ≡ None = n ∙ p in let z : ◌≡◌ {A = ℕ} 0 1 = cc in let bad : ⊥ = omega arith in bad)
 
   -- a place in the line as a place in the file
   pub find_place : (k : ℕ) → k ≤ length line → take (end - (at + k)) (drop (at + k) file) ≡ drop k line
@@ -76,39 +72,39 @@ module _ (file : List ℕ) (number at end : ℕ) (a : at ≤ length file) (e : e
 
 -- ---- what the code's answers tell
 
-module _ {s : List ℕ} {number : ℕ} (r : Begin) (p : Begins s number r) where
-  pub begins_none : r ≡ begin.Not → none ≡ text_of number s none
+module _ {s : List ℕ} {number : ℕ} (r : Option ℕ) (p : Begins s number r) where
+  pub begins_none : r ≡ None → None ≡ text_of number s None
   begins_none q = sym (ap (begin_says s) q) ∙ p.same
 
-  pub begins_at : {k : ℕ} → r ≡ begin.At k → some (drop k s) ≡ text_of number s none
+  pub begins_at : {k : ℕ} → r ≡ Some k → Some (drop k s) ≡ text_of number s None
   begins_at q = sym (ap (begin_says s) q) ∙ p.same
 
-  pub begins_inside : {k : ℕ} → r ≡ begin.At k → k ≤ length s
+  pub begins_inside : {k : ℕ} → r ≡ Some k → k ≤ length s
   begins_inside q = subst (BeginInside s) q p.inside
 
-module _ {s : List ℕ} {number : ℕ} (r : Found) (p : Finds s number r) where
-  finds_text : {from to : ℕ} → r ≡ found.Text from to → text_in number (lines_of s) ≡ some (take (to - from) (drop from s))
+found_present : (s : List ℕ) (r : Option (ℕ × ℕ)) → is_some r ≡ present (found_says s r)
+found_present s (Some (from, to)) = refl
+found_present s None = refl
+
+module _ {s : List ℕ} {number : ℕ} (r : Option (ℕ × ℕ)) (p : Finds s number r) where
+  pub has_found : is_some r ≡ has_name number s
+  unfolding has_name
+  has_found = found_present s r ∙ ap present p.same
+
+  finds_text : {from to : ℕ} → r ≡ Some (from, to) → text_in number (lines_of s) ≡ Some (take (to - from) (drop from s))
   finds_text q = sym p.same ∙ ap (found_says s) q
 
-  finds_none : r ≡ found.Nothing → text_in number (lines_of s) ≡ none
+  finds_none : r ≡ None → text_in number (lines_of s) ≡ None
   finds_none q = sym p.same ∙ ap (found_says s) q
 
-  pub finds_inside : {from to : ℕ} → r ≡ found.Text from to → (from ≤ to) × (to ≤ length s)
+  pub finds_inside : {from to : ℕ} → r ≡ Some (from, to) → (from ≤ to) × (to ≤ length s)
   finds_inside q = subst (FoundInside s) q p.inside
 
-  pub has_some : {from to : ℕ} → r ≡ found.Text from to → true ≡ has_name number s
-  unfolding has_name
-  has_some q = sym (ap present (finds_text q))
-
-  pub has_none : r ≡ found.Nothing → false ≡ has_name number s
-  unfolding has_name
-  has_none q = sym (ap present (finds_none q))
-
-  pub name_none : r ≡ found.Nothing → name_of number s ≡ []
+  pub name_none : r ≡ None → name_of number s ≡ []
   unfolding name_of
   name_none q = ap shown (finds_none q)
 
-  pub name_some : {from to : ℕ} (n : ℕ) → r ≡ found.Text from to → n ≡ length (front 120 (take (to - from) (drop from s)))
+  pub name_some : {from to : ℕ} (n : ℕ) → r ≡ Some (from, to) → n ≡ length (front 120 (take (to - from) (drop from s)))
       → name_of number s ≡ take n (take (to - from) (drop from s))
   unfolding name_of
   name_some {from} {to} n q e = ap shown (finds_text q) ∙ sym (front_taken 120 (take (to - from) (drop from s)) n e)

@@ -1,17 +1,20 @@
--- A file cut into lines: the turns of the loop that looks for a line's end, and what that end tells of the lines. Assumes nothing.
+-- A file cut into lines: how long the first is, and what its end tells of the lines. Assumes nothing.
 use Prim.Native.Nat.{ℕ, suc, ◌+◌, ◌-◌, ◌≤◌, ◌<◌}
 use mathlib.Core.Path.{◌≡◌, refl, sym, ap, ◌∙◌}
-use mathlib.Core.Bool.{Bool, true, false}
+use mathlib.Core.Bool.{Bool, true, false, cond, not}
 use mathlib.Core.List.{List, [], ◌∷◌, ◌++◌}
 use native.Mathlib.Omega.{arith}
 use borrow.Author.Tests.{eq-eqb, ne_eqb, eqb-true}
 use lib.Dec.{eqb}
 use lib.ListN.{length, get_or, take, drop, length-append, length-drop}
 use lib.Seq.{take_at, take_all, drop-append-add, drop-drop}
+use Rattle.std.specs.Bool.{◌==◌}
+use Rattle.std.specs.List.{take_while}
+use Rattle.std.proofs.lemmas.List.Sums.{take_while-cons}
 use Rattle.text.proofs.Texts.{cut, over}
 use Rattle.naming.specs.Names.{Lines, ended, last, longer, lines_of, first_line}
 
--- ---- the loop
+-- ---- the first line
 
 longer_first : (b : ℕ) (lines : Lines) → first_line (longer b lines) ≡ b ∷ first_line lines
 longer_first b (ended s more) = refl
@@ -21,16 +24,15 @@ longer_first b (last s) = refl
 abbrev pub line_length : List ℕ → ℕ → ℕ
 line_length s i = length (first_line (lines_of (drop i s)))
 
-module _ (s : List ℕ) (i : ℕ) where
-  pub line_over : length s ≤ i → line_length s i ≡ 0
-  line_over h = rw (over s i h)
-
-  module _ (h : i < length s) where
-    pub line_feed : get_or s i 0 ≡ 10 → line_length s i ≡ 0
-    line_feed e = rw (cut s i h, eq-eqb (get_or s i 0) 10 e)
-
-    pub line_turn : (get_or s i 0 ≡ 10 → ⊥) → line_length s i ≡ suc (line_length s (i + 1))
-    line_turn n = rw (cut s i h, ne_eqb (get_or s i 0) 10 n, longer_first (get_or s i 0) (lines_of (drop (i + 1) s)))
+-- it is as long as what stands before a line feed
+pub line_taken : (s : List ℕ) → length (first_line (lines_of s)) ≡ length (take_while (λ b. not (b == 10)) s)
+line_taken [] = refl
+line_taken (b ∷ s) = go (b == 10) (line_taken s) ∙ ap length (sym (take_while-cons (λ b. not (b == 10)) b s))
+  where
+    go : (f : Bool) → length (first_line (lines_of s)) ≡ length (take_while (λ b. not (b == 10)) s)
+        → length (first_line (cond f (ended [] (lines_of s)) (longer b (lines_of s)))) ≡ length (cond (not f) (b ∷ take_while (λ b. not (b == 10)) s) [])
+    go true e = refl
+    go false e = ap length (longer_first b (lines_of s)) ∙ ap suc e
 
 -- ---- the two ways in which a line ends
 

@@ -1,9 +1,9 @@
 -- The claims of specs/Claims.antt. Assumes nothing.
+use Rattle.std.specs.Prelude.{Some}
 use Prim.Native.Nat.{ℕ, suc, ◌≤◌}
 use mathlib.Core.Path.{◌≡◌, refl, sym, ap, ◌∙◌}
 use mathlib.Core.Bool.{Bool, true, false, cond}
 use mathlib.Core.List.{List, [], ◌∷◌}
-use mathlib.Core.Option.{some}
 use native.Mathlib.Omega.{arith}
 use lib.Dec.{eqb}
 use lib.ListN.{length}
@@ -42,7 +42,7 @@ fits : (number least : ℕ) (xs : List Name) → Rising least xs → Fits (shown
 fits number least [] r = record { encoded = refl; plain = refl; short = omega arith }
 fits number least (x ∷ xs) r = go (eqb x.number number) (fits number (suc x.number) xs r.2)
   where
-    go : (f : Bool) → Fits (shown (text_at number xs)) → Fits (shown (cond f (some x.text) (text_at number xs)))
+    go : (f : Bool) → Fits (shown (text_at number xs)) → Fits (shown (cond f (Some x.text) (text_at number xs)))
     go true i =
         let g = r.1 in
         record { encoded = fronts.stays 120 x.text g.encoded; plain = fronts.plain false 120 x.text g.plain; short = fronts.short 120 x.text g.encoded }

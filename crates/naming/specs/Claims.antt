@@ -1,6 +1,5 @@
 -- What is proved of files of names (proofs/Theorems.antt). Assumes nothing.
-use Rattle.std.specs.Prelude.{ℕ, suc, ◌≤◌, ◌≡◌, true, false, cond, List, [], ◌∷◌, ◌++◌, eqb, length}
-use Rattle.std.proofs.Math.Option.{Option, some, none}
+use Rattle.std.specs.Prelude.{ℕ, suc, ◌≤◌, ◌≡◌, true, false, cond, List, [], ◌∷◌, ◌++◌, eqb, length, None, Option, Some}
 use Rattle.text.specs.Digits.{is_end, digits}
 use Rattle.text.specs.Quoted.{bytes}
 use Rattle.utf8.specs.Utf8.{utf8}
@@ -27,8 +26,8 @@ Rising least (x ∷ xs) = (least ≤ x.number) × Good x × Rising (suc x.number
 
 -- the text of the name of a number in a list
 abbrev pub text_at : ℕ → List Name → Option (List ℕ)
-text_at number [] = none
-text_at number (x ∷ xs) = cond (eqb x.number number) (some x.text) (text_at number xs)
+text_at number [] = None
+text_at number (x ∷ xs) = cond (eqb x.number number) (Some x.text) (text_at number xs)
 
 -- A file is in form exactly if it is the file of some names that rise; and it has no others.
 pub record Exact : Type 0 where
@@ -41,7 +40,7 @@ pub record Exact : Type 0 where
 pub record InList (s : List ℕ) (xs : List Name) (number : ℕ) : Type 0 where
   pub has : has_name number s ≡ present (text_at number xs)
   pub name : name_of number s ≡ shown (text_at number xs)
-  pub whole : (t : List ℕ) → text_at number xs ≡ some t → characters t ≤ 120 → name_of number s ≡ t
+  pub whole : (t : List ℕ) → text_at number xs ≡ Some t → characters t ≤ 120 → name_of number s ≡ t
   pub encoded : utf8 (name_of number s) ≡ true
   pub plain : clear false (name_of number s) ≡ true
   pub short : length (name_of number s) ≤ 480

@@ -1,6 +1,5 @@
 -- A file of names: lines `NUMBER=TEXT`, each ended by a line feed, with rising numbers. A file of no bytes has no names. Assumes nothing.
-use Rattle.std.specs.Prelude.{ℕ, suc, Bool, true, false, cond, ◌&&◌, List, [], ◌∷◌, leb, eqb, drop}
-use Rattle.std.proofs.Math.Option.{Option, some, none}
+use Rattle.std.specs.Prelude.{ℕ, suc, Bool, true, false, cond, ◌&&◌, List, [], ◌∷◌, leb, eqb, drop, None, Option, Some, Result, Ok, Err}
 use Rattle.text.specs.Digits.{Got, got, no, found, past, starts, is_end, decimal}
 use Rattle.text.specs.Quoted.{bytes}
 use Rattle.utf8.specs.Utf8.{utf8}
@@ -8,10 +7,6 @@ use Rattle.utf8.specs.Controls.{first_control}
 use Rattle.utf8.specs.Characters.{front}
 use Rattle.naming.specs.declared.lines.Fault.{Fault}
 use Rattle.naming.specs.declared.lines.Fault.TheVariants.{Mark, Form, NotGreater, NoText, NotUtf8, Control, NoFeed}
-use Rattle.naming.specs.declared.lines.Line.{Line}
-use Rattle.naming.specs.declared.lines.Line.TheVariants as line
-use Rattle.naming.specs.declared.checking.Checked.{Checked}
-use Rattle.naming.specs.declared.checking.Checked.TheVariants as answer
 
 -- ---- the lines of a file
 
@@ -53,8 +48,8 @@ headed s = found (decimal 65535 s) (λ n t. found (past (bytes "=") t) (λ u tex
 
 -- a text without control characters makes a name
 abbrev pub cleared : ℕ → List ℕ → Option ℕ → Judged
-cleared n text (some b) = wrong (Control b)
-cleared n text none = is (record { number = n; text = text })
+cleared n text (Some b) = wrong (Control b)
+cleared n text None = is (record { number = n; text = text })
 
 -- a text of one byte or more, in UTF-8 and without control characters
 unfoldable pub texted : ℕ → List ℕ → Judged
@@ -98,22 +93,22 @@ names_of s = cond (marked s) (fails 1 Mark) (names_from 1 0 (lines_of s))
 
 -- the text of a line with that number, else another
 unfoldable pub text_of : ℕ → List ℕ → Option (List ℕ) → Option (List ℕ)
-text_of number s other = found (headed s) (λ n text. cond (eqb n number) (some text) other) other
+text_of number s other = found (headed s) (λ n text. cond (eqb n number) (Some text) other) other
 
 -- the text of the first line with that number, whatever else the file has
 abbrev pub text_in : ℕ → Lines → Option (List ℕ)
 text_in number (ended s more) = text_of number s (text_in number more)
-text_in number (last s) = text_of number s none
+text_in number (last s) = text_of number s None
 
 -- there is such a line
 abbrev pub present : Option (List ℕ) → Bool
-present (some text) = true
-present none = false
+present (Some text) = true
+present None = false
 
 -- its first 120 characters, and nothing where there is none
 abbrev pub shown : Option (List ℕ) → List ℕ
-shown (some text) = front 120 text
-shown none = []
+shown (Some text) = front 120 text
+shown None = []
 
 -- whether a file has a name of that number, and what is written of it
 unfoldable pub has_name : ℕ → List ℕ → Bool
@@ -125,14 +120,14 @@ name_of number s = shown (text_in number (lines_of s))
 -- ---- what the code's answers say
 
 -- of a name its number
-abbrev pub line_of : Judged → Line
-line_of (is x) = line.Name x.number
-line_of (wrong fault) = line.Wrong fault
+abbrev pub line_of : Judged → Result ℕ Fault
+line_of (is x) = Ok x.number
+line_of (wrong fault) = Err fault
 
 -- in form, or the first line that is not
-abbrev pub told : Names → Checked
-told (are xs) = answer.InForm
-told (fails n fault) = answer.At n fault
+abbrev pub told : Names → Result (Unit {0}) (ℕ × Fault)
+told (are xs) = Ok tt
+told (fails n fault) = Err (n, fault)
 
-abbrev pub checked : List ℕ → Checked
+abbrev pub checked : List ℕ → Result (Unit {0}) (ℕ × Fault)
 checked s = told (names_of s)

@@ -5,66 +5,47 @@ ghost use Rattle.naming.specs.Names.{has_name, name_of};
 ghost use Rattle.naming.specs.Inner.{Begins, Finds};
 
 use crate::lines;
-use text::Read;
-
-// The place in a line at which the text of a number begins, or that the line has another number or none.
-#[derive(Clone, Copy)]
-enum Begin {
-    At(usize),
-    Not,
-}
-
-// The place of a name's text in the file, and the place after it; or that there is no such name.
-#[derive(Clone, Copy)]
-enum Found {
-    Text(usize, usize),
-    Nothing,
-}
 
 // Where the text begins in a line with that number.
-fn text_in(s: &[u8], number: u16) -> Begin
+fn text_in(s: &[u8], number: u16) -> Option<usize>
     ensures { Begins s.now number result }
 {
-    let Read::Number(n, next) = lines::headed(s) else {
-        return Begin::Not;
-    };
+    let (n, next) = lines::headed(s)?;
     if n == number as u64 {
-        return Begin::At(next.at);
+        Some(next.at)
+    } else {
+        None
     }
-    Begin::Not
 }
 
 // The text in the first line with that number.
-fn find(file: &[u8], number: u16) -> Found
+fn find(file: &[u8], number: u16) -> Option<(usize, usize)>
     ensures { Finds file.now number result }
 {
     let mut at = 0;
+    // A loop: the place moves by a line at a turn.
     while at < file.len() {
         let end = lines::line_end(file, at);
-        let Begin::At(k) = text_in(&file[at..end], number) else {
-            at = end + 1;
-            continue;
-        };
-        return Found::Text(at + k, end);
+        if let Some(k) = text_in(&file[at..end], number) {
+            return Some((at + k, end));
+        }
+        at = end + 1;
     }
-    Found::Nothing
+    None
 }
 
 // Whether the file has a name of that number.
 pub fn has_name(file: &[u8], number: u16) -> bool
     ensures { result ≡ has_name number file.now }
 {
-    match find(file, number) {
-        Found::Text(_, _) => true,
-        Found::Nothing => false,
-    }
+    find(file, number).is_some()
 }
 
 // Writes the name of that number, at most 120 characters of it, into a lent buffer from a place on, and answers the place after it.
 pub fn put_name(out: &mut [u8], at: usize, file: &[u8], number: u16) -> usize
     ensures { Wrote out.old at (name_of number file.now) out.new result }
 {
-    let Found::Text(from, to) = find(file, number) else {
+    let Some((from, to)) = find(file, number) else {
         return at;
     };
     let s = &file[from..to];

@@ -5,6 +5,6 @@ mod checking;
 mod finding;
 mod lines;
 
-pub use checking::{Checked, check};
+pub use checking::check;
 pub use finding::{has_name, put_name};
 pub use lines::Fault;

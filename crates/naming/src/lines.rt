@@ -1,11 +1,11 @@
 // One line of the file: where it ends, its number, and what is wrong with it.
-ghost use Rattle.std.specs.Prelude.{◌≡◌, ◌+◌, length, drop};
+ghost use Rattle.std.specs.Prelude.{◌≡◌, ◌+◌, ◌==◌, not, length, drop};
+ghost use Rattle.std.specs.List.{take_while};
 ghost use Rattle.text.specs.Reading.{Says, read_says, read_end};
 ghost use Rattle.naming.specs.Names as Names;
 ghost use Rattle.naming.specs.Names.{first_line, lines_of, line_of, judged, texted};
 
-use text::{Passed, Read};
-use utf8::Found;
+use text::Cursor;
 
 // What is wrong with a line; of several the first.
 #[derive(Clone, Copy)]
@@ -26,66 +26,53 @@ pub enum Fault {
     NoFeed,
 }
 
-// The number of a name, or what is wrong with its line.
-#[derive(Clone, Copy)]
-pub enum Line {
-    Name(u16),
-    Wrong(Fault),
+// How many bytes stand from a place on before a line feed.
+fn before_feed(file: &[u8], from: usize) -> usize
+    ensures { result ≡ length (take_while (λ b. not (b == 10)) (drop from file.now)) }
+{
+    file.iter().skip(from).take_while(|b| **b != b'\n').count()
 }
 
 // Where the line that begins at a place is over: at its line feed, or at the end of the file.
 pub fn line_end(file: &[u8], from: usize) -> usize
     ensures { result ≡ from + length (first_line (lines_of (drop from file.now))) }
 {
-    let mut i = from;
-    while i < file.len() {
-        if file[i] == b'\n' {
-            return i;
-        }
-        i += 1;
-    }
-    i
+    from + before_feed(file, from)
 }
 
 // The number of a line and the place of its text.
-pub fn headed(s: &[u8]) -> Read
+pub fn headed(s: &[u8]) -> Option<(u64, Cursor)>
     ensures { Says s.now (read_says s.now result) (read_end result) (Names.headed s.now) }
 {
-    let Read::Number(n, next) = text::start().decimal(s, 65535) else {
-        return Read::NotOne;
-    };
-    let Passed::To(behind) = next.pass(s, b"=") else {
-        return Read::NotOne;
-    };
-    Read::Number(n, behind)
+    let (n, next) = text::start().decimal(s, 65535)?;
+    Some((n, next.pass(s, b"=")?))
 }
 
-// What a line is whose number is in order.
-fn judge_text(number: u16, s: &[u8]) -> Line
+// The number of a line with this text, or what is wrong with the text.
+fn judge_text(number: u16, s: &[u8]) -> Result<u16, Fault>
     ensures { result ≡ line_of (texted «number» s.now) }
 {
-    if s.len() == 0 {
-        return Line::Wrong(Fault::NoText);
+    if s.is_empty() {
+        return Err(Fault::NoText);
     }
     if !utf8::is_utf8(s) {
-        return Line::Wrong(Fault::NotUtf8);
+        return Err(Fault::NotUtf8);
     }
     match utf8::first_control(s, false) {
-        Found::Control(b) => Line::Wrong(Fault::Control(b)),
-        Found::Nothing => Line::Name(number),
+        Some(b) => Err(Fault::Control(b)),
+        None => Ok(number),
     }
 }
 
-// What a line is whose number must be at least `least`.
-pub fn judge(s: &[u8], least: u32) -> Line
+// The number of a line, which must be at least `least`, or what is wrong with the line.
+pub fn judge(s: &[u8], least: u32) -> Result<u16, Fault>
     ensures { result ≡ line_of (judged least s.now) }
 {
-    let Read::Number(n, next) = headed(s) else {
-        return Line::Wrong(Fault::Form);
+    let Some((n, next)) = headed(s) else {
+        return Err(Fault::Form);
     };
     if n < least as u64 {
-        return Line::Wrong(Fault::NotGreater);
+        return Err(Fault::NotGreater);
     }
-    let from = next.at;
-    judge_text(n as u16, &s[from..])
+    judge_text(n as u16, &s[next.at..])
 }

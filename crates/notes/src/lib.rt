@@ -5,4 +5,4 @@ mod lines;
 mod moons;
 
 pub use lines::{put_beside, put_moment, put_month_rules, put_no_moon, put_opening};
-pub use moons::{Dated, Nearness, date_of, near};
+pub use moons::{date_of, near};

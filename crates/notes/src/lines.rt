@@ -64,6 +64,7 @@ fn put_if_of_month(
 }
 
 // The end of a list of rules.
+#[tactic(auto, unfolding(crate::specs::Lines::end_of))]
 fn put_rules_end(l: Listed, out: &mut [u8]) -> Out
     ensures { Puts out.old l.out (end_of l.some ∷ []) out.new result }
 {
@@ -80,10 +81,8 @@ fn put_rule_lines(o: Out, out: &mut [u8], month: u16, rules: &[u16], names: &[u8
         some: false,
     };
     let n = rules.len() / 8;
-    let mut i = 0;
-    while i < n {
+    for i in 0..n {
         l = put_if_of_month(l, out, month, rules, names, i);
-        i += 1;
     }
     put_rules_end(l, out)
 }
@@ -98,6 +97,7 @@ pub fn put_month_rules(o: Out, out: &mut [u8], month: u16, rules: &[u16], names:
 }
 
 // The month before; 12 before 1.
+#[tactic(auto, unfolding(crate::specs::Lines::month_before))]
 fn month_before(m: u16) -> u16
     ensures { result ≡ month_before m }
 {
@@ -105,6 +105,7 @@ fn month_before(m: u16) -> u16
 }
 
 // The month after; 1 after 12.
+#[tactic(auto, unfolding(crate::specs::Lines::month_after))]
 fn month_after(m: u16) -> u16
     ensures { result ≡ month_after m }
 {
@@ -112,6 +113,7 @@ fn month_after(m: u16) -> u16
 }
 
 // The earlier of the two months that meet at the beginning of month m, or else at its end.
+#[tactic(auto, unfolding(crate::specs::Lines::earlier_of))]
 fn earlier(beginning: bool, m: u16) -> u16
     ensures { result ≡ earlier_of beginning m }
 {
@@ -119,6 +121,7 @@ fn earlier(beginning: bool, m: u16) -> u16
 }
 
 // The later of the two.
+#[tactic(auto, unfolding(crate::specs::Lines::later_of))]
 fn later(beginning: bool, m: u16) -> u16
     ensures { result ≡ later_of beginning m }
 {

@@ -1,4 +1,6 @@
 -- Pieces put on a page one after the other. Assumes nothing.
+use Rattle.std.specs.Prelude.{Err, Ok}
+use Rattle.paper.specs.Answers.{Answer}
 use Prim.Native.Nat.{ℕ}
 use mathlib.Core.Bool.{false}
 use mathlib.Core.Path.{◌≡◌, refl, sym, ap, ◌∙◌, subst}
@@ -7,9 +9,7 @@ use Rattle.paper.specs.declared.Refusal.{Refusal}
 use Rattle.text.specs.Quoted.{bytes}
 use Rattle.text.specs.Written.{Wrote}
 use Rattle.gregorian.specs.declared.Date.{Date}
-use Rattle.gregorian.specs.declared.DateAnswer.{DateAnswer}
-use Rattle.gregorian.specs.declared.DateAnswer.TheVariants as DA
-use Rattle.gregorian.specs.Answers.{date_says, date_answer}
+use Rattle.gregorian.specs.Answers.{date_answer}
 use Rattle.output.specs.Gathered.{Gathered, gathered, room, stored}
 use Rattle.output.specs.declared.Out.{Out}
 use Rattle.output.specs.Pieces.{Text, put_piece, put_pieces, Puts, ymd_pieces, dated_pieces, date_pieces}
@@ -41,11 +41,11 @@ puts_out {l} {o} {xs} {m} e p = subst (λ (x : Out). Puts l o xs m x) (sym e) p
 
 -- ---- the date of a day number
 
-module _ (n : ℕ) {a : DateAnswer} (e : date_says a ≡ date_answer n) where
-  pub date_is : {d : Date} → a ≡ DA.Is d → ymd_pieces d ≡ date_pieces n
+module _ (n : ℕ) {a : Answer Date} (e : a ≡ date_answer n) where
+  pub date_is : {d : Date} → a ≡ Ok d → ymd_pieces d ≡ date_pieces n
   unfolding date_pieces
-  date_is q = ap dated_pieces (sym (ap date_says q) ∙ e)
+  date_is q = ap dated_pieces (sym q ∙ e)
 
-  pub date_none : {k : Refusal} → a ≡ DA.Refused k → bytes "no date" ∷ [] ≡ date_pieces n
+  pub date_none : {k : Refusal} → a ≡ Err k → bytes "no date" ∷ [] ≡ date_pieces n
   unfolding date_pieces
-  date_none q = ap dated_pieces (sym (ap date_says q) ∙ e)
+  date_none q = ap dated_pieces (sym q ∙ e)

@@ -1,7 +1,7 @@
 -- A page as texts put one after the other, which are gathered in a lent buffer until they are written out; and dates, times and months as such
 -- pieces. Assumes nothing.
-use Rattle.std.specs.Prelude.{ℕ, ◌/◌, ◌%◌, false, ◌≡◌, List, [], ◌∷◌}
-use Rattle.paper.specs.Answers.{Answer, answered, refused}
+use Rattle.std.specs.Prelude.{ℕ, ◌/◌, ◌%◌, false, ◌≡◌, List, [], ◌∷◌, Err, Ok}
+use Rattle.paper.specs.Answers.{Answer}
 use Rattle.text.specs.Digits.{run, digits}
 use Rattle.text.specs.Quoted.{bytes}
 use Rattle.gregorian.specs.declared.Date.{Date}
@@ -36,8 +36,8 @@ ymd_pieces d = run 10 4 d.year ∷ bytes "-" ∷ run 10 2 d.month ∷ bytes "-" 
 
 -- a date, where there is one
 abbrev pub dated_pieces : Answer Date → List Text
-dated_pieces (answered d) = ymd_pieces d
-dated_pieces (refused k) = bytes "no date" ∷ []
+dated_pieces (Ok d) = ymd_pieces d
+dated_pieces (Err k) = bytes "no date" ∷ []
 
 -- the Gregorian date of a day number
 unfoldable pub date_pieces : ℕ → List Text

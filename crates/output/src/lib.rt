@@ -24,6 +24,9 @@ pub const STDOUT: i32 = 1;
 
 pub const STDERR: i32 = 2;
 
+// So many bytes go in one piece: their digits are a word of at most thirty bytes.
+const IN_ONE_PIECE: usize = 15;
+
 // How many bytes of the buffer are taken, whether the line has a word, and whether a write failed.
 #[derive(Clone, Copy)]
 pub struct Out {
@@ -140,10 +143,8 @@ impl Out {
         ensures { Joined buffer.old self text.now buffer.new result }
     {
         let mut o = self;
-        let mut i: usize = 0;
-        while i < text.len() {
-            o = o.join(buffer, text[i]);
-            i += 1;
+        for b in text {
+            o = o.join(buffer, *b);
         }
         o
     }
@@ -153,12 +154,10 @@ impl Out {
         ensures { Joined buffer.old self (octets_text list.now) buffer.new result }
     {
         let mut o = self;
-        let mut i: usize = 0;
-        while i < list.len() {
+        for b in list {
             let mut pair = [0u8; 2];
-            octets::put_octet(&mut pair, 0, list[i]);
+            octets::put_octet(&mut pair, 0, *b);
             o = o.join_all(buffer, &pair);
-            i += 1;
         }
         o
     }
@@ -183,7 +182,7 @@ impl Out {
         ensures { Gathers buffer.old self (octets_text list.now ∷ []) buffer.new result }
     {
         let o = self.space(buffer);
-        if 15 < list.len() {
+        if IN_ONE_PIECE < list.len() {
             return o.join_octets(buffer, list);
         }
         Out {

@@ -17,10 +17,8 @@ pub fn put_octets(out: &mut [u8], from: usize, list: &[u8]) -> usize
     ensures { Wrote out.old from (octets_text list.now) out.new result }
 {
     let mut at = from;
-    let mut i: usize = 0;
-    while i < list.len() {
-        at = put_octet(out, at, list[i]);
-        i += 1;
+    for b in list {
+        at = put_octet(out, at, *b);
     }
     at
 }

@@ -4,7 +4,7 @@ ghost use Rattle.text.specs.Digits.{run, digits};
 ghost use Rattle.output.specs.Pieces.{Puts, ymd_pieces, date_pieces, clock_pieces, span_pieces, month_pieces};
 
 use crate::Out;
-use gregorian::{Date, DateAnswer};
+use gregorian::Date;
 
 // A text of at most 128 bytes.
 pub fn put_text(o: Out, out: &mut [u8], s: &[u8]) -> Out
@@ -82,8 +82,8 @@ pub fn put_date(o: Out, out: &mut [u8], n: u32) -> Out
     ensures { Puts out.old o (date_pieces n) out.new result }
 {
     match Date::from_day_number(n) {
-        DateAnswer::Is(d) => put_ymd(o, out, d),
-        DateAnswer::Refused(_) => put_text(o, out, b"no date"),
+        Ok(d) => put_ymd(o, out, d),
+        Err(_) => put_text(o, out, b"no date"),
     }
 }
 

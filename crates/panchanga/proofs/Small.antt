@@ -10,7 +10,7 @@ use lib.Ieee.Positive as Positive
 use lib.Ieee.Positive.{num, den, positive, le→cross}
 use Rattle.paper.specs.Floats.{◌⊕◌, ◌⊖◌, ◌⊗◌, bits}
 use Rattle.paper.proofs.Tests.{T_true}
-use Rattle.trig.specs.Trig.{zero, half, one, wholes, per_half_turn, in_range, within_one, least, most, clamp, magnitude, turned, signed, nearest_whole, turn_sign, sine_series, swing, sine_above, sine, arc_series, arc_near, arcsine_within, arcsine}
+use Rattle.trig.specs.Trig.{zero, half, one, wholes, per_half_turn, in_range, within_one, least, most, clamp, magnitude, turned, signed, nearest_whole, turn_sign, sine_series, wave, swing, sine_above, sine, arc_series, arc_near, arcsine_within, arcsine}
 use Rattle.trig.proofs.Signs.{zero_lt_neg}
 use Rattle.paper.proofs.Within.{Within, Size, negated, widen, either, inside, Formula, lit, got, ◌⊞◌, ◌⊟◌, ◌⊠◌, by, bound, good, within}
 
@@ -149,7 +149,7 @@ turns_small {a} p = quarter (turns a) (within 262144 (got p ⊠ lit per_half_tur
 module _ (A R : ℕ) (half-or-less : T (leb A 524288)) (below : T (ltb R (2 ^ 20))) (wider : T (leb A R))
     (bounded : (y : Float) (p : Within 20 A y) → T (good (swung (got p)) && leb (bound (swung (got p))) R)) where
   swing_small : {a : Float} → Within 20 A a → Within 20 R (swing a zero zero)
-  unfolding swing sine_series mul of_bits
+  unfolding swing wave sine_series mul of_bits
   swing_small {a} p = rw no_sign (uncut below (within R (swung (got p)) (bounded a p)))
 
   above_small : (m : ℕ) (e : ℤ) → Within 20 A (fin false m e) → Within 20 R (sine_above (fin false m e))

@@ -1,6 +1,5 @@
 -- The kalas: the instants and spans of a day at which festival rules are evaluated. Assumes nothing.
-use Rattle.std.specs.Prelude.{ℕ, Bool, true, false, Float}
-use Rattle.std.proofs.Math.Option.{Option, some, none}
+use Rattle.std.specs.Prelude.{ℕ, Bool, true, false, Float, None, Option, Some}
 use Rattle.paper.specs.Floats.{◌⊕◌, ◌⊖◌, ◌⊗◌, ◌⊘◌, dec}
 use Rattle.panchanga.specs.declared.Kala.{Kala}
 use Rattle.panchanga.specs.declared.Kala.TheVariants.{Udaya, Madhyanna, Aparahna, Pradosh, Nishita, Begins}
@@ -33,9 +32,9 @@ nishita_of set next = (muhurta 7 set next, muhurta 8 set next)
 
 -- by the sun's events of a day and of the next; none where one of them has none
 abbrev pub nishita_between : Option (Float × Float) → Option (Float × Float) → Option (Float × Float)
-nishita_between none b = none
-nishita_between (some a) none = none
-nishita_between (some a) (some b) = some (nishita_of a.1 b.0)
+nishita_between None b = None
+nishita_between (Some a) None = None
+nishita_between (Some a) (Some b) = Some (nishita_of a.1 b.0)
 
 -- the middle of two instants
 unfoldable pub middle : Float × Float → Float

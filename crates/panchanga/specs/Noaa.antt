@@ -1,6 +1,5 @@
 -- Sunrise and sunset after NOAA's solar calculator, operation by operation, each rounded once, in the Rust's order. Assumes nothing.
-use Rattle.std.specs.Prelude.{ℕ, cond, ◌&&◌, Float}
-use Rattle.std.proofs.Math.Option.{Option, some, none}
+use Rattle.std.specs.Prelude.{ℕ, cond, ◌&&◌, Float, None, Option, Some}
 use Rattle.paper.specs.Floats.{◌⊕◌, ◌⊖◌, ◌⊗◌, ◌⊘◌, dec}
 use Rattle.gregorian.specs.Instants.{instant, zero_of}
 use Rattle.trig.specs.Trig.{sine, cosine, tangent, arcsine, arccosine, within_one}
@@ -56,7 +55,7 @@ half_day c = arccosine c ⊘ deg ⊗ dec 4 0 ⊘ dec 1440 0
 
 -- both of them, if they are instants
 unfoldable pub events_around : Float → Float → Option (Float × Float)
-events_around noon half = cond (instant (noon ⊖ half) && instant (noon ⊕ half)) (some (noon ⊖ half, noon ⊕ half)) none
+events_around noon half = cond (instant (noon ⊖ half) && instant (noon ⊕ half)) (Some (noon ⊖ half, noon ⊕ half)) None
 
 -- sunrise and sunset at a place on the day whose 0h is given; none where the sun does not rise or set. Midnight is `julian_day` at 0.0
 unfoldable pub sun_events : Place → Float → Option (Float × Float)
@@ -64,7 +63,7 @@ sun_events p zero =
     let t = centuries_at p.longitude zero in
     let c = cos_hour_angle p.latitude (declination t (sun_longitude t)) in
     let noon = zero ⊕ dec 0 0 ⊕ solar_noon p.longitude (equation_of_time t (mean_longitude t) (anomaly t)) in
-    cond (within_one c) (events_around noon (half_day c)) none
+    cond (within_one c) (events_around noon (half_day c)) None
 
 -- by the day's number
 unfoldable pub events_on : Place → ℕ → Option (Float × Float)

@@ -30,11 +30,11 @@ pub fn minutes_of(fraction: f64) -> u16
 fn fraction(x: f64) -> f64
     ensures { result ≡ fraction x }
 {
-    let r = sky::division::remainder(x, 1);
-    if r < 0.0 { r + 1.0 } else { r }
+    sky::division::rem_euclid(x, 1)
 }
 
 // The minute of the day in Nepal.
+#[tactic(auto, unfolding(crate::specs::Clock::clock_of))]
 pub fn clock_of(x: f64) -> u16
     ensures { result ≡ clock_of x }
 {

@@ -24,44 +24,26 @@ pub fn kala_at(kala: Kala, rise: UtDay, set: UtDay) -> UtDay
 pub fn is_nishita(kala: Kala) -> bool
     ensures { result ≡ is_nishita kala }
 {
-    match kala {
-        Kala::Udaya => false,
-        Kala::Madhyanna => false,
-        Kala::Aparahna => false,
-        Kala::Pradosh => false,
-        Kala::Nishita => true,
-        Kala::Begins => false,
-    }
+    matches!(kala, Kala::Nishita)
 }
 
-// The nishita between a sunset and the next sunrise begins when seven of fifteen muhurtas are over.
-fn nishita_from(set: f64, next: f64) -> f64
-    ensures { result ≡ muhurta 7 set next }
+// The instant between a sunset and the next sunrise at which so many of the night's fifteen muhurtas are over.
+fn muhurta(over: u32, set: f64, next: f64) -> f64
+    ensures { result ≡ muhurta over set next }
 {
-    set + (next - set) * 7.0 / 15.0
+    set + (next - set) * over as f64 / 15.0
 }
 
-// And it ends when eight are over.
-fn nishita_to(set: f64, next: f64) -> f64
-    ensures { result ≡ muhurta 8 set next }
-{
-    set + (next - set) * 8.0 / 15.0
-}
-
-// The nishita of a day, by the sun's events of that day and of the next.
-pub fn nishita_between(today: Span, tomorrow: Span) -> Span
+// The nishita of a day, by the sun's events of that day and of the next: the eighth muhurta of the night.
+pub fn nishita_between(today: Option<Span>, tomorrow: Option<Span>) -> Option<Span>
     ensures { span_is result ≡ nishita_between (span_is today) (span_is tomorrow) }
 {
-    match today {
-        Span::Is { from: _, to: set } => match tomorrow {
-            Span::Is { from: next, to: _ } => Span::Is {
-                from: UtDay(nishita_from(set.0, next.0)),
-                to: UtDay(nishita_to(set.0, next.0)),
-            },
-            Span::Nothing => Span::Nothing,
-        },
-        Span::Nothing => Span::Nothing,
-    }
+    let set = today?.to;
+    let next = tomorrow?.from;
+    Some(Span {
+        from: UtDay(muhurta(7, set.0, next.0)),
+        to: UtDay(muhurta(8, set.0, next.0)),
+    })
 }
 
 // The middle of two instants.

@@ -7,8 +7,8 @@ ghost use Rattle.panchanga.specs.Reading.{same_date, end_on, reading_at, morning
 use super::clock::clock_of;
 use super::noaa::events_on;
 use super::{Place, Span};
-use gregorian::{Date, DateAnswer, NPT_OFFSET, UtDay, npt_date, zero_hour};
-use sky::search::{FirstStart, end_of};
+use gregorian::{Date, NPT_OFFSET, UtDay, npt_date, zero_hour};
+use sky::search::end_of;
 use sky::tithi::{elongation_of, tithi_of};
 
 // The tithi that names a day, 1 to 30, and the minutes of the day at which it ends, the sun rises and the sun sets; 1,440 for none.
@@ -20,34 +20,27 @@ pub struct Reading {
     pub sunset: u16,
 }
 
-// The minute of what does not happen.
+// The minute of what does not happen. It is a number, as the definitions of specs/Reading.antt and include/panel.h have it.
 const NONE: u16 = 1440;
 
 // Whether an instant falls on a date in Nepal.
 fn falls_on(date: Date, at: UtDay) -> bool
     ensures { result ≡ same_date date (npt_answer at.0) }
 {
-    let a = npt_date(at);
-    match a {
-        DateAnswer::Is(d) => {
-            (d.year == date.year) & ((d.month == date.month) & (d.day == date.day))
-        }
-        DateAnswer::Refused(_) => false,
+    match npt_date(at) {
+        Ok(d) => d == date,
+        Err(_) => false,
     }
 }
 
 // The minute at which a tithi ends, if that falls on the date.
-fn end_on(date: Date, end: FirstStart) -> u16
+#[tactic(auto, unfolding(crate::specs::Reading::end_on))]
+fn end_on(date: Date, end: Option<UtDay>) -> u16
     ensures { result ≡ end_on date (first_says end) }
 {
     match end {
-        FirstStart::At(at) => {
-            if falls_on(date, at) {
-                return clock_of(at.0);
-            }
-            NONE
-        }
-        FirstStart::Nothing => NONE,
+        Some(at) if falls_on(date, at) => clock_of(at.0),
+        _ => NONE,
     }
 }
 
@@ -75,9 +68,8 @@ fn reading_at(date: Date, at: UtDay, sunrise: u16, sunset: u16) -> Reading
 pub fn reading_of(place: Place, date: Date, n: u32) -> Reading
     ensures { result ≡ reading_of place date n }
 {
-    let events = events_on(place, n);
-    match events {
-        Span::Is { from, to } => reading_at(date, from, clock_of(from.0), clock_of(to.0)),
-        Span::Nothing => reading_at(date, UtDay(morning(n)), NONE, NONE),
+    match events_on(place, n) {
+        Some(Span { from, to }) => reading_at(date, from, clock_of(from.0), clock_of(to.0)),
+        None => reading_at(date, UtDay(morning(n)), NONE, NONE),
     }
 }

@@ -79,24 +79,23 @@ fn half_day(c: f64) -> f64
 }
 
 // Sunrise and sunset around noon, if both are instants.
-fn events_around(noon: f64, half: f64) -> Span
+#[tactic(auto, unfolding(crate::specs::Noaa::events_around))]
+fn events_around(noon: f64, half: f64) -> Option<Span>
     ensures { span_is result ≡ events_around noon half }
 {
     let rise = noon - half;
     let set = noon + half;
-    if gregorian::is_instant(rise) {
-        if gregorian::is_instant(set) {
-            return Span::Is {
-                from: UtDay(rise),
-                to: UtDay(set),
-            };
-        }
+    if gregorian::is_instant(rise) && gregorian::is_instant(set) {
+        return Some(Span {
+            from: UtDay(rise),
+            to: UtDay(set),
+        });
     }
-    Span::Nothing
+    None
 }
 
 // Sunrise and sunset at a place on the day that begins at `zero`.
-fn events_at(place: Place, zero: f64) -> Span
+fn events_at(place: Place, zero: f64) -> Option<Span>
     ensures { span_is result ≡ sun_events place zero }
 {
     let t = centuries_at(place.longitude, zero);
@@ -109,11 +108,12 @@ fn events_at(place: Place, zero: f64) -> Span
             return events_around(noon, half_day(c));
         }
     }
-    Span::Nothing
+    None
 }
 
 // Sunrise and sunset at a place on the day with a number.
-pub fn events_on(place: Place, n: u32) -> Span
+#[tactic(auto, unfolding(crate::specs::Noaa::events_on))]
+pub fn events_on(place: Place, n: u32) -> Option<Span>
     ensures { span_is result ≡ events_on place n }
 {
     events_at(place, gregorian::zero_hour(n))

@@ -1,15 +1,15 @@
 -- The laws of how an answer crosses: an equation with a definition determines the number and all that was lent, and a refusal leaves that.
 -- Assumes nothing.
+use Rattle.std.specs.Prelude.{Err, None, Ok, Option, Some}
 use Prim.Native.Nat.{ℕ}
 use mathlib.Core.Path.{◌≡◌, refl, sym, ap, ◌∙◌}
 use mathlib.Core.List.{List}
-use mathlib.Core.Option.{Option, some, none}
 use native.Mathlib.Omega.{arith}
 use lib.Ieee.{Float}
 use lib.ListN.{length}
 use Rattle.paper.specs.declared.Refusal.{Refusal}
 use Rattle.paper.specs.declared.Refusal.TheVariants as R
-use Rattle.paper.specs.Answers.{Answer, answered, refused}
+use Rattle.paper.specs.Answers.{Answer}
 use Rattle.paper.specs.Refusals.{number, told}
 use Rattle.paper.specs.declared.Told as Paper
 use Rattle.sky.specs.Answers.{starts_answer, starts_buffer}
@@ -42,30 +42,30 @@ number_not_zero (R.OutOfForm j) h = omega arith
 number_not_zero R.NoRow h = omega arith
 
 -- what has the number 0 is answered
-pub zero_answered : {A : Type 0} (a : Answer A) → code a ≡ 0 → (x : A) × (a ≡ answered x)
-zero_answered (answered x) h = (x, refl)
-zero_answered (refused k) h = absurd (number_not_zero k h)
+pub zero_answered : {A : Type 0} (a : Answer A) → code a ≡ 0 → (x : A) × (a ≡ Ok x)
+zero_answered (Ok x) h = (x, refl)
+zero_answered (Err k) h = absurd (number_not_zero k h)
 
 -- what has another number is refused
-pub other_refused : {A : Type 0} (a : Answer A) → (code a ≡ 0 → ⊥) → (k : Refusal) × (a ≡ refused k)
-other_refused (answered x) h = absurd (h refl)
-other_refused (refused k) h = (k, refl)
+pub other_refused : {A : Type 0} (a : Answer A) → (code a ≡ 0 → ⊥) → (k : Refusal) × (a ≡ Err k)
+other_refused (Ok x) h = absurd (h refl)
+other_refused (Err k) h = (k, refl)
 
 -- the number that is given is the answer's
 pub gives_code : {A P : Type 0} (a : Answer A) (parts : A → P) (old : P) → (gives a parts old).0 ≡ code a
-gives_code (answered x) parts old = refl
-gives_code (refused k) parts old = refl
+gives_code (Ok x) parts old = refl
+gives_code (Err k) parts old = refl
 
 -- a number other than 0 leaves the places
 pub gives_left : {A P : Type 0} (a : Answer A) (parts : A → P) (old : P) → ((gives a parts old).0 ≡ 0 → ⊥) → (gives a parts old).1 ≡ old
-gives_left (answered x) parts old h = absurd (h refl)
-gives_left (refused k) parts old h = refl
+gives_left (Ok x) parts old h = absurd (h refl)
+gives_left (Err k) parts old h = refl
 
 -- the same of an answer that may be none
 some_left : {A P : Type 0} (a : Answer (Option A)) (parts : A → P) (old : ℕ × P) → ((gives_some a parts old).0 ≡ 0 → ⊥) → (gives_some a parts old).1 ≡ old
-some_left (answered (some x)) parts old h = absurd (h refl)
-some_left (answered none) parts old h = absurd (h refl)
-some_left (refused k) parts old h = refl
+some_left (Ok (Some x)) parts old h = absurd (h refl)
+some_left (Ok None) parts old h = absurd (h refl)
+some_left (Err k) parts old h = refl
 
 -- ---- the number, and all that was lent in one
 abbrev pub Told : Type 0 → Type 0
@@ -192,28 +192,28 @@ no_days R.NotEnded old h = refl
 no_days (R.OutOfForm j) old h = refl
 no_days R.NoRow old h = refl
 
-module _ {A P D : Type 0} (tell : Paper.Told → D → D) (parts : A → P) where
+module _ {A P D : Type 0} (tell : Option Paper.Told → D → D) (parts : A → P) where
   -- the number that is given is the answer's
   pub told_code : (a : Answer A) (old : P × D) → (gives_told tell a parts old).0 ≡ code a
-  told_code (answered x) old = refl
-  told_code (refused k) old = refl
+  told_code (Ok x) old = refl
+  told_code (Err k) old = refl
 
   -- a number other than 0 leaves the answer's places
   pub parts_kept : (a : Answer A) (old : P × D) → ((gives_told tell a parts old).0 ≡ 0 → ⊥) → (gives_told tell a parts old).1.0 ≡ old.0
-  parts_kept (answered x) old h = absurd (h refl)
-  parts_kept (refused k) old h = refl
+  parts_kept (Ok x) old h = absurd (h refl)
+  parts_kept (Err k) old h = refl
 
   -- where n alone tells something, another number leaves its place
   pub told_kept : (n : ℕ) → ((k : Refusal) (old : D) → (number k ≡ n → ⊥) → tell (told k) old ≡ old) → (a : Answer A) (old : P × D)
       → ((gives_told tell a parts old).0 ≡ n → ⊥) → (gives_told tell a parts old).1.1 ≡ old.1
-  told_kept n quiet (answered x) old h = refl
-  told_kept n quiet (refused k) old h = quiet k old.1 h
+  told_kept n quiet (Ok x) old h = refl
+  told_kept n quiet (Err k) old h = quiet k old.1 h
 
 module _ {K : Type 0} {A S : K → Type 0} {C : (k : K) → A k → ℕ → S k → Type 0} {P D B X : Type 0} {before : (k : K) → A k → (P × D) × B} {after : (k : K) → S k → (P × D) × B} where
   -- THE LAW for such a call: `answer` is its answer, and `buffer` what it leaves in the buffer, which a refusal does not change
-  by_telling : (tell : Paper.Told → D → D) (n : ℕ) → ((k : Refusal) (old : D) → (number k ≡ n → ⊥) → tell (told k) old ≡ old)
+  by_telling : (tell : Option Paper.Told → D → D) (n : ℕ) → ((k : Refusal) (old : D) → (number k ≡ n → ⊥) → tell (told k) old ≡ old)
       → (answer : (k : K) → A k → Answer X) (parts : X → P) (buffer : (k : K) → A k → B)
-      → ((k : K) (a : A k) (j : Refusal) → answer k a ≡ refused j → buffer k a ≡ (before k a).1)
+      → ((k : K) (a : A k) (j : Refusal) → answer k a ≡ Err j → buffer k a ≡ (before k a).1)
       → ((k : K) (a : A k) (x : ℕ) (s : S k) → C k a x s → ◌≡◌ {A = Told (P × D) × B} ((x, (after k s).0), (after k s).1) (gives_told tell (answer k a) parts (before k a).0, buffer k a))
       → CrossesTelling n C before after
   by_telling tell n quiet answer parts buffer kept e =

@@ -1,10 +1,10 @@
 -- DEMAND 3 FOR A KEPT ARRAY: each question to an array that holds a state with a row, and to one that holds the state after an answered row more, which
 -- panel_kept_append_row leaves: its number and all that it leaves in lent places and buffers. Assumes nothing.
+use Rattle.std.specs.Prelude.{Ok}
 use Prim.Native.Nat.{ℕ}
 use mathlib.Core.Path.{◌≡◌, refl, ap}
 use mathlib.Core.List.{List, []}
 use mathlib.Core.Logic.Iff
-use Rattle.paper.specs.Answers.{answered}
 use Rattle.gregorian.specs.declared.Date.{Date}
 use Rattle.gregorian.specs.Calendar.{day_number}
 use Rattle.conversion.specs.Flat.{date}
@@ -35,7 +35,7 @@ but_array : {P X : Type 0} {x y : Told (P × (X × List ℕ))} → x ≡ y → �
 but_array {P} {X} e = ap (λ (z : Told (P × (X × List ℕ))). (z.0, (z.1.0, z.1.1.0))) e
 
 -- a state with a row, and the state after one more; an array for each, lent at any two places; all else is lent with the same numbers, at any places
-module _ (σ : State) (some : σ.rows ≡ [] → ⊥) (row : List ℕ) (done : (append_row σ row).answer ≡ answered tt) (a b : List ℕ) (m : Made a σ) (n : Made b (append_row σ row).state)
+module _ (σ : State) (some : σ.rows ≡ [] → ⊥) (row : List ℕ) (done : (append_row σ row).answer ≡ Ok tt) (a b : List ℕ) (m : Made a σ) (n : Made b (append_row σ row).state)
     (p q : Place) (e f : ℕ → Place) where
   grown : KeptSteady σ (append_row σ row).state
   grown = kept_steady σ m.good some row done

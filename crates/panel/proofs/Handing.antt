@@ -1,12 +1,11 @@
 -- An equal answer hands over the same, beside what else was written. Assumes nothing.
+use Rattle.std.specs.Prelude.{Option}
 use Prim.Native.Nat.{ℕ}
-use mathlib.Core.Path.{◌≡◌, ap}
+use mathlib.Core.Path.{◌≡◌}
 use mathlib.Core.List.{List}
-use Rattle.paper.specs.declared.Refusal.{Refusal}
 use Rattle.paper.specs.declared.Told.{Told}
-use Rattle.paper.specs.Refusals.{number, told}
 use Rattle.paper.specs.Answers.{Answer}
-use Rattle.panel.specs.Boundary.{gives, line_in, number_and, gives_told, gives_read, gives_written}
+use Rattle.panel.specs.Boundary.{gives, line_in, gives_told, gives_read, gives_written}
 
 pub handed :
     {A P X : Type 0} {a b : Answer A} {got : ℕ × P} {s t : X} (parts : A → P) (old : P) →
@@ -20,20 +19,12 @@ both p q = cc
 pub given_as : {A P : Type 0} {a b : Answer A} {got : ℕ × P} (parts : A → P) (old : P) → a ≡ b → got ≡ gives a parts old → got ≡ gives b parts old
 given_as parts old e g = cc
 
-pub told_as : {A P D : Type 0} {a b : Answer A} {got : ℕ × (P × D)} (tell : Told → D → D) (parts : A → P) (old : P × D) → a ≡ b → got ≡ gives_told tell a parts old → got ≡ gives_told tell b parts old
+pub told_as : {A P D : Type 0} {a b : Answer A} {got : ℕ × (P × D)} (tell : Option Told → D → D) (parts : A → P) (old : P × D) → a ≡ b → got ≡ gives_told tell a parts old → got ≡ gives_told tell b parts old
 told_as tell parts old e g = cc
-
--- the number of a refusal, and the place of what it tells
-pub told_at : {D : Type 0} (tell : Told → D → D) (k : Refusal) {r : ℕ} (t : Told) (old : D) → t ≡ told k → r ≡ number k → ◌≡◌ {A = ℕ × D} (r, tell t old) (number_and tell k old)
-told_at tell k t old e n = rw (e, n)
-
--- a number and such a place, with others between them
-pub between : {P D : Type 0} {r s : ℕ} {k l : D} (n : P) → ◌≡◌ {A = ℕ × D} (r, k) (s, l) → ◌≡◌ {A = ℕ × (P × D)} (r, (n, k)) (s, (n, l))
-between {P} {D} n e = ap (λ (x : ℕ × D). (x.0, (n, x.1))) e
 
 -- an equal answer hands over the same, with what it tells and beside what else was written
 pub handed_told :
-    {A P D X : Type 0} {a b : Answer A} {got : ℕ × (P × D)} {s t : X} (tell : Told → D → D) (parts : A → P) (old : P × D) →
+    {A P D X : Type 0} {a b : Answer A} {got : ℕ × (P × D)} {s t : X} (tell : Option Told → D → D) (parts : A → P) (old : P × D) →
     a ≡ b → got ≡ gives_told tell a parts old → s ≡ t → ◌≡◌ {A = (ℕ × (P × D)) × X} (got, s) (gives_told tell b parts old, t)
 handed_told tell parts old e g p = cc
 

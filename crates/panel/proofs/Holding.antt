@@ -1,13 +1,14 @@
 -- NO SECOND ANSWER, AND A REFUSAL LEAVES WHAT WAS LENT, for each call over a kept array that is too short or holds a state: two numbers that meet its contract are
 -- equal, and so is all that they leave in the lent places, the buffers and the array; a number other than 0 leaves these as they were, but that 7 writes its
 -- days to places of their own. A start promises so of every array. Assumes nothing.
+use Rattle.std.specs.Prelude.{Err}
 use Prim.Native.Nat.{ℕ}
 use mathlib.Core.Path.{◌≡◌, refl, sym, ap, ◌∙◌}
 use mathlib.Core.List.{List, [], ◌∷◌}
 use mathlib.Core.Logic.{inl, inr}
 use Rattle.paper.specs.declared.Refusal.{Refusal}
 use Rattle.paper.specs.declared.Refusal.TheVariants.{NoRoom}
-use Rattle.paper.specs.Answers.{Answer, refused}
+use Rattle.paper.specs.Answers.{Answer}
 use Rattle.paper.specs.Refusals.{number}
 use Rattle.gregorian.specs.declared.Date.{Date}
 use Rattle.conversion.specs.Flat.{date}
@@ -83,7 +84,7 @@ alone {B} c = record { short = λ h. ap (λ (z : Told B). (z.0, (z.1, tt))) (c.s
 
 -- ---- a number other than 0 leaves what was lent
 
-written_left : {A : Type 0} (a : List ℕ) (σ : State) (x : Answer A) (k : Refusal) → x ≡ refused k → written a σ x ≡ a
+written_left : {A : Type 0} (a : List ℕ) (σ : State) (x : Answer A) (k : Refusal) → x ≡ Err k → written a σ x ≡ a
 written_left a σ x k e = rw e
 
 done_left : (a : List ℕ) (w : Outcome) → ((kept_done a w).0 ≡ 0 → ⊥) → (kept_done a w).1 ≡ a
@@ -95,12 +96,12 @@ years_left [] old h = absurd (h refl)
 years_left (y ∷ []) old h = absurd (h refl)
 years_left (y ∷ z ∷ ys) old h = absurd (h refl)
 
-row_left : (rows : List ℕ) (a : Answer (List Pair)) (out : List ℕ) (k : Refusal) → (row_first rows (listed a out) out).answer ≡ refused k → (row_first rows (listed a out) out).buffer ≡ out
+row_left : (rows : List ℕ) (a : Answer (List Pair)) (out : List ℕ) (k : Refusal) → (row_first rows (listed a out) out).answer ≡ Err k → (row_first rows (listed a out) out).buffer ≡ out
 unfolding row_first
 row_left [] a out k e = refl
 row_left (x ∷ rows) a out k e = list_left a out k e
 
-page_left : (rows : List ℕ) (a : Answer Grid) (cells festivals : List ℕ) (k : Refusal) → (row_first_month rows (shown a cells festivals) cells festivals).answer ≡ refused k
+page_left : (rows : List ℕ) (a : Answer Grid) (cells festivals : List ℕ) (k : Refusal) → (row_first_month rows (shown a cells festivals) cells festivals).answer ≡ Err k
     → ((row_first_month rows (shown a cells festivals) cells festivals).cells ≡ cells) × ((row_first_month rows (shown a cells festivals) cells festivals).festivals ≡ festivals)
 unfolding row_first_month
 page_left [] a cells festivals k e = (refl, refl)
@@ -108,7 +109,7 @@ page_left (x ∷ rows) a cells festivals k e = month_left a cells festivals k e
 
 -- the buffer of a reply that is refused
 abbrev Untouched : Reply → List ℕ → Type 0
-Untouched w out = (k : Refusal) → w.listed.answer ≡ refused k → w.listed.buffer ≡ out
+Untouched w out = (k : Refusal) → w.listed.answer ≡ Err k → w.listed.buffer ≡ out
 
 bs_left : (σ : State) (y m d : ℕ) (out : List ℕ) → Untouched (ask_bs σ y m d out) out
 unfolding ask_bs

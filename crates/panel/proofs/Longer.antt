@@ -1,5 +1,6 @@
 -- DEMAND 3 AT THE BOUNDARY, for each C function that answers by a lent year table: its number and all that it leaves in lent places and buffers, under a table
 -- and under the same table with more rows, both accepted. Assumes nothing.
+use Rattle.std.specs.Prelude.{Ok}
 use Prim.Native.Nat.{ℕ}
 use mathlib.Core.Path.{◌≡◌, refl, sym, ap, ◌∙◌}
 use mathlib.Core.Bool.{true}
@@ -8,7 +9,7 @@ use mathlib.Core.Logic.Iff
 use mathlib.Core.Logic.{◌↔◌}
 use lib.IntN.{ℤ}
 use Rattle.paper.specs.declared.Refusal.{Refusal}
-use Rattle.paper.specs.Answers.{Answer, answered}
+use Rattle.paper.specs.Answers.{Answer}
 use Rattle.paper.specs.Refusals.{number}
 use Rattle.gregorian.specs.declared.Date.{Date}
 use Rattle.gregorian.specs.Calendar.{day_number}
@@ -56,7 +57,7 @@ module _ {W X B : Type 0} (answer : W → Answer X) (told : W → Told B) (coded
         (ap (λ (z : Told B). z.0) e ∙ h, ap (λ (z : Told B). z.1) e)
 
     -- Q says of what is written what P says of the answer
-    stays-added : (Q : B → Type 0) → ((z : X) → answer long ≡ answered z → P z ↔ Q (told long).1) → y ≡ 0 → NumberIf x (number k) (Q v)
+    stays-added : (Q : B → Type 0) → ((z : X) → answer long ≡ Ok z → P z ↔ Q (told long).1) → y ≡ 0 → NumberIf x (number k) (Q v)
     stays-added Q f h =
         let a = zero_answered (answer long) (sym number-long ∙ h) in
         let r = stays.added a.0 a.1 in
@@ -73,7 +74,7 @@ number_as e r = record { when = λ p. r.when p ∙ e; only = r.only }
 -- the same of a contract: two calls whose numbers and lent places are what is told
 pub grows : {K : Type 0} {A S : K → Type 0} {B W X : Type 0} {C : (k : K) → A k → ℕ → S k → Type 0} {after : (k : K) → S k → B} {a b : (k : K) → A k}
     (answer : W → Answer X) (told : W → Told B) → ((w : W) → (told w).0 ≡ code (answer w))
-    → {short long : W} {k : Refusal} {n : ℕ} {P : X → Type 0} → number k ≡ n → (Q : B → Type 0) → Stays answer short long k P → ((z : X) → answer long ≡ answered z → P z ↔ Q (told long).1)
+    → {short long : W} {k : Refusal} {n : ℕ} {P : X → Type 0} → number k ≡ n → (Q : B → Type 0) → Stays answer short long k P → ((z : X) → answer long ≡ Ok z → P z ↔ Q (told long).1)
     → ((k : K) (x : ℕ) (s : S k) → C k (a k) x s → ◌≡◌ {A = Told B} (x, after k s) (told short))
     → ((k : K) (x : ℕ) (s : S k) → C k (b k) x s → ◌≡◌ {A = Told B} (x, after k s) (told long))
     → Grows C after a b n Q

@@ -1,5 +1,6 @@
 -- A SEQUENCE OF CALLS over a kept array: an answered start leaves the blank state in it, each further call the state after its operation, and a refused call the
 -- state that it held. So the array holds, after any sequence, the state that kept's `run` gives, of which `always` says what is kept. Assumes nothing.
+use Rattle.std.specs.Prelude.{Err, Ok}
 use Prim.Native.Nat.{ℕ}
 use mathlib.Core.Path.{◌≡◌, refl, sym, ap, ◌∙◌, subst⁻¹}
 use mathlib.Core.Bool.{true}
@@ -8,7 +9,7 @@ use borrow.Author.Tests.{leb-true}
 use lib.Dec.{leb}
 use lib.ListN.{length}
 use Rattle.paper.specs.declared.Refusal.TheVariants.{NoRoom}
-use Rattle.paper.specs.Answers.{Answer, answered, refused, given, then}
+use Rattle.paper.specs.Answers.{Answer, given, then}
 use Rattle.paper.proofs.Answers.{refused_answered, given_answered}
 use Rattle.conversion.specs.declared.Table.{Table}
 use Rattle.conversion.specs.Flat.{date}
@@ -35,12 +36,11 @@ use Rattle.panel.proofs.kept_months.panel_kept_month_grid.Reads as MonthGrid
 -- ---- a start
 
 -- an array that is started has room, and the table is good
-started_by : (s : Answer State) (a : List ℕ) (σ : State) → then s (λ τ. given (leb 4488 (length a)) NoRoom (answered τ)) ≡ answered σ → (s ≡ answered σ) × (leb 4488 (length a) ≡ true)
-unfolding then
-started_by (answered τ) a σ e = let p = given_answered (leb 4488 (length a)) NoRoom (answered τ) e in (p.1, p.0)
-started_by (refused k) a σ e = absurd (refused_answered refl e)
+started_by : (s : Answer State) (a : List ℕ) (σ : State) → then s (λ τ. given (leb 4488 (length a)) NoRoom (Ok τ)) ≡ Ok σ → (s ≡ Ok σ) × (leb 4488 (length a) ≡ true)
+started_by (Ok τ) a σ e = let p = given_answered (leb 4488 (length a)) NoRoom (Ok τ) e in (p.1, p.0)
+started_by (Err k) a σ e = absurd (refused_answered refl e)
 
-made_by_start : (t : Table) (a after : List ℕ) → (0, after) ≡ gives (start_in t a) (laid a) a → (σ : State) × ((start t ≡ answered σ) × Made after σ)
+made_by_start : (t : Table) (a after : List ℕ) → (0, after) ≡ gives (start_in t a) (laid a) a → (σ : State) × ((start t ≡ Ok σ) × Made after σ)
 unfolding start_in
 made_by_start t a after e =
     let z = zero_answered (start_in t a) (sym (ap (λ (x : Told (List ℕ)). x.0) e ∙ gives_code (start_in t a) (laid a) a)) in
@@ -48,7 +48,7 @@ made_by_start t a after e =
     let l : after ≡ laid a z.0 = ap (λ (x : Told (List ℕ)). x.1) e ∙ ap (λ (x : Answer State). (gives x (laid a) a).1) z.1 in
     (z.0, (s.0, subst⁻¹ (λ (x : List ℕ). Made x z.0) l (laid_made a z.0 (good_start t z.0 s.0) (leb-true 4488 (length a) s.1))))
 
-pub started : (k : _) (a : _) (s : _) → Start.Learnt k a 0 s → (σ : State) × ((start (table a.0 a.1.0 a.1.1.0 a.1.1.1.0) ≡ answered σ) × Made s.1.1.1.1.0.now σ)
+pub started : (k : _) (a : _) (s : _) → Start.Learnt k a 0 s → (σ : State) × ((start (table a.0 a.1.0 a.1.1.0 a.1.1.1.0) ≡ Ok σ) × Made s.1.1.1.1.0.now σ)
 started k a s p = made_by_start _ _ _ p
 
 -- ---- the other calls
@@ -59,8 +59,8 @@ good_next σ g o = good_run σ g (o ∷ [])
 
 -- an array after an answer, which has its state, or after a refusal, which leaves the state
 carried : {A : Type 0} {a after : List ℕ} {σ τ : State} {x : Answer A} → Made a σ → Good τ → Leaves σ x τ → after ≡ written a τ x → Made after τ
-carried {a = a} {τ = τ} {x = answered v} m g f e = rw e (laid_made a τ g m.room)
-carried {a = a} {τ = τ} {x = refused k} m g f e = rw (e, f k refl) m
+carried {a = a} {τ = τ} {x = Ok v} m g f e = rw e (laid_made a τ g m.room)
+carried {a = a} {τ = τ} {x = Err k} m g f e = rw (e, f k refl) m
 
 pub take_rules_law : Carries TakeRules.Learnt (λ k a. a.0.now) (λ k s. s.0.now) (λ k a. take a.1.0.now)
 unfolding next
@@ -105,5 +105,5 @@ carries_on none σ m = m
 carries_on (call {o = o} f r) σ m = carries_on r (next σ o) (f σ m)
 
 -- THE ARRAY AFTER ANY SEQUENCE of calls from an answered start holds what the state keeps
-pub sequence : (t : Table) (σ : State) → start t ≡ answered σ → {a b : List ℕ} {os : List Operation} → Made a σ → Calls a os b → Made b (run σ os) × Keeps (run σ os)
+pub sequence : (t : Table) (σ : State) → start t ≡ Ok σ → {a b : List ℕ} {os : List Operation} → Made a σ → Calls a os b → Made b (run σ os) × Keeps (run σ os)
 sequence t σ e {os = os} m r = (carries_on r σ m, always t σ e os)

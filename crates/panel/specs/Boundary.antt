@@ -1,7 +1,6 @@
 -- How an answer crosses the C boundary: as its number, and as what is written where it was asked for. Assumes nothing.
-use Rattle.std.specs.Prelude.{ℕ, Bool, true, false, List, leb, Float}
-use Rattle.std.proofs.Math.Option.{Option, some, none}
-use Rattle.paper.specs.Answers.{Answer, answered, refused, given}
+use Rattle.std.specs.Prelude.{ℕ, Bool, true, false, List, leb, Float, Err, None, Ok, Option, Some}
+use Rattle.paper.specs.Answers.{Answer, given}
 use Rattle.paper.specs.Refusals.{number, told}
 use Rattle.paper.specs.declared.Refusal.{Refusal}
 use Rattle.paper.specs.declared.Refusal.TheVariants.{BadRules}
@@ -22,46 +21,46 @@ use Rattle.grid.specs.Month.{Shown}
 
 -- 0 for an answer, or the number of the refusal
 abbrev pub code : {A : Type 0} → Answer A → ℕ
-code (answered x) = 0
-code (refused k) = number k
+code (Ok x) = 0
+code (Err k) = number k
 
 -- 0 and the lent places with the parts of the answer; or the number of the refusal, and the places as they were
 abbrev pub gives : {A P : Type 0} → Answer A → (A → P) → P → ℕ × P
-gives (answered x) parts old = (0, parts x)
-gives (refused k) parts old = (number k, old)
+gives (Ok x) parts old = (0, parts x)
+gives (Err k) parts old = (number k, old)
 
 -- the same of an answer that may be none: a first place says whether there is something, 1, or nothing, 0, which leaves the others
 abbrev pub gives_some : {A P : Type 0} → Answer (Option A) → (A → P) → ℕ × P → ℕ × (ℕ × P)
-gives_some (answered (some x)) parts old = (0, (1, parts x))
-gives_some (answered none) parts old = (0, (0, old.1))
-gives_some (refused k) parts old = (number k, old)
+gives_some (Ok (Some x)) parts old = (0, (1, parts x))
+gives_some (Ok None) parts old = (0, (0, old.1))
+gives_some (Err k) parts old = (number k, old)
 
 -- a day's list: its count, and the lent buffer
 abbrev pub gives_list : Listed → ℕ → (ℕ × ℕ) × List ℕ
 gives_list l old = (gives l.answer (λ n. n) old, l.buffer)
 
 -- the place for a line: a line that is told goes there, all else leaves it
-abbrev pub line_in : Told → ℕ → ℕ
-line_in (T.Before k) old = old
-line_in (T.After k) old = old
-line_in (T.Line k) old = k
-line_in T.Nothing old = old
+abbrev pub line_in : Option Told → ℕ → ℕ
+line_in (Some (T.Before k)) old = old
+line_in (Some (T.After k)) old = old
+line_in (Some (T.Line k)) old = k
+line_in None old = old
 
 -- the two places for days, before the first day and after the last: days that are told go to their side, with 0 on the other; all else leaves both
-abbrev pub days_in : Told → ℕ × ℕ → ℕ × ℕ
-days_in (T.Before k) old = (k, 0)
-days_in (T.After k) old = (0, k)
-days_in (T.Line k) old = old
-days_in T.Nothing old = old
+abbrev pub days_in : Option Told → ℕ × ℕ → ℕ × ℕ
+days_in (Some (T.Before k)) old = (k, 0)
+days_in (Some (T.After k)) old = (0, k)
+days_in (Some (T.Line k)) old = old
+days_in None old = old
 
 -- the number of a refusal, and the place of what it tells, which `tell` fills
-abbrev pub number_and : {D : Type 0} → (Told → D → D) → Refusal → D → ℕ × D
+abbrev pub number_and : {D : Type 0} → (Option Told → D → D) → Refusal → D → ℕ × D
 number_and tell k old = (number k, tell (told k) old)
 
 -- 0 and the parts of the answer; or the number of the refusal, and what it tells. Neither touches the place of the other
-abbrev pub gives_told : {A P D : Type 0} → (Told → D → D) → Answer A → (A → P) → P × D → ℕ × (P × D)
-gives_told tell (answered x) parts old = (0, (parts x, old.1))
-gives_told tell (refused k) parts old = (number k, (old.0, tell (told k) old.1))
+abbrev pub gives_told : {A P D : Type 0} → (Option Told → D → D) → Answer A → (A → P) → P × D → ℕ × (P × D)
+gives_told tell (Ok x) parts old = (0, (parts x, old.1))
+gives_told tell (Err k) parts old = (number k, (old.0, tell (told k) old.1))
 
 -- a day's list asked by Gregorian date: its count or how far outside the date lies, and the lent buffer
 abbrev pub gives_list_ad : Listed → ℕ × (ℕ × ℕ) → (ℕ × (ℕ × (ℕ × ℕ))) × List ℕ
@@ -112,5 +111,5 @@ kala_by k x = given (leb k 5) BadRules (kala_answer (kala_named k) x)
 
 -- whether what is lent is accepted: yes, or the refusal k
 abbrev pub accepting : Bool → Refusal → Answer Unit
-accepting true k = answered tt
-accepting false k = refused k
+accepting true k = Ok tt
+accepting false k = Err k

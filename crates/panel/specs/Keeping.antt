@@ -1,7 +1,7 @@
 -- The calls over a kept state in an array of the caller's: what they answer, and what they leave in the lent places and buffers and in the array.
 -- Assumes nothing.
-use Rattle.std.specs.Prelude.{ℕ, ◌<◌, ◌≡◌, List, [], ◌∷◌, leb, length}
-use Rattle.paper.specs.Answers.{Answer, answered, refused, given, then}
+use Rattle.std.specs.Prelude.{ℕ, ◌<◌, ◌≡◌, List, [], ◌∷◌, leb, length, Err, Ok}
+use Rattle.paper.specs.Answers.{Answer, given, then}
 use Rattle.paper.specs.Refusals.{number}
 use Rattle.paper.specs.declared.Refusal.TheVariants.{NoRoom}
 use Rattle.conversion.specs.declared.Table.{Table}
@@ -21,12 +21,12 @@ pub record Keeping {B : Type 0} (a : List ℕ) (n : ℕ) (before after : B) (on 
 
 -- the array after an operation: the state after it where it answers; a refusal leaves every number
 abbrev pub written : {A : Type 0} → List ℕ → State → Answer A → List ℕ
-written a σ (answered x) = laid a σ
-written a σ (refused k) = a
+written a σ (Ok x) = laid a σ
+written a σ (Err k) = a
 
 -- a start, on any array: the refusal of the table, and then 9 where the array is too short
 unfoldable pub start_in : Table → List ℕ → Answer State
-start_in t a = then (start t) (λ σ. given (leb 4488 (length a)) NoRoom (answered σ))
+start_in t a = then (start t) (λ σ. given (leb 4488 (length a)) NoRoom (Ok σ))
 
 -- other rules, or one row more: the number, and the array
 abbrev pub kept_done : List ℕ → Outcome → ℕ × List ℕ
@@ -58,5 +58,5 @@ kept_month a w old = on_array a w.state w.shown.answer (gives_month w.shown old)
 
 -- the array with the record of the state after an answer; a refusal leaves it
 abbrev pub placed_by : {A : Type 0} → Answer A → Kept → List ℕ → List ℕ
-placed_by (answered x) k a = placed k a
-placed_by (refused j) k a = a
+placed_by (Ok x) k a = placed k a
+placed_by (Err j) k a = a

@@ -1,57 +1,59 @@
 // Sunrise and sunset over Kathmandu, kalas, the clock and a date's reading.
 ghost use Rattle.std.specs.Prelude.{◌≡◌};
-ghost use Rattle.panchanga.specs.Answers.{span_says, reading_says};
+ghost use Rattle.panchanga.specs.Answers.{span_says};
 ghost use Rattle.panchanga.specs.Answers.{events_answer, rise_answer, set_answer, nishita_answer, clock_answer, reading_answer};
 ghost use Rattle.panchanga.specs.Clock.{minutes_of};
 ghost use Rattle.conversion.specs.Flat.{date};
 ghost use Rattle.panel.specs.Boundary.{gives, gives_some, readings, kala_by};
 
-use crate::heavens::{give_instant, give_small};
+use crate::give;
+use crate::heavens::give_instant;
 use festivals::days::kala_named;
 use gregorian::{Date, UtDay};
-use panchanga::{ReadingAnswer, SpanAnswer};
-use paper::Refusal;
+use panchanga::Span;
+use panchanga::lunar::Reading;
+use paper::{Answer, Refusal};
 
 // Two instants where they are asked for, if there are some, and whether there are.
-fn give_span(answer: SpanAnswer, found: &mut u16, from: &mut f64, to: &mut f64) -> u16
+fn give_span(answer: Answer<Option<Span>>, found: &mut u16, from: &mut f64, to: &mut f64) -> u16
     ensures { (result, (found.new, (from.new, to.new)))
         ≡ gives_some (span_says answer) (λ x. x) (found.old, (from.old, to.old)) }
 {
     match answer {
-        SpanAnswer::Is { from: a, to: b } => {
+        Ok(Some(Span { from: a, to: b })) => {
             *found = 1;
             *from = a.0;
             *to = b.0;
             0
         }
-        SpanAnswer::Nothing => {
+        Ok(None) => {
             *found = 0;
             0
         }
-        SpanAnswer::Refused(k) => k.number(),
+        Err(k) => k.number(),
     }
 }
 
 // A reading's four numbers where they are asked for.
 fn give_reading(
-    answer: ReadingAnswer,
+    answer: Answer<Reading>,
     tithi: &mut u16,
     end: &mut u16,
     sunrise: &mut u16,
     sunset: &mut u16,
 ) -> u16
     ensures { (result, (tithi.new, end.new, sunrise.new, sunset.new))
-        ≡ gives (reading_says answer) readings (tithi.old, end.old, sunrise.old, sunset.old) }
+        ≡ gives answer readings (tithi.old, end.old, sunrise.old, sunset.old) }
 {
     match answer {
-        ReadingAnswer::Is(reading) => {
+        Ok(reading) => {
             *tithi = reading.tithi;
             *end = reading.end;
             *sunrise = reading.sunrise;
             *sunset = reading.sunset;
             0
         }
-        ReadingAnswer::Refused(k) => k.number(),
+        Err(k) => k.number(),
     }
 }
 
@@ -154,7 +156,7 @@ pub extern "C" fn panel_kala_instant(
 pub extern "C" fn panel_npt_clock(ut: f64, minutes: &mut u16) -> u16
     ensures { (result, minutes.new) ≡ gives (clock_answer ut) (λ x. x) minutes.old }
 {
-    give_small(panchanga::npt_clock(UtDay(ut)), minutes)
+    give(panchanga::npt_clock(UtDay(ut)), minutes)
 }
 
 // The minutes of a fraction of the day. It refuses nothing.

@@ -3,40 +3,16 @@ ghost use Rattle.std.specs.Prelude.{◌≡◌};
 ghost use Rattle.paper.specs.declared.Refusal.TheVariants.{BadTable};
 ghost use Rattle.conversion.specs.Flat.{accepted};
 ghost use Rattle.conversion.specs.Calendar.{month_len, valid_bs, to_ad, from_ad};
-ghost use Rattle.conversion.specs.Answers.{days_says, valid_says, bs_says};
 ghost use Rattle.panel.specs.Boundary.{code, gives, days_in, gives_told, numbers, bs_numbers, lent, table, accepting};
 
 use crate::dates::give_date;
-use crate::{acceptance, give_days, table_of};
-use conversion::{BsAnswer, BsDate, MonthDays, Validity};
-use paper::Refusal;
-
-// A month's length where it is asked for.
-fn give_month_len(answer: MonthDays, days: &mut u16) -> u16
-    ensures { (result, days.new) ≡ gives (days_says answer) (λ x. x) days.old }
-{
-    match answer {
-        MonthDays::Days(n) => {
-            *days = n;
-            0
-        }
-        MonthDays::Refused(k) => k.number(),
-    }
-}
-
-// The number of a check of a date.
-fn give_validity(answer: Validity) -> u16
-    ensures { result ≡ code (valid_says answer) }
-{
-    match answer {
-        Validity::Valid => 0,
-        Validity::Refused(k) => k.number(),
-    }
-}
+use crate::{acceptance, code, give, give_days, table_of};
+use conversion::BsDate;
+use paper::{Answer, Refusal};
 
 // A BS date's three numbers where they are asked for, or how far outside the table the date lies.
 pub fn give_bs(
-    answer: BsAnswer,
+    answer: Answer<BsDate>,
     year: &mut u16,
     month: &mut u16,
     day: &mut u16,
@@ -44,17 +20,17 @@ pub fn give_bs(
     days_after: &mut u32,
 ) -> u16
     ensures { (result, ((year.new, month.new, day.new), (days_before.new, days_after.new)))
-        ≡ gives_told days_in (bs_says answer) bs_numbers
+        ≡ gives_told days_in answer bs_numbers
         ((year.old, month.old, day.old), (days_before.old, days_after.old)) }
 {
     match answer {
-        BsAnswer::Is(date) => {
+        Ok(date) => {
             *year = date.year;
             *month = date.month;
             *day = date.day;
             0
         }
-        BsAnswer::Refused(k) => give_days(k, days_before, days_after),
+        Err(k) => give_days(k, days_before, days_after),
     }
 }
 
@@ -90,7 +66,7 @@ pub extern "C" fn panel_bs_month_len(
         days.old }
 {
     let table = table_of(first_year, first_ad_year, first_ad_month, first_ad_day);
-    give_month_len(conversion::bs_month_len(table, rows, year, month), days)
+    give(conversion::bs_month_len(table, rows, year, month), days)
 }
 
 // Whether there is such a BS date: 1, 4, 5, 6.
@@ -108,7 +84,7 @@ pub extern "C" fn panel_validate_bs_date(
     ensures { result ≡ code (valid_bs (lent first_year first_ad_year first_ad_month first_ad_day rows.now) year month day) }
 {
     let table = table_of(first_year, first_ad_year, first_ad_month, first_ad_day);
-    give_validity(conversion::validate_bs_date(table, rows, BsDate { year, month, day }))
+    code(conversion::validate_bs_date(table, rows, BsDate { year, month, day }))
 }
 
 // The Gregorian date of a BS date: 1, 4, 5, 6.

@@ -1,52 +1,35 @@
 // Gregorian dates from 1900 to 2149, and instants, which are Julian days of universal time.
 ghost use Rattle.std.specs.Prelude.{◌≡◌};
-ghost use Rattle.gregorian.specs.Answers.{date_says, number_says, new_date, number_answer, weekday_answer, next_answer, date_answer};
+ghost use Rattle.gregorian.specs.Answers.{new_date, number_answer, weekday_answer, next_answer, date_answer};
 ghost use Rattle.gregorian.specs.Instants.{julian_says, julian_answer, npt_answer};
 ghost use Rattle.conversion.specs.Flat.{date};
 ghost use Rattle.panel.specs.Boundary.{gives, numbers};
 
-use gregorian::{Date, DateAnswer, JulianAnswer, NumberAnswer, UtDay};
+use crate::give;
+use gregorian::{Date, UtDay};
+use paper::Answer;
 
 // A date's three numbers where they are asked for.
-pub fn give_date(answer: DateAnswer, year: &mut u16, month: &mut u16, day: &mut u16) -> u16
+pub fn give_date(answer: Answer<Date>, year: &mut u16, month: &mut u16, day: &mut u16) -> u16
     ensures { (result, (year.new, month.new, day.new))
-        ≡ gives (date_says answer) numbers (year.old, month.old, day.old) }
+        ≡ gives answer numbers (year.old, month.old, day.old) }
 {
     match answer {
-        DateAnswer::Is(date) => {
+        Ok(date) => {
             *year = date.year;
             *month = date.month;
             *day = date.day;
             0
         }
-        DateAnswer::Refused(k) => k.number(),
-    }
-}
-
-// A number where it is asked for.
-fn give_number(answer: NumberAnswer, number: &mut u32) -> u16
-    ensures { (result, number.new) ≡ gives (number_says answer) (λ x. x) number.old }
-{
-    match answer {
-        NumberAnswer::Number(n) => {
-            *number = n;
-            0
-        }
-        NumberAnswer::Refused(k) => k.number(),
+        Err(k) => k.number(),
     }
 }
 
 // An instant where it is asked for.
-fn give_julian(answer: JulianAnswer, ut: &mut f64) -> u16
+fn give_julian(answer: Answer<UtDay>, ut: &mut f64) -> u16
     ensures { (result, ut.new) ≡ gives (julian_says answer) (λ x. x) ut.old }
 {
-    match answer {
-        JulianAnswer::At(at) => {
-            *ut = at.0;
-            0
-        }
-        JulianAnswer::Refused(k) => k.number(),
-    }
+    give(answer.map(|at| at.0), ut)
 }
 
 // Whether three numbers are a date, and its numbers: 3.
@@ -70,7 +53,7 @@ pub extern "C" fn panel_date_new(
 pub extern "C" fn panel_date_day_number(year: u16, month: u16, day: u16, number: &mut u32) -> u16
     ensures { (result, number.new) ≡ gives (number_answer (date year month day)) (λ x. x) number.old }
 {
-    give_number((Date { year, month, day }).day_number(), number)
+    give((Date { year, month, day }).day_number(), number)
 }
 
 // The day of the week of a date, 0 for Sunday: 3.
@@ -78,7 +61,7 @@ pub extern "C" fn panel_date_day_number(year: u16, month: u16, day: u16, number:
 pub extern "C" fn panel_date_weekday(year: u16, month: u16, day: u16, weekday: &mut u32) -> u16
     ensures { (result, weekday.new) ≡ gives (weekday_answer (date year month day)) (λ x. x) weekday.old }
 {
-    give_number((Date { year, month, day }).weekday(), weekday)
+    give((Date { year, month, day }).weekday(), weekday)
 }
 
 // The day after a date: 3, also after 31 December 2149.

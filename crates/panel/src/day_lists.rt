@@ -2,42 +2,28 @@
 ghost use Rattle.std.specs.Prelude.{◌≡◌};
 ghost use Rattle.paper.specs.declared.Refusal.TheVariants.{BadRules};
 ghost use Rattle.rules.specs.Rules.{accepted_rules};
-ghost use Rattle.festivals.specs.Answers.{list_says, on_bs, on_ad};
-ghost use Rattle.panel.specs.Boundary.{code, gives, days_in, gives_told, gives_list, gives_list_ad, table, accepting};
+ghost use Rattle.festivals.specs.Answers.{on_bs, on_ad};
+ghost use Rattle.panel.specs.Boundary.{code, days_in, gives_told, gives_list, gives_list_ad, table, accepting};
 
-use crate::{acceptance, give_days, table_of};
-use festivals::ListAnswer;
-use paper::Refusal;
+use crate::{acceptance, give, give_days, table_of};
+use paper::{Answer, Refusal};
 
-// The number of festivals where it is asked for.
-pub fn give_count(answer: ListAnswer, count: &mut usize) -> u16
-    ensures { (result, count.new) ≡ gives (list_says answer) (λ x. x) count.old }
-{
-    match answer {
-        ListAnswer::Count(n) => {
-            *count = n;
-            0
-        }
-        ListAnswer::Refused(k) => k.number(),
-    }
-}
-
-// The same, or how far outside the table the date lies.
+// The number of festivals where it is asked for, or how far outside the table the date lies.
 pub fn give_count_or_days(
-    answer: ListAnswer,
+    answer: Answer<usize>,
     count: &mut usize,
     days_before: &mut u32,
     days_after: &mut u32,
 ) -> u16
     ensures { (result, (count.new, (days_before.new, days_after.new)))
-        ≡ gives_told days_in (list_says answer) (λ x. x) (count.old, (days_before.old, days_after.old)) }
+        ≡ gives_told days_in answer (λ x. x) (count.old, (days_before.old, days_after.old)) }
 {
     match answer {
-        ListAnswer::Count(n) => {
+        Ok(n) => {
             *count = n;
             0
         }
-        ListAnswer::Refused(k) => give_days(k, days_before, days_after),
+        Err(k) => give_days(k, days_before, days_after),
     }
 }
 
@@ -69,7 +55,7 @@ pub extern "C" fn panel_festivals_on(
         rows.now rules.now year month day festivals.old) count.old }
 {
     let table = table_of(first_year, first_ad_year, first_ad_month, first_ad_day);
-    give_count(
+    give(
         festivals::festivals_on(table, rows, rules, year, month, day, festivals),
         count,
     )

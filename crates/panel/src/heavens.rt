@@ -2,81 +2,51 @@
 ghost use Rattle.std.specs.Prelude.{◌≡◌, length};
 ghost use Rattle.sky.specs.Time.{delta_t};
 ghost use Rattle.sky.specs.Tithi.{tithi_of};
-ghost use Rattle.sky.specs.Answers.{tt_says, degrees_says, small_says, starts_says, instant_says};
+ghost use Rattle.sky.specs.Answers.{tt_says, starts_says, instant_says};
 ghost use Rattle.sky.specs.Answers.{tt_answer, sun_answer, moon_answer, elongation_answer, tithi_answer, starts_answer, starts_buffer, end_answer};
 ghost use Rattle.panel.specs.Boundary.{gives, gives_some};
 
+use crate::give;
 use gregorian::UtDay;
-use sky::{DegreesAnswer, InstantAnswer, SmallAnswer, StartsAnswer, TtAnswer, TtDay};
+use paper::Answer;
+use sky::{Starts, TtDay};
 
 // A day of terrestrial time where it is asked for.
-fn give_tt(answer: TtAnswer, tt: &mut f64) -> u16
+fn give_tt(answer: Answer<TtDay>, tt: &mut f64) -> u16
     ensures { (result, tt.new) ≡ gives (tt_says answer) (λ x. x) tt.old }
 {
-    match answer {
-        TtAnswer::At(day) => {
-            *tt = day.0;
-            0
-        }
-        TtAnswer::Refused(k) => k.number(),
-    }
-}
-
-// An angle where it is asked for.
-fn give_degrees(answer: DegreesAnswer, degrees: &mut f64) -> u16
-    ensures { (result, degrees.new) ≡ gives (degrees_says answer) (λ x. x) degrees.old }
-{
-    match answer {
-        DegreesAnswer::Is(angle) => {
-            *degrees = angle;
-            0
-        }
-        DegreesAnswer::Refused(k) => k.number(),
-    }
-}
-
-// A small number where it is asked for.
-pub fn give_small(answer: SmallAnswer, small: &mut u16) -> u16
-    ensures { (result, small.new) ≡ gives (small_says answer) (λ x. x) small.old }
-{
-    match answer {
-        SmallAnswer::Is(n) => {
-            *small = n;
-            0
-        }
-        SmallAnswer::Refused(k) => k.number(),
-    }
+    give(answer.map(|day| day.0), tt)
 }
 
 // The numbers of starts and of steps where they are asked for.
-fn give_starts(answer: StartsAnswer, count: &mut usize, steps: &mut usize) -> u16
+fn give_starts(answer: Answer<Starts>, count: &mut usize, steps: &mut usize) -> u16
     ensures { (result, (count.new, steps.new)) ≡ gives (starts_says answer) (λ x. x) (count.old, steps.old) }
 {
     match answer {
-        StartsAnswer::Found { count: n, steps: k } => {
+        Ok(Starts { count: n, steps: k }) => {
             *count = n;
             *steps = k;
             0
         }
-        StartsAnswer::Refused(k) => k.number(),
+        Err(k) => k.number(),
     }
 }
 
 // An instant where it is asked for, if there is one, and whether there is.
-pub fn give_instant(answer: InstantAnswer, found: &mut u16, ut: &mut f64) -> u16
+pub fn give_instant(answer: Answer<Option<UtDay>>, found: &mut u16, ut: &mut f64) -> u16
     ensures { (result, (found.new, ut.new)) ≡ gives_some (instant_says answer) (λ x. x) (found.old, ut.old) }
 {
     match answer {
-        InstantAnswer::At(at) => {
+        Ok(Some(at)) => {
             *found = 1;
             *ut = at.0;
             0
         }
-        InstantAnswer::Nothing => {
+        Ok(None) => {
             *found = 0;
             0
         }
-        InstantAnswer::Refused(k) => k.number(),
+        Err(k) => k.number(),
     }
 }
 
@@ -103,7 +73,7 @@ pub extern "C" fn panel_tt_from_ut(ut: f64, tt: &mut f64) -> u16
 pub extern "C" fn panel_sun_longitude(tt: f64, degrees: &mut f64) -> u16
     ensures { (result, degrees.new) ≡ gives (sun_answer tt) (λ x. x) degrees.old }
 {
-    give_degrees(sky::sun_longitude(TtDay(tt)), degrees)
+    give(sky::sun_longitude(TtDay(tt)), degrees)
 }
 
 // The longitude of the moon on a day of terrestrial time: 8.
@@ -111,7 +81,7 @@ pub extern "C" fn panel_sun_longitude(tt: f64, degrees: &mut f64) -> u16
 pub extern "C" fn panel_moon_longitude(tt: f64, degrees: &mut f64) -> u16
     ensures { (result, degrees.new) ≡ gives (moon_answer tt) (λ x. x) degrees.old }
 {
-    give_degrees(sky::moon_longitude(TtDay(tt)), degrees)
+    give(sky::moon_longitude(TtDay(tt)), degrees)
 }
 
 // The moon's elongation from the sun at an instant: 8.
@@ -119,7 +89,7 @@ pub extern "C" fn panel_moon_longitude(tt: f64, degrees: &mut f64) -> u16
 pub extern "C" fn panel_elongation(ut: f64, degrees: &mut f64) -> u16
     ensures { (result, degrees.new) ≡ gives (elongation_answer ut) (λ x. x) degrees.old }
 {
-    give_degrees(sky::elongation(UtDay(ut)), degrees)
+    give(sky::elongation(UtDay(ut)), degrees)
 }
 
 // The tithi of an elongation. It refuses nothing.
@@ -137,7 +107,7 @@ pub extern "C" fn panel_tithi_of(degrees: f64, tithi: &mut u16) -> u16
 pub extern "C" fn panel_tithi_at(ut: f64, tithi: &mut u16) -> u16
     ensures { (result, tithi.new) ≡ gives (tithi_answer ut) (λ x. x) tithi.old }
 {
-    give_small(sky::tithi_at(UtDay(ut)), tithi)
+    give(sky::tithi_at(UtDay(ut)), tithi)
 }
 
 // Every instant from one to another at which a tithi begins, at the front of a lent buffer; how many, and how many steps were walked: 8, 11, 9.

@@ -1,23 +1,23 @@
 // Whether a BS date is a holiday, from a lent year table and lent rules.
 ghost use Rattle.std.specs.Prelude.{◌≡◌};
 ghost use Rattle.grid.specs.Cells.{one};
-ghost use Rattle.holiday.specs.Holiday.{holiday_on, holiday_says};
+ghost use Rattle.holiday.specs.Holiday.{holiday_on};
 ghost use Rattle.panel.specs.Boundary.{gives, table};
 
 use crate::table_of;
 use grid::cells::mark;
-use holiday::HolidayAnswer;
+use paper::Answer;
 
 // 1 for yes or 0 for no where it is asked for.
-fn give_mark(answer: HolidayAnswer, holiday: &mut u16) -> u16
-    ensures { (result, holiday.new) ≡ gives (holiday_says answer) one holiday.old }
+fn give_mark(answer: Answer<bool>, holiday: &mut u16) -> u16
+    ensures { (result, holiday.new) ≡ gives answer one holiday.old }
 {
     match answer {
-        HolidayAnswer::Is(yes) => {
+        Ok(yes) => {
             *holiday = mark(yes);
             0
         }
-        HolidayAnswer::Refused(k) => k.number(),
+        Err(k) => k.number(),
     }
 }
 

@@ -1,6 +1,5 @@
 // A kept state in an array of the caller's, of 4,488 numbers or more: starting it, its rules, its rows, and which years it has stored.
-ghost use Rattle.std.specs.Prelude.{◌≡◌};
-ghost use Rattle.conversion.specs.Answers.{valid_says};
+ghost use Rattle.std.specs.Prelude.{◌≡◌, length, nat_lt};
 ghost use Rattle.kept.specs.State.{year_numbers};
 ghost use Rattle.kept.specs.Operations.{take_rules, append_row, forgotten};
 ghost use Rattle.kept.specs.Held.{stored_says};
@@ -8,24 +7,33 @@ ghost use Rattle.shelf.specs.Numbers.{laid};
 ghost use Rattle.panel.specs.Boundary.{code, gives, table};
 ghost use Rattle.panel.specs.Keeping.{Keeping, start_in, kept_done, kept_years, placed_by};
 
-use crate::table_of;
-use conversion::Validity;
-use kept::{Done, StoredYears};
+use crate::{code, table_of};
+use kept::{After, StoredYears};
 use paper::Refusal;
 
-// The number of an operation; one that is done leaves the array with the state after it.
-fn give_done(done: Done, state: &mut [u16]) -> u16
-    ensures code { result ≡ code (valid_says done.answer) }
-    ensures state { state.new ≡ placed_by (valid_says done.answer) done.state state.old }
+// Whether an array is too short for a state.
+pub fn is_short(state: &[u16]) -> bool
+    ensures { result ≡ nat_lt (length state.now) 4488 }
 {
-    let answer = done.answer;
-    match answer {
-        Validity::Valid => {
-            shelf::put(done.state, state);
-            0
-        }
-        Validity::Refused(k) => k.number(),
+    state.len() < 4488
+}
+
+// The array with the state after an answer; a refusal leaves it.
+pub fn keep<T: Copy>(asked: After<T>, state: &mut [u16])
+    ensures { state.new ≡ placed_by asked.answer asked.state state.old }
+{
+    if asked.answer.is_ok() {
+        shelf::put(asked.state, state);
     }
+}
+
+// The number of an operation; one that is done leaves the array with the state after it.
+fn give_done(done: After<()>, state: &mut [u16]) -> u16
+    ensures code { result ≡ code done.answer }
+    ensures state { state.new ≡ placed_by done.answer done.state state.old }
+{
+    keep(done, state);
+    code(done.answer)
 }
 
 // How many years are stored, the first and the last, where they are asked for.
@@ -67,17 +75,14 @@ pub extern "C" fn panel_kept_start(
         (laid state.old) state.old }
 {
     let started = kept::start(table_of(first_year, first_ad_year, first_ad_month, first_ad_day));
-    let answer = started.answer;
-    match answer {
-        Validity::Refused(k) => k.number(),
-        Validity::Valid => {
-            if state.len() < 4488 {
-                return Refusal::NoRoom.number();
-            }
-            shelf::put(started.state, state);
-            0
-        }
+    if let Err(k) = started.answer {
+        return k.number();
     }
+    if is_short(state) {
+        return Refusal::NoRoom.number();
+    }
+    shelf::put(started.state, state);
+    0
 }
 
 // Other rules in place of the state's own, and no stored year: 9 (the array), 2.
@@ -86,7 +91,7 @@ pub extern "C" fn panel_kept_take_rules(state: &mut [u16], rules: &[u16]) -> u16
     ensures { Keeping state.old result state.old state.new
         (λ σ. kept_done state.old (take_rules σ rules.now)) }
 {
-    if state.len() < 4488 {
+    if is_short(state) {
         return Refusal::NoRoom.number();
     }
     let done = kept::take_rules(shelf::kept_of(state), rules);
@@ -99,7 +104,7 @@ pub extern "C" fn panel_kept_append_row(state: &mut [u16], row: &[u16]) -> u16
     ensures { Keeping state.old result state.old state.new
         (λ σ. kept_done state.old (append_row σ row.now)) }
 {
-    if state.len() < 4488 {
+    if is_short(state) {
         return Refusal::NoRoom.number();
     }
     let done = kept::append_row(shelf::kept_of(state), row);
@@ -112,7 +117,7 @@ pub extern "C" fn panel_kept_forget(state: &mut [u16]) -> u16
     ensures { Keeping state.old result state.old state.new
         (λ σ. (0, laid state.old (forgotten σ))) }
 {
-    if state.len() < 4488 {
+    if is_short(state) {
         return Refusal::NoRoom.number();
     }
     let after = kept::forget(shelf::kept_of(state));
@@ -131,7 +136,7 @@ pub extern "C" fn panel_kept_stored(
     ensures { Keeping state.now result (count.old, first.old, last.old)
         (count.new, first.new, last.new) (λ σ. kept_years (year_numbers σ.stored)) }
 {
-    if state.len() < 4488 {
+    if is_short(state) {
         return Refusal::NoRoom.number();
     }
     give_stored(kept::stored(shelf::kept_of(state)), count, first, last)

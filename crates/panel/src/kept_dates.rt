@@ -5,6 +5,7 @@ ghost use Rattle.panel.specs.Keeping.{Keeping};
 
 use crate::conversions::give_bs;
 use crate::dates::give_date;
+use crate::keeping::is_short;
 use conversion::BsDate;
 use kept::converting;
 use paper::Refusal;
@@ -24,7 +25,7 @@ pub extern "C" fn panel_kept_bs_to_ad(
         (ad_year.new, ad_month.new, ad_day.new)
         (λ σ. gives (ask_to_ad σ year month day) numbers (ad_year.old, ad_month.old, ad_day.old)) }
 {
-    if state.len() < 4488 {
+    if is_short(state) {
         return Refusal::NoRoom.number();
     }
     give_date(
@@ -58,7 +59,7 @@ pub extern "C" fn panel_kept_ad_to_bs(
         (λ σ. gives_told days_in (ask_from_ad σ year month day) bs_numbers
         ((bs_year.old, bs_month.old, bs_day.old), (days_before.old, days_after.old))) }
 {
-    if state.len() < 4488 {
+    if is_short(state) {
         return Refusal::NoRoom.number();
     }
     give_bs(

@@ -1,23 +1,12 @@
 // A day's festivals from a kept state in an array of the caller's.
-ghost use Rattle.std.specs.Prelude.{◌≡◌};
-ghost use Rattle.festivals.specs.Answers.{list_says};
 ghost use Rattle.kept.specs.Operations.{ask_bs, ask_ad};
-ghost use Rattle.panel.specs.Keeping.{Keeping, kept_list, kept_list_ad, placed_by};
+ghost use Rattle.panel.specs.Keeping.{Keeping, kept_list, kept_list_ad};
 
-use crate::day_lists::{give_count, give_count_or_days};
-use festivals::ListAnswer;
-use kept::{Kept, asking};
+use crate::day_lists::give_count_or_days;
+use crate::give;
+use crate::keeping::{is_short, keep};
+use kept::asking;
 use paper::Refusal;
-
-// The array with the state after an answer; a refusal leaves it.
-fn keep_list(answer: ListAnswer, after: Kept, state: &mut [u16])
-    ensures { state.new ≡ placed_by (list_says answer) after state.old }
-{
-    match answer {
-        ListAnswer::Count(_) => shelf::put(after, state),
-        ListAnswer::Refused(_) => (),
-    }
-}
 
 // The festivals of a BS date, as name, holiday, at the front of a lent buffer, and how many: 9 (the array), 13, 4, 5, 6, 9.
 #[unsafe(no_mangle)]
@@ -33,13 +22,12 @@ pub extern "C" fn panel_kept_festivals_on(
         (count.new, (festivals.new, state.new))
         (λ σ. kept_list state.old (ask_bs σ year month day festivals.old) count.old) }
 {
-    if state.len() < 4488 {
+    if is_short(state) {
         return Refusal::NoRoom.number();
     }
     let asked = asking::ask_bs(shelf::kept_of(state), year, month, day, festivals);
-    let answer = asked.answer;
-    keep_list(answer, asked.state, state);
-    give_count(answer, count)
+    keep(asked, state);
+    give(asked.answer, count)
 }
 
 // The festivals of a Gregorian date, as name, holiday, at the front of a lent buffer, and how many; or how far outside the table the date lies:
@@ -61,11 +49,10 @@ pub extern "C" fn panel_kept_festivals_on_ad(
         (λ σ. kept_list_ad state.old (ask_ad σ year month day festivals.old)
         (count.old, (days_before.old, days_after.old))) }
 {
-    if state.len() < 4488 {
+    if is_short(state) {
         return Refusal::NoRoom.number();
     }
     let asked = asking::ask_ad(shelf::kept_of(state), year, month, day, festivals);
-    let answer = asked.answer;
-    keep_list(answer, asked.state, state);
-    give_count_or_days(answer, count, days_before, days_after)
+    keep(asked, state);
+    give_count_or_days(asked.answer, count, days_before, days_after)
 }

@@ -1,25 +1,12 @@
 // A month from a kept state in an array of the caller's.
-ghost use Rattle.std.specs.Prelude.{◌≡◌};
 ghost use Rattle.conversion.specs.Flat.{date};
-ghost use Rattle.grid.specs.Month.{grid_says};
 ghost use Rattle.kept.specs.Operations.{ask_month};
-ghost use Rattle.panel.specs.Keeping.{Keeping, kept_month, placed_by};
+ghost use Rattle.panel.specs.Keeping.{Keeping, kept_month};
 
+use crate::keeping::{is_short, keep};
 use crate::months::give_grid;
 use gregorian::Date;
-use grid::GridAnswer;
-use kept::Kept;
 use paper::Refusal;
-
-// The array with the state after an answer; a refusal leaves it.
-fn keep_month(answer: GridAnswer, after: Kept, state: &mut [u16])
-    ensures { state.new ≡ placed_by (grid_says answer) after state.old }
-{
-    match answer {
-        GridAnswer::Is(_) => shelf::put(after, state),
-        GridAnswer::Refused(_) => (),
-    }
-}
 
 // A month in cells of twelve numbers, in weeks from Sunday, and its days' festivals as name, holiday, each at the front of a lent buffer; its days, its first
 // and last Gregorian date, and how many cells and festivals: 9 (the array), 13, 3 (today), 4, 5, 9.
@@ -70,7 +57,7 @@ pub extern "C" fn panel_kept_month_grid(
           festival_count.old,
         )) }
 {
-    if state.len() < 4488 {
+    if is_short(state) {
         return Refusal::NoRoom.number();
     }
     let today = Date {
@@ -86,10 +73,9 @@ pub extern "C" fn panel_kept_month_grid(
         cells,
         festivals,
     );
-    let answer = asked.answer;
-    keep_month(answer, asked.state, state);
+    keep(asked, state);
     give_grid(
-        answer,
+        asked.answer,
         days,
         from_year,
         from_month,

@@ -1,33 +1,33 @@
 // Months: stepping from one to another, and the cells of one.
 ghost use Rattle.std.specs.Prelude.{◌≡◌};
-ghost use Rattle.grid.specs.Step.{step_month, step_says};
-ghost use Rattle.grid.specs.Month.{grid_says};
+ghost use Rattle.grid.specs.Step.{step_month};
 ghost use Rattle.grid.specs.Kathmandu.{month_shown};
 ghost use Rattle.conversion.specs.Flat.{date};
 ghost use Rattle.panel.specs.Boundary.{gives, month_of, month_numbers, gives_month, table, lent};
 
 use crate::table_of;
 use gregorian::Date;
-use grid::{GridAnswer, StepAnswer};
+use grid::{BsMonth, Month};
+use paper::Answer;
 
 // A month's two numbers where they are asked for.
-fn give_month(answer: StepAnswer, year: &mut u16, month: &mut u8) -> u16
+fn give_month(answer: Answer<BsMonth>, year: &mut u16, month: &mut u8) -> u16
     ensures { (result, (year.new, month.new))
-        ≡ gives (step_says answer) month_of (year.old, month.old) }
+        ≡ gives answer month_of (year.old, month.old) }
 {
     match answer {
-        StepAnswer::Month(stepped) => {
+        Ok(stepped) => {
             *year = stepped.year;
             *month = stepped.month;
             0
         }
-        StepAnswer::Refused(k) => k.number(),
+        Err(k) => k.number(),
     }
 }
 
 // A month's days, its first and last Gregorian date and its counts where they are asked for.
 pub fn give_grid(
-    answer: GridAnswer,
+    answer: Answer<Month>,
     days: &mut u16,
     from_year: &mut u16,
     from_month: &mut u16,
@@ -48,7 +48,7 @@ pub fn give_grid(
         festival_count.new,
       ),
     )
-        ≡ gives (grid_says answer) month_numbers (
+        ≡ gives answer month_numbers (
           days.old,
           (from_year.old, from_month.old, from_day.old),
           (to_year.old, to_month.old, to_day.old),
@@ -57,7 +57,7 @@ pub fn give_grid(
         ) }
 {
     match answer {
-        GridAnswer::Is(shown) => {
+        Ok(shown) => {
             *days = shown.days;
             *from_year = shown.first.year;
             *from_month = shown.first.month;
@@ -69,7 +69,7 @@ pub fn give_grid(
             *festival_count = shown.festivals;
             0
         }
-        GridAnswer::Refused(k) => k.number(),
+        Err(k) => k.number(),
     }
 }
 

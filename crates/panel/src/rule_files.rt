@@ -1,51 +1,32 @@
 // Rules as a text file, read and written.
 ghost use Rattle.std.specs.Prelude.{◌≡◌};
-ghost use Rattle.rulefile.specs.Files.{read_says, written_says, read_into, write_into};
-ghost use Rattle.panel.specs.Boundary.{gives, line_in, number_and, gives_told, gives_read, gives_written};
+ghost use Rattle.rulefile.specs.Files.{read_into, write_into};
+ghost use Rattle.panel.specs.Boundary.{line_in, number_and, gives_told, gives_read, gives_written};
 
-use paper::{Refusal, Told};
-use rulefile::{FileRead, FileWritten};
+use crate::give;
+use paper::{Answer, Refusal, Told};
 
 // The number of a refusal, and the line that it tells where that is asked for.
 fn give_line(refusal: Refusal, line: &mut usize) -> u16
     ensures { (result, line.new) ≡ number_and line_in refusal line.old }
 {
-    let told = refusal.told();
-    match told {
-        Told::Before(_) => refusal.number(),
-        Told::After(_) => refusal.number(),
-        Told::Line(k) => {
-            *line = k;
-            refusal.number()
-        }
-        Told::Nothing => refusal.number(),
+    if let Some(Told::Line(k)) = refusal.told() {
+        *line = k;
     }
+    refusal.number()
 }
 
 // The number of rules where it is asked for, and with 12 the line.
-fn give_rules(answer: FileRead, count: &mut usize, line: &mut usize) -> u16
-    ensures { (result, (count.new, line.new)) ≡ gives_told line_in (read_says answer) (λ n. n)
+fn give_rules(answer: Answer<usize>, count: &mut usize, line: &mut usize) -> u16
+    ensures { (result, (count.new, line.new)) ≡ gives_told line_in answer (λ n. n)
         (count.old, line.old) }
 {
     match answer {
-        FileRead::Rules(n) => {
+        Ok(n) => {
             *count = n;
             0
         }
-        FileRead::Refused(k) => give_line(k, line),
-    }
-}
-
-// The number of bytes where it is asked for.
-fn give_bytes(answer: FileWritten, bytes: &mut usize) -> u16
-    ensures { (result, bytes.new) ≡ gives (written_says answer) (λ x. x) bytes.old }
-{
-    match answer {
-        FileWritten::Bytes(n) => {
-            *bytes = n;
-            0
-        }
-        FileWritten::Refused(k) => k.number(),
+        Err(k) => give_line(k, line),
     }
 }
 
@@ -69,5 +50,5 @@ pub extern "C" fn panel_write_rules(rules: &[u16], text: &mut [u8], bytes: &mut 
     ensures { ((result, bytes.new), text.new)
         ≡ gives_written (write_into rules.now text.old) bytes.old }
 {
-    give_bytes(rulefile::write_rules(rules, text), bytes)
+    give(rulefile::write_rules(rules, text), bytes)
 }

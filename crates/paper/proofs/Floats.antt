@@ -5,7 +5,7 @@ use native.Mathlib.Nat.{le_trans, le_of_eq, mul-pos, mul-mul-mul_comm, add-mul, 
 use native.Mathlib.Omega.{arith}
 use mathlib.Core.Bool.{true, false}
 use lib.IntN.{pos}
-use lib.Dec.{T, ltb, lt→ltb}
+use lib.Dec.{T, lt→ltb}
 use lib.Ieee.{Float, nan, inf, fin, Format, up, down, round, add, le, lt, to_unsigned}
 use lib.Ieee.Fits.{down_pos}
 use lib.Ieee.Nearest.{div_mono}

@@ -2,11 +2,13 @@
 -- Assumes nothing.
 use mathlib.Core.Path.{◌≡◌, refl, sym, subst}
 use mathlib.Core.Bool.{Bool, true, false, ◌&&◌, true≢false}
-use mathlib.Core.Logic.{◌⊎◌, inl, inr}
+use mathlib.Core.Logic.{◌⊎◌, inl, inr, ⊎_elim}
 use Prim.Native.Nat.{ℕ, zero, suc, ◌≤◌, ◌<◌}
 use native.Mathlib.Nat.{not-suc-le-zero, le_of_suc-le-suc, eq-or-lt_of_le}
+use native.Mathlib.Omega.{arith}
 use lib.Dec.{T, leb}
-use borrow.Author.Tests.{leb-true, leb-false}
+use borrow.Author.Tests.{leb-true, leb-false, le-leb, lt-leb, lt-ltb, le-ltb, eq-eqb, ne_eqb}
+use Rattle.std.specs.Ordering.{nat_cmp, is_le}
 
 -- a test that passes is true, one that cannot pass is false
 pub T_true : (b : Bool) → T b → b ≡ true
@@ -71,3 +73,13 @@ never false h = refl
 pub and_never : (a b : Bool) → (a ≡ true → b ≡ true → ⊥) → (a && b) ≡ false
 and_never true b h = never b (h refl)
 and_never false b h = refl
+
+-- whether a range `a..=b` holds x, in the words of these tests
+at_most_is : (a b : ℕ) → is_le (nat_cmp a b) ≡ leb a b
+at_most_is a b =
+    ⊎_elim
+    (λ l. ⊎_elim (λ q. let e : a ≡ b = omega arith in rw e (simp (le-ltb b b (omega arith), eq-eqb b b refl, le-leb b b (omega arith)))) (λ q. simp (lt-ltb a b q, le-leb a b l)) (split b a))
+    (λ l. let n : b ≤ a = omega arith in let m : a ≡ b → ⊥ = λ e. omega arith in simp (le-ltb a b n, ne_eqb a b m, lt-leb a b l)) (split a b)
+
+pub in_range_is : (a b x : ℕ) → (is_le (nat_cmp a x) && is_le (nat_cmp x b)) ≡ (leb a x && leb x b)
+in_range_is a b x = rw (at_most_is a x, at_most_is x b)

@@ -1,5 +1,5 @@
 -- The numbers of the refusals in docs/RULES.md, and what is told beside them. Assumes nothing.
-use Rattle.std.specs.Prelude.{ℕ}
+use Rattle.std.specs.Prelude.{ℕ, Option, Some, None}
 use Rattle.paper.specs.declared.Refusal.{Refusal}
 use Rattle.paper.specs.declared.Refusal.TheVariants as R
 use Rattle.paper.specs.declared.Told.{Told}
@@ -22,18 +22,18 @@ number (R.OutOfForm k) = 12
 number R.NoRow = 13
 
 -- 7 tells the days before the first day of the table or after its last, 12 the first line that is out of form; the others tell nothing
-abbrev pub told : Refusal → Told
-told R.BadTable = T.Nothing
-told R.BadRules = T.Nothing
-told R.NoSuchDate = T.Nothing
-told R.NoYear = T.Nothing
-told R.NoMonth = T.Nothing
-told R.NoDay = T.Nothing
-told (R.Before days) = T.Before days
-told (R.After days) = T.After days
-told R.OutOfRange = T.Nothing
-told R.NoRoom = T.Nothing
-told R.OffTable = T.Nothing
-told R.NotEnded = T.Nothing
-told (R.OutOfForm k) = T.Line k
-told R.NoRow = T.Nothing
+abbrev pub told : Refusal → Option Told
+told R.BadTable = None
+told R.BadRules = None
+told R.NoSuchDate = None
+told R.NoYear = None
+told R.NoMonth = None
+told R.NoDay = None
+told (R.Before days) = Some (T.Before days)
+told (R.After days) = Some (T.After days)
+told R.OutOfRange = None
+told R.NoRoom = None
+told R.OffTable = None
+told R.NotEnded = None
+told (R.OutOfForm k) = Some (T.Line k)
+told R.NoRow = None

@@ -6,7 +6,7 @@ use mathlib.Core.List.{List, [], ◌++◌}
 use native.Mathlib.Omega.{arith}
 use borrow.Author.Tests.{le-leb, eq-eqb}
 use lib.ListN.{length, take, drop, length-drop}
-use lib.Seq.{length-take-le, get_or-take, take-add}
+use lib.Seq.{length-take-le, get_or-take, take-add, take_all}
 use Rattle.paper.specs.Sums.{sum, all}
 use Rattle.paper.proofs.Sums.{sum_ext, sum_mono, sum_past, all_at, all_every}
 use Rattle.paper.proofs.Tests.{and_left, and_both}
@@ -17,8 +17,7 @@ use Rattle.conversion.proofs.Rows.{row_total, row_lens}
 use Rattle.conversion.proofs.Accepted.{from_1901, to_2099, facts, accepted_by}
 use Rattle.rules.specs.Rules.{accepted_rules}
 use Rattle.kept.specs.declared.Kept.{Kept}
-use Rattle.kept.specs.declared.Started.{Started}
-use Rattle.kept.specs.declared.Done.{Done}
+use Rattle.kept.specs.declared.After.{After}
 use Rattle.kept.specs.State.{startable}
 use Rattle.kept.specs.Operations.{empty, take_rules, append_row}
 use Rattle.kept.specs.Held.{held, Ready, Holds, StartedAs, DoneAs}
@@ -85,10 +84,10 @@ pub accepted_held : (t : Table) (rows : List ℕ) → accepted t rows ≡ true �
 accepted_held t rows e = let a = (facts t rows e).frame in not_empty rows (λ z. omega arith)
 
 -- a state that is started holds its table and no row
-pub table_held : {t : Table} {r : Started} → StartedAs r t → r.state.table ≡ t
+pub table_held : {t : Table} {r : After Unit} → StartedAs r t → r.state.table ≡ t
 table_held s = ap (λ (k : Kept). k.table) s.is
 
-pub none_held : (t : Table) (rows : List ℕ) (r : Started) → accepted t rows ≡ true → StartedAs r t → Holds r.state (state_of r.state.table [] [])
+pub none_held : (t : Table) (rows : List ℕ) (r : After Unit) → accepted t rows ≡ true → StartedAs r t → Holds r.state (state_of r.state.table [] [])
 none_held t rows r e s = subst⁻¹ (λ (x : Table). Holds r.state (state_of x [] [])) (table_held s) (s.ready (s.answer ∙ sym (started t (accepted_start t rows e))))
 
 -- where a row is left
@@ -97,7 +96,7 @@ row_left t rows n e h z = let a = (facts t rows e).frame in (omega arith, omega 
 
 -- with the first rows and the next it holds the next
 pub next_held : (t : Table) (rows : List ℕ) (n : ℕ) → accepted t rows ≡ true → n < length rows → n % 13 ≡ 0 → (k : Kept) → Holds k (state_of t (take n rows) [])
-    → (row : List ℕ) → row ≡ take (n + 13 - n) (drop n rows) → (r : Done) → (Ready k → DoneAs r (append_row (held k) row)) → Holds r.state (state_of t (take (n + 13) rows) [])
+    → (row : List ℕ) → row ≡ take (n + 13 - n) (drop n rows) → (r : After Unit) → (Ready k → DoneAs r (append_row (held k) row)) → Holds r.state (state_of t (take (n + 13) rows) [])
 next_held t rows n e h z k w row f r d =
     let a = row_left t rows n e h z in
     let m : n + 13 - n ≡ 13 = omega arith in
@@ -107,7 +106,19 @@ next_held t rows n e h z k w row f r d =
     let q = appended (state_of t (take n rows) []) row l (rw p at g) in
     rw p (rw (w.state, q) at (d w.ready).holds)
 
+-- row i is the next after the first i, and after the last of them all are held
+pub turn_held : (t : Table) (rows : List ℕ) (i : ℕ) → accepted t rows ≡ true → i < length rows / 13 → (k : Kept) → Holds k (state_of t (take (13 * i) rows) [])
+    → (row : List ℕ) → row ≡ take (13 * i + 13 - 13 * i) (drop (13 * i) rows) → (r : After Unit) → (Ready k → DoneAs r (append_row (held k) row)) → Holds r.state (state_of t (take (13 * (i + 1)) rows) [])
+turn_held t rows i e h k w row f r d =
+    let s : 13 * (i + 1) ≡ 13 * i + 13 = omega arith in
+    rw s (next_held t rows (13 * i) e (omega arith) (omega arith) k w row f r d)
+
+pub all_held : (t : Table) (rows : List ℕ) (i : ℕ) → accepted t rows ≡ true → length rows / 13 ≤ i → (k : Kept) → Holds k (state_of t (take (13 * i) rows) []) → Holds k (state_of t rows [])
+all_held t rows i e h k w =
+    let a = (facts t rows e).frame in
+    rw (take_all (13 * i) rows (omega (arith, a.whole))) at w
+
 -- and with the rules all
 pub rules_held : (t : Table) (rows rules : List ℕ) → accepted_rules rules ≡ true → (k : Kept) → Holds k (state_of t rows [])
-    → (r : Done) → (Ready k → DoneAs r (take_rules (held k) rules)) → Holds r.state (state_of t rows rules)
+    → (r : After Unit) → (Ready k → DoneAs r (take_rules (held k) rules)) → Holds r.state (state_of t rows rules)
 rules_held t rows rules e k w r d = rw (w.state, taken (state_of t rows []) rules e) at (d w.ready).holds

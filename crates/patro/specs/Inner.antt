@@ -1,24 +1,22 @@
 -- What the inner functions promise each other. Assumes nothing.
-use Rattle.std.specs.Prelude.{ℕ, ◌≡◌, List, []}
+use Rattle.std.specs.Prelude.{ℕ, ◌≡◌, List, [], Err, Ok}
 use Rattle.paper.specs.declared.Refusal.{Refusal}
-use Rattle.paper.specs.Answers.{Answer, answered, refused}
+use Rattle.paper.specs.Answers.{Answer}
 use Rattle.gregorian.specs.declared.Date.{Date}
 use Rattle.text.specs.Written.{Wrote}
 use Rattle.conversion.specs.declared.Table.{Table}
+use Rattle.kept.specs.declared.After.{After}
 use Rattle.kept.specs.State.{State}
 use Rattle.kept.specs.Operations.{forgotten}
 use Rattle.kept.specs.Held.{held, Ready}
 use Rattle.patro.specs.declared.pages.Part.TheVariants.{Whole}
-use Rattle.patro.specs.declared.pages.Laid.{Laid}
-use Rattle.patro.specs.declared.pages.Laid.TheVariants as L
-use Rattle.patro.specs.declared.pages.Drawn.{Drawn}
 use Rattle.patro.specs.Pages.{page_bs}
 use Rattle.patro.specs.Years.{spaced, year_page}
 
 -- a page drawn in a buffer from a place on, as far as the buffer goes, or its refusal; what a refusal leaves in the buffer is open
-pub record Draws (a : Answer (List ℕ)) (out : List ℕ) (at : ℕ) (after : List ℕ) (r : Laid) : Type 0 where
-  pub page : (n : ℕ) → r ≡ L.Bytes n → (text : List ℕ) × ((a ≡ answered text) × Wrote out at text after n)
-  pub refusal : (why : Refusal) → r ≡ L.Refused why → a ≡ refused why
+pub record Draws (a : Answer (List ℕ)) (out : List ℕ) (at : ℕ) (after : List ℕ) (r : Answer ℕ) : Type 0 where
+  pub page : (n : ℕ) → r ≡ Ok n → (text : List ℕ) × ((a ≡ Ok text) × Wrote out at text after n)
+  pub refusal : (why : Refusal) → r ≡ Err why → a ≡ Err why
 
 -- ---- over a kept state
 
@@ -38,7 +36,7 @@ module _ (σ : State) (names : List ℕ) (today : Date) (y : ℕ) where
   year_of = year_page σ.table σ.rows σ.rules names today y
 
 -- a page drawn over a state, which then holds the same table and rules
-pub record DrawsKept (σ : State) (page : Answer (List ℕ)) (out : List ℕ) (at : ℕ) (after : List ℕ) (r : Drawn) : Type 0 where
-  pub laid : Draws page out at after r.laid
+pub record DrawsKept (σ : State) (page : Answer (List ℕ)) (out : List ℕ) (at : ℕ) (after : List ℕ) (r : After ℕ) : Type 0 where
+  pub laid : Draws page out at after r.answer
   pub ready : Ready r.state
   pub same : forgotten (held r.state) ≡ forgotten σ

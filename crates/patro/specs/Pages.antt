@@ -1,6 +1,6 @@
 -- The page that is asked for, and the page in a lent buffer. Assumes nothing.
-use Rattle.std.specs.Prelude.{ℕ, ◌/◌, ◌≡◌, cond, ◌&&◌, List, leb, length, replicate}
-use Rattle.paper.specs.Answers.{Answer, answered, refused, given, then}
+use Rattle.std.specs.Prelude.{ℕ, ◌/◌, ◌≡◌, cond, ◌&&◌, List, leb, length, replicate, Err, Ok}
+use Rattle.paper.specs.Answers.{Answer, given, then}
 use Rattle.paper.specs.declared.Refusal.TheVariants.{NoDay, NoRoom}
 use Rattle.gregorian.specs.declared.Date.{Date}
 use Rattle.conversion.specs.declared.Table.{Table}
@@ -17,8 +17,6 @@ use Rattle.commands.specs.declared.words.Asked.{Asked}
 use Rattle.commands.specs.declared.words.Asked.TheVariants as A
 use Rattle.patro.specs.declared.pages.Part.{Part}
 use Rattle.patro.specs.declared.pages.Part.TheVariants as P
-use Rattle.patro.specs.declared.pages.Laid.{Laid}
-use Rattle.patro.specs.declared.pages.Laid.TheVariants as L
 
 -- ---- a page
 
@@ -36,9 +34,9 @@ titled y m x = record { year = y; month = m; first = x.first; last = x.last; wee
 
 -- the whole month, or one of its days: refusal 6 where the day is 0 or past the month's end
 unfoldable pub part_page : List ℕ → ℕ → ℕ → Part → Month → List ℕ → List ℕ → Answer (List ℕ)
-part_page names y m P.Whole x cells festivals = answered (month_page (titled y m x) names cells festivals)
+part_page names y m P.Whole x cells festivals = Ok (month_page (titled y m x) names cells festivals)
 part_page names y m (P.Day d) x cells festivals =
-    given (leb 1 d && leb d x.days) NoDay (answered (day_page y m (cell_of d cells) names cells festivals))
+    given (leb 1 d && leb d x.days) NoDay (Ok (day_page y m (cell_of d cells) names cells festivals))
 
 -- the month as the engine shows it in buffers of zeros for six weeks and for every list of a month: refusals 1, 2, 3 (today), 4, 5, 9
 abbrev pub month_in : Table → List ℕ → List ℕ → Date → ℕ → ℕ → Shown
@@ -66,17 +64,13 @@ pub record Laying : Type 0 where
 
 -- a page of at most 262,143 bytes that is no longer than the buffer stands at its front: refusal 9. A refusal changes nothing
 unfoldable pub laid : Answer (List ℕ) → List ℕ → Laying
-laid (answered text) out =
+laid (Ok text) out =
     cond (leb (length text) 262143 && leb (length text) (length out))
-    (record { answer = answered (length text); out = over text out })
-    (record { answer = refused NoRoom; out = out })
-laid (refused k) out = record { answer = refused k; out = out }
-
-abbrev pub laid_says : Laid → Answer ℕ
-laid_says (L.Bytes n) = answered n
-laid_says (L.Refused why) = refused why
+    (record { answer = Ok (length text); out = over text out })
+    (record { answer = Err NoRoom; out = out })
+laid (Err k) out = record { answer = Err k; out = out }
 
 -- an answer and a buffer as they are to be
-pub record Lays (w : Laying) (after : List ℕ) (r : Laid) : Type 0 where
-  pub says : laid_says r ≡ w.answer
+pub record Lays (w : Laying) (after : List ℕ) (r : Answer ℕ) : Type 0 where
+  pub says : r ≡ w.answer
   pub stored : after ≡ w.out

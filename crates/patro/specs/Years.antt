@@ -1,19 +1,14 @@
 -- The page of a BS year, and what words want. Assumes nothing.
-use Rattle.std.specs.Prelude.{ℕ, zero, suc, ◌+◌, cond, List, [], ◌++◌, eqb}
-use Rattle.paper.specs.Answers.{Answer, answered, then}
+use Rattle.std.specs.Prelude.{ℕ, zero, suc, ◌+◌, cond, List, [], ◌++◌, eqb, None, Ok, Option, Some}
+use Rattle.paper.specs.Answers.{Answer, then}
 use Rattle.gregorian.specs.declared.Date.{Date}
 use Rattle.conversion.specs.declared.Table.{Table}
 use Rattle.wall.specs.Pages.{feed}
-use Rattle.commands.specs.declared.words.Words.{Words}
-use Rattle.commands.specs.declared.words.Words.TheVariants as Q
-use Rattle.commands.specs.declared.words.Year.{Year}
-use Rattle.commands.specs.declared.words.Year.TheVariants as Y
 use Rattle.patro.specs.declared.pages.Part.TheVariants.{Whole}
 use Rattle.patro.specs.declared.wanted.Wanted.{Wanted}
 use Rattle.patro.specs.declared.wanted.Wanted.TheVariants as W
-use Rattle.patro.specs.declared.wanted.Wish.{Wish}
-use Rattle.patro.specs.declared.wanted.Wish.TheVariants as I
 use Rattle.patro.specs.Pages.{page_bs, page_asked}
+use Rattle.commands.specs.declared.words.Asked.{Asked}
 
 -- ---- a year
 
@@ -23,7 +18,7 @@ gap m = cond (eqb m 1) [] feed
 
 -- a text, and what is answered behind it
 abbrev pub behind : List ℕ → Answer (List ℕ) → Answer (List ℕ)
-behind text a = then a (λ rest. answered (text ++ rest))
+behind text a = then a (λ rest. Ok (text ++ rest))
 
 module _ (t : Table) (rows rules names : List ℕ) (today : Date) (y : ℕ) where
   -- the page of a month with what stands before it
@@ -32,7 +27,7 @@ module _ (t : Table) (rows rules names : List ℕ) (today : Date) (y : ℕ) wher
 
   -- the pages of so many months from month m on, or the refusal of the first that is refused
   unfoldable pub months_from : ℕ → ℕ → Answer (List ℕ)
-  months_from m zero = answered []
+  months_from m zero = Ok []
   months_from m (suc k) = then (spaced m) (λ page. behind page (months_from (m + 1) k))
 
   -- the year: its twelve months
@@ -47,7 +42,7 @@ page_wanted t rows rules names today (W.Page asked) = page_asked t rows rules na
 page_wanted t rows rules names today (W.Year y) = year_page t rows rules names today y
 
 -- a word that is a year wants its page, other words what they ask
-abbrev pub wished : Year → Words → Wish
-wished (Y.Is y) w = I.Is (W.Year y)
-wished Y.Not (Q.Ask asked) = I.Is (W.Page asked)
-wished Y.Not Q.Other = I.Other
+abbrev pub wished : Option ℕ → Option Asked → Option Wanted
+wished (Some y) w = Some (W.Year y)
+wished None (Some asked) = Some (W.Page asked)
+wished None None = None

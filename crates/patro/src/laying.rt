@@ -1,16 +1,14 @@
 // What is wanted, laid at the front of a lent buffer.
-ghost use Rattle.std.specs.Prelude.{◌≡◌, ◌≤◌, length, take};
-ghost use Rattle.paper.specs.Answers.{answered};
+ghost use Rattle.std.specs.Prelude.{◌≡◌, ◌≤◌, length, take, Ok};
 ghost use Rattle.patro.specs.Pages.{laid, Lays};
 ghost use Rattle.patro.specs.Years.{page_wanted};
 ghost use Rattle.patro.specs.Inner.{Draws};
 
-use crate::pages::Laid;
 use crate::wanted::Wanted;
 use crate::{pages, years};
 use conversion::Table;
 use gregorian::Date;
-use paper::Refusal;
+use paper::{Answer, Refusal};
 
 // Draws what is wanted.
 fn draw_wanted(
@@ -21,7 +19,7 @@ fn draw_wanted(
     rules: &[u16],
     names: &[u8],
     page: &mut [u8],
-) -> Laid
+) -> Answer<usize>
     ensures { Draws (page_wanted table rows.now rules.now names.now today wanted)
         page.old 0 page.new result }
 {
@@ -32,17 +30,17 @@ fn draw_wanted(
 }
 
 // Copies the first n bytes of a page, where the page ended before its own buffer did and has room in the other.
-fn copy(page: &[u8], n: usize, out: &mut [u8]) -> Laid
+fn copy(page: &[u8], n: usize, out: &mut [u8]) -> Answer<usize>
     requires { (length page.now ≡ 262144) × (n ≤ 262144) }
-    ensures { Lays (laid (answered (take n page.now)) out.old) out.new result }
+    ensures { Lays (laid (Ok (take n page.now)) out.old) out.new result }
 {
     if 262143 < n {
-        return Laid::Refused(Refusal::NoRoom);
+        return Err(Refusal::NoRoom);
     }
     if out.len() < n {
-        return Laid::Refused(Refusal::NoRoom);
+        return Err(Refusal::NoRoom);
     }
-    Laid::Bytes(text::put(out, 0, &page[..n]))
+    Ok(text::put(out, 0, &page[..n]))
 }
 
 // Lays the page that is wanted at the front of a buffer. A refusal changes no byte of it.
@@ -54,13 +52,11 @@ pub fn lay(
     rules: &[u16],
     names: &[u8],
     out: &mut [u8],
-) -> Laid
+) -> Answer<usize>
     ensures { Lays (laid (page_wanted table rows.now rules.now names.now today wanted)
         out.old) out.new result }
 {
     let mut page = [0u8; 262144];
-    match draw_wanted(wanted, today, table, rows, rules, names, &mut page) {
-        Laid::Bytes(n) => copy(&page, n, out),
-        Laid::Refused(why) => Laid::Refused(why),
-    }
+    let n = draw_wanted(wanted, today, table, rows, rules, names, &mut page)?;
+    copy(&page, n, out)
 }

@@ -10,13 +10,11 @@ mod years;
 use commands::words::Asked;
 use commands::{refusals, words};
 use conversion::Table;
-use files::{NamesRead, RulesRead, TableRead};
 use gregorian::Date;
 use output::{STDERR, STDOUT};
-use pages::Laid;
 use paper::Refusal;
 use std::rt::{Env, Files};
-use wanted::{Wanted, Wish};
+use wanted::Wanted;
 
 // Today by the fourth argument.
 fn today<R: Env>(rt: &R) -> Date {
@@ -26,7 +24,7 @@ fn today<R: Env>(rt: &R) -> Date {
 }
 
 // What the words from the fifth argument on want. A word that is longer than its buffer is empty.
-fn from_words<R: Env>(rt: &R) -> Wish {
+fn from_words<R: Env>(rt: &R) -> Option<Wanted> {
     let mut first = [0u8; 16];
     let mut second = [0u8; 16];
     let mut third = [0u8; 16];
@@ -35,7 +33,7 @@ fn from_words<R: Env>(rt: &R) -> Wish {
     let c = files::argument(rt, 7, &mut third);
     let count = files::argument_count(rt);
     if count < 5 {
-        return Wish::Other;
+        return None;
     }
     wanted::wanted_by(count - 5, &first[..a], &second[..b], &third[..c])
 }
@@ -70,8 +68,8 @@ fn write_page(page: &[u8]) {
 fn show<R: Env>(rt: &R, wanted: Wanted, table: Table, rows: &[u16], rules: &[u16], names: &[u8]) {
     let mut page = [0u8; 262143];
     match laying::lay(wanted, today(rt), table, rows, rules, names, &mut page) {
-        Laid::Bytes(n) => write_page(&page[..n]),
-        Laid::Refused(why) => refuse(why, first_page(wanted)),
+        Ok(n) => write_page(&page[..n]),
+        Err(why) => refuse(why, first_page(wanted)),
     }
 }
 
@@ -84,13 +82,13 @@ fn run<R: Env + Files>(
     rules: &mut [u16],
     names: &mut [u8],
 ) {
-    let TableRead::Is(table, n) = files::table_at(rt, 1, rows) else {
+    let Ok((table, n)) = files::table_at(rt, 1, rows) else {
         return;
     };
-    let RulesRead::Are(k) = files::rules_at(rt, 2, rules) else {
+    let Ok(k) = files::rules_at(rt, 2, rules) else {
         return;
     };
-    let NamesRead::Are(m) = files::names_at(rt, 3, names) else {
+    let Some(m) = files::names_at(rt, 3, names) else {
         return;
     };
     show(rt, wanted, table, &rows[..n], &rules[..k], &names[..m]);
@@ -101,8 +99,8 @@ fn main(rt: HostRuntime) {
     let mut rules = [0u16; 2600];
     let mut names = [0u8; 65536];
     match from_words(&rt) {
-        Wish::Is(wanted) => run(&rt, wanted, &mut rows, &mut rules, &mut names),
-        Wish::Other => {
+        Some(wanted) => run(&rt, wanted, &mut rows, &mut rules, &mut names),
+        None => {
             io::write_all(
                 STDERR,
                 b"patro: not in form: give a BS year (2083), a BS year and month (2083 7), a BS date (2083 7 29) or a Gregorian date (2026-11-15)\n",

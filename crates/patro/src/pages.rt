@@ -6,26 +6,12 @@ ghost use Rattle.patro.specs.Pages.{cell_of, titled, part_page, page_bs, page_as
 ghost use Rattle.patro.specs.Inner.{Draws, DrawsKept, month_of};
 
 use commands::words::Asked;
-use conversion::{BsAnswer, Table};
+use conversion::Table;
 use gregorian::Date;
-use grid::{GridAnswer, Month};
-use kept::Kept;
-use paper::Refusal;
+use grid::Month;
+use kept::{After, Kept};
+use paper::{Answer, Refusal};
 use wall::Page;
-
-// The place after a page in a lent buffer, or why there is no page.
-#[derive(Clone, Copy)]
-pub enum Laid {
-    Bytes(usize),
-    Refused(Refusal),
-}
-
-// A page of a state, and the state after it.
-#[derive(Clone, Copy)]
-pub struct Drawn {
-    pub laid: Laid,
-    pub state: Kept,
-}
 
 // The whole month, or one of its days.
 #[derive(Clone, Copy)]
@@ -55,14 +41,12 @@ fn cell_of(cells: &[u16], day: u16) -> u8
     requires { length cells.now ≡ 504 }
     ensures { result ≡ cell_of day cells.now }
 {
-    let mut i: u8 = 0;
-    while i < 42 {
+    for i in 0..42 {
         if cells[i as usize * 12] == day {
             return i;
         }
-        i += 1;
     }
-    i
+    42
 }
 
 // Draws a part of a month from its cells and festivals, from a place on, as far as the buffer goes.
@@ -76,7 +60,7 @@ fn draw_part(
     festivals: &[u16],
     page: &mut [u8],
     at: usize,
-) -> Laid
+) -> Answer<usize>
     requires { (m.cells ≤ 42) × (length cells.now ≡ 504) }
     ensures { Draws (part_page names.now year month part m cells.now festivals.now)
         page.old at page.new result }
@@ -84,17 +68,17 @@ fn draw_part(
     match part {
         Part::Whole => {
             let title = page_of(year, month, m);
-            Laid::Bytes(wall::put_month_page(page, at, title, names, cells, festivals))
+            Ok(wall::put_month_page(page, at, title, names, cells, festivals))
         }
         Part::Day(day) => {
             if day == 0 {
-                return Laid::Refused(Refusal::NoDay);
+                return Err(Refusal::NoDay);
             }
             if m.days < day {
-                return Laid::Refused(Refusal::NoDay);
+                return Err(Refusal::NoDay);
             }
             let cell = cell_of(cells, day);
-            Laid::Bytes(wall::put_day_page(page, at, year, month, cell, names, cells, festivals))
+            Ok(wall::put_day_page(page, at, year, month, cell, names, cells, festivals))
         }
     }
 }
@@ -110,13 +94,13 @@ fn draw_bs(
     rules: &[u16],
     names: &[u8],
     page: &mut [u8],
-) -> Laid
+) -> Answer<usize>
     ensures { Draws (page_bs table rows.now rules.now names.now today year month part)
         page.old 0 page.new result }
 {
     let mut cells = [0u16; 504];
     let mut festivals = [0u16; 24576];
-    match grid::month_grid(
+    let m = grid::month_grid(
         table,
         rows,
         rules,
@@ -125,10 +109,8 @@ fn draw_bs(
         month,
         &mut cells,
         &mut festivals,
-    ) {
-        GridAnswer::Is(m) => draw_part(names, year, month, part, m, &cells, &festivals, page, 0),
-        GridAnswer::Refused(why) => Laid::Refused(why),
-    }
+    )?;
+    draw_part(names, year, month, part, m, &cells, &festivals, page, 0)
 }
 
 // Draws the day of a Gregorian date.
@@ -140,24 +122,15 @@ fn draw_ad(
     rules: &[u16],
     names: &[u8],
     page: &mut [u8],
-) -> Laid
+) -> Answer<usize>
     ensures { Draws (page_asked table rows.now rules.now names.now today (Asked.Date date))
         page.old 0 page.new result }
 {
-    match conversion::ad_to_bs(table, rows, date.year, date.month, date.day) {
-        BsAnswer::Is(bs) => draw_bs(
-            today,
-            bs.year,
-            bs.month,
-            Part::Day(bs.day),
-            table,
-            rows,
-            rules,
-            names,
-            page,
-        ),
-        BsAnswer::Refused(why) => Laid::Refused(why),
-    }
+    let bs = conversion::ad_to_bs(table, rows, date.year, date.month, date.day)?;
+    let part = Part::Day(bs.day);
+    draw_bs(
+        today, bs.year, bs.month, part, table, rows, rules, names, page,
+    )
 }
 
 // Draws what is asked.
@@ -169,7 +142,7 @@ pub fn draw(
     rules: &[u16],
     names: &[u8],
     page: &mut [u8],
-) -> Laid
+) -> Answer<usize>
     ensures { Draws (page_asked table rows.now rules.now names.now today asked)
         page.old 0 page.new result }
 {
@@ -189,18 +162,18 @@ pub fn draw_kept(
     names: &[u8],
     page: &mut [u8],
     at: usize,
-) -> Drawn
+) -> After<usize>
     requires { Ready state × (empty (held state).rows ≡ false) }
     ensures { DrawsKept (held state) (month_of (held state) names.now today year month) page.old at page.new result }
 {
     let mut cells = [0u16; 504];
     let mut festivals = [0u16; 24576];
     let asked = kept::months::ask_month(state, today, year, month, &mut cells, &mut festivals);
-    let after = asked.state;
     let answer = asked.answer;
+    let state = asked.state;
     match answer {
-        GridAnswer::Is(m) => Drawn {
-            laid: draw_part(
+        Ok(m) => After {
+            answer: draw_part(
                 names,
                 year,
                 month,
@@ -211,11 +184,11 @@ pub fn draw_kept(
                 page,
                 at,
             ),
-            state: after,
+            state,
         },
-        GridAnswer::Refused(why) => Drawn {
-            laid: Laid::Refused(why),
-            state: after,
+        Err(why) => After {
+            answer: Err(why),
+            state,
         },
     }
 }

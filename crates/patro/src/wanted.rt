@@ -4,7 +4,7 @@ ghost use Rattle.commands.specs.Words.{asked_by, year_by};
 ghost use Rattle.patro.specs.Years.{wished};
 
 use commands::words;
-use commands::words::{Asked, Words, Year};
+use commands::words::Asked;
 
 // A page of a month or of a day, or the page of a year.
 #[derive(Clone, Copy)]
@@ -13,26 +13,13 @@ pub enum Wanted {
     Year(u16),
 }
 
-// What words want, or that they are of another form.
-#[derive(Clone, Copy)]
-pub enum Wish {
-    Is(Wanted),
-    Other,
-}
-
 // What so many words want: one word that is a number is a year.
-pub fn wanted_by(count: usize, a: &[u8], b: &[u8], c: &[u8]) -> Wish
+pub fn wanted_by(count: usize, a: &[u8], b: &[u8], c: &[u8]) -> Option<Wanted>
     ensures { result ≡ wished (year_by count a.now) (asked_by count a.now b.now c.now) }
 {
-    let year = words::year_by(count, a);
-    match year {
-        Year::Is(y) => Wish::Is(Wanted::Year(y)),
-        Year::Not => {
-            let asked = words::asked_by(count, a, b, c);
-            match asked {
-                Words::Ask(page) => Wish::Is(Wanted::Page(page)),
-                Words::Other => Wish::Other,
-            }
-        }
+    if let Some(year) = words::year_by(count, a) {
+        return Some(Wanted::Year(year));
     }
+    let page = words::asked_by(count, a, b, c)?;
+    Some(Wanted::Page(page))
 }

@@ -7,10 +7,11 @@ ghost use Rattle.kept.specs.Held.{held, Ready, Holds};
 ghost use Rattle.patro.specs.Years.{year_page};
 ghost use Rattle.patro.specs.Inner.{Draws, DrawsKept, spaced_of, year_of, state_of};
 
-use crate::pages::{Drawn, Laid, draw_kept};
-use conversion::{Table, Validity};
+use crate::pages::draw_kept;
+use conversion::Table;
 use gregorian::Date;
-use kept::Kept;
+use kept::{After, Kept};
+use paper::Answer;
 
 // A state with the rows of an accepted table, appended one after the other.
 fn append_rows(state: Kept, rows: &[u16]) -> Kept
@@ -18,12 +19,8 @@ fn append_rows(state: Kept, rows: &[u16]) -> Kept
     ensures { Holds result (state_of state.table rows.now []) }
 {
     let mut kept = state;
-    let mut at: usize = 0;
-    while at < rows.len() {
-        let end = at + 13;
-        let done = kept::append_row(kept, &rows[at..end]);
-        kept = done.state;
-        at = end;
+    for i in 0..rows.len() / 13 {
+        kept = kept::append_row(kept, &rows[13 * i..13 * i + 13]).state;
     }
     kept
 }
@@ -33,10 +30,8 @@ fn state_of(table: Table, rows: &[u16], rules: &[u16]) -> Kept
     requires { (accepted table rows.now ≡ true) × (accepted_rules rules.now ≡ true) }
     ensures { Holds result (state_of table rows.now rules.now) }
 {
-    let started = kept::start(table);
-    let first = started.state;
-    let done = kept::take_rules(append_rows(first, rows), rules);
-    done.state
+    let first = kept::start(table).state;
+    kept::take_rules(append_rows(first, rows), rules).state
 }
 
 // Draws a month behind what was drawn before it, with an empty line between two.
@@ -48,7 +43,7 @@ fn draw_next(
     names: &[u8],
     page: &mut [u8],
     at: usize,
-) -> Drawn
+) -> After<usize>
     requires { Ready state × (empty (held state).rows ≡ false) }
     ensures { DrawsKept (held state) (spaced_of (held state) names.now today year month) page.old at page.new result }
 {
@@ -60,24 +55,18 @@ fn draw_next(
 }
 
 // Draws the twelve months of a year of a state that holds a row.
-fn draw_months(state: Kept, today: Date, year: u16, names: &[u8], page: &mut [u8]) -> Laid
+fn draw_months(state: Kept, today: Date, year: u16, names: &[u8], page: &mut [u8]) -> Answer<usize>
     requires { Ready state × (empty (held state).rows ≡ false) }
     ensures { Draws (year_of (held state) names.now today year) page.old 0 page.new result }
 {
     let mut kept = state;
     let mut at: usize = 0;
-    let mut month: u16 = 1;
-    while month <= 12 {
+    for month in 1..13 {
         let drawn = draw_next(kept, today, year, month, names, page, at);
-        let laid = drawn.laid;
-        match laid {
-            Laid::Bytes(n) => at = n,
-            Laid::Refused(why) => return Laid::Refused(why),
-        }
+        at = drawn.answer?;
         kept = drawn.state;
-        month += 1;
     }
-    Laid::Bytes(at)
+    Ok(at)
 }
 
 // Draws the page of a year.
@@ -89,13 +78,10 @@ pub fn draw_year(
     rules: &[u16],
     names: &[u8],
     page: &mut [u8],
-) -> Laid
+) -> Answer<usize>
     ensures { Draws (year_page table rows.now rules.now names.now today year)
         page.old 0 page.new result }
 {
-    let lent = rules::accept(table, rows, rules);
-    match lent {
-        Validity::Refused(why) => Laid::Refused(why),
-        Validity::Valid => draw_months(state_of(table, rows, rules), today, year, names, page),
-    }
+    rules::accept(table, rows, rules)?;
+    draw_months(state_of(table, rows, rules), today, year, names, page)
 }

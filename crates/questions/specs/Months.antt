@@ -1,6 +1,6 @@
 -- What the questions about months are answered. Assumes nothing.
-use Rattle.std.specs.Prelude.{ℕ, Bool, true, false, cond, ◌||◌, List, [], ◌∷◌, ◌++◌, eqb, leb, get_or, replicate}
-use Rattle.paper.specs.Answers.{Answer, answered, refused}
+use Rattle.std.specs.Prelude.{ℕ, ℤ, Bool, true, false, cond, ◌||◌, List, [], ◌∷◌, ◌++◌, eqb, leb, get_or, replicate, Err, None, Ok, Option, Some}
+use Rattle.paper.specs.Answers.{Answer}
 use Rattle.text.specs.Digits.{digits}
 use Rattle.conversion.specs.declared.Table.{Table}
 use Rattle.conversion.specs.Calendar.{Calendar}
@@ -10,8 +10,6 @@ use Rattle.grid.specs.Kathmandu.{month_shown}
 use Rattle.grid.specs.declared.BsMonth.{BsMonth}
 use Rattle.grid.specs.declared.Month.{Month}
 use Rattle.asked.specs.Line.{whole_of}
-use Rattle.asked.specs.declared.words.Whole.{Whole}
-use Rattle.asked.specs.declared.words.Whole.TheVariants.{Is, TooLarge}
 use Rattle.asked.specs.declared.words.Words.{Words}
 use Rattle.replies.specs.declared.Reply.{Reply}
 use Rattle.replies.specs.declared.Reply.TheVariants as R
@@ -23,9 +21,9 @@ abbrev pub monthly : BsMonth → Reply
 monthly x = R.Pair x.year x.month
 
 -- a step by a whole number; one that no i32 holds is out of form
-abbrev pub step_by : Calendar → ℕ → ℕ → Whole → Reply
-step_by c y m (Is z) = said monthly (step_month c y m z)
-step_by c y m TooLarge = R.Unformed
+abbrev pub step_by : Calendar → ℕ → ℕ → Option ℤ → Reply
+step_by c y m (Some z) = said monthly (step_month c y m z)
+step_by c y m None = R.Unformed
 
 -- with its last number behind a minus sign or not; a month past 255 is out of form
 unfoldable pub stepped : Calendar → Words → Bool → Reply
@@ -37,12 +35,12 @@ step_reply c w = cond (eqb w.form 111 || eqb w.form 112) (stepped c w false) (fo
 
 -- a month's days, its first and its last date, how many cells and how many festivals; or the refusal
 abbrev pub month_words : Answer Month → List (List ℕ)
-month_words (answered m) =
+month_words (Ok m) =
     (digits 0 ∷ digits m.days ∷ [])
     ++ (date_words m.first.year m.first.month m.first.day
     ++ (date_words m.last.year m.last.month m.last.day
     ++ (digits m.cells ∷ digits m.festivals ∷ [])))
-month_words (refused k) = reply_words (R.Refused k)
+month_words (Err k) = reply_words (R.Refused k)
 
 -- the month, and both buffers after the call
 abbrev pub shown_words : Shown → List (List ℕ)

@@ -1,7 +1,7 @@
 // What each question of the line language is answered over what is lent.
 #![tactic(auto)]
 
-ghost use Rattle.std.specs.Prelude.{◌≡◌, min};
+ghost use Rattle.std.specs.Prelude.{◌≡◌};
 ghost use Rattle.conversion.specs.Flat.{flat};
 ghost use Rattle.output.specs.Gathered.{Gathers};
 ghost use Rattle.questions.specs.Questions.{reply_to, words_by, answer_words};
@@ -65,16 +65,6 @@ fn answer_over(
     }
 }
 
-// How many of the first n elements a list of so many has.
-fn front(all: usize, n: usize) -> usize
-    ensures { result ≡ min n all }
-{
-    if n <= all {
-        return n;
-    }
-    all
-}
-
 // The answer to a line, over what is lent.
 pub fn answer(
     o: Out,
@@ -89,9 +79,9 @@ pub fn answer(
         out.new result }
 {
     let table = lent.table;
-    let cells = front(rows.len(), lent.cells);
-    let numbers = front(rules.len(), lent.numbers);
-    let octets = front(text.len(), lent.octets);
+    let cells = lent.cells.min(rows.len());
+    let numbers = lent.numbers.min(rules.len());
+    let octets = lent.octets.min(text.len());
     answer_over(
         o,
         out,

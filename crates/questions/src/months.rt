@@ -1,31 +1,19 @@
 // Questions about months: `step` and `grid`.
-ghost use Rattle.std.specs.Prelude.{◌≡◌};
+ghost use Rattle.std.specs.Prelude.{◌≡◌, Ok};
 ghost use Rattle.conversion.specs.Flat.{flat};
-ghost use Rattle.paper.specs.Answers.{answered};
-ghost use Rattle.grid.specs.Step.{step_says};
-ghost use Rattle.grid.specs.Month.{grid_says};
 ghost use Rattle.grid.specs.Kathmandu.{month_shown};
 ghost use Rattle.output.specs.Gathered.{Gathers};
 ghost use Rattle.asked.specs.Line.{small};
-ghost use Rattle.replies.specs.Replies.{said, date_in};
+ghost use Rattle.replies.specs.Replies.{date_in};
 ghost use Rattle.questions.specs.Months as Months;
-ghost use Rattle.questions.specs.Months.{monthly, step_reply, month_words, shown_words, grid_words};
+ghost use Rattle.questions.specs.Months.{step_reply, month_words, shown_words, grid_words};
 
-use asked::{Whole, Words};
+use asked::Words;
 use conversion::Table;
-use grid::{GridAnswer, Month, StepAnswer};
+use grid::Month;
 use output::Out;
+use paper::Answer;
 use replies::Reply;
-
-// The reply of a month.
-fn monthly_of(a: StepAnswer) -> Reply
-    ensures { result ≡ said monthly (step_says a) }
-{
-    match a {
-        StepAnswer::Month(m) => Reply::Pair(m.year as u64, m.month as u64),
-        StepAnswer::Refused(e) => Reply::Refused(e),
-    }
-}
 
 // A month step. A month past 255 and a step that is no i32 are out of form.
 fn stepped(w: Words, minus: bool, table: Table, rows: &[u16]) -> Reply
@@ -35,13 +23,15 @@ fn stepped(w: Words, minus: bool, table: Table, rows: &[u16]) -> Reply
     if 255 < month {
         return Reply::Unformed;
     }
-    let Whole::Is(by) = w.whole(3, minus) else {
+    let Some(by) = w.whole(3, minus) else {
         return Reply::Unformed;
     };
-    monthly_of(grid::step_month(table, rows, w.small(1), month as u8, by))
+    let month = grid::step_month(table, rows, w.small(1), month as u8, by);
+    Reply::said(month, |m| Reply::Pair(m.year as u64, m.month as u64))
 }
 
 // The reply to a line `step` in form, or a question mark.
+#[tactic(auto, unfolding(crate::specs::Months::step_reply))]
 pub fn step(w: Words, table: Table, rows: &[u16]) -> Reply
     ensures { result ≡ step_reply (flat table rows.now) w }
 {
@@ -56,8 +46,9 @@ pub fn step(w: Words, table: Table, rows: &[u16]) -> Reply
 }
 
 // A month's days, its first and last date and both counts.
+#[tactic(auto, unfolding(replies::specs::Replies::reply_words), using(output::proofs::Gathering::then))]
 fn put_days(o: Out, out: &mut [u8], m: Month) -> Out
-    ensures { Gathers out.old o (month_words (answered m)) out.new result }
+    ensures { Gathers out.old o (month_words (Ok m)) out.new result }
 {
     let first = m.first;
     let last = m.last;
@@ -69,18 +60,18 @@ fn put_days(o: Out, out: &mut [u8], m: Month) -> Out
 }
 
 // The month or the refusal.
-fn put_month_words(o: Out, out: &mut [u8], a: GridAnswer) -> Out
-    ensures { Gathers out.old o (month_words (grid_says a)) out.new result }
+fn put_month_words(o: Out, out: &mut [u8], a: Answer<Month>) -> Out
+    ensures { Gathers out.old o (month_words a) out.new result }
 {
     match a {
-        GridAnswer::Is(m) => put_days(o, out, m),
-        GridAnswer::Refused(e) => Reply::Refused(e).put(o, out),
+        Ok(m) => put_days(o, out, m),
+        Err(e) => Reply::Refused(e).put(o, out),
     }
 }
 
 // The month or the refusal, and both buffers.
-pub fn put_shown(o: Out, out: &mut [u8], a: GridAnswer, cells: &[u16], list: &[u16]) -> Out
-    ensures { Gathers out.old o (shown_words (record { answer = grid_says a; cells = cells.now; festivals = list.now }))
+pub fn put_shown(o: Out, out: &mut [u8], a: Answer<Month>, cells: &[u16], list: &[u16]) -> Out
+    ensures { Gathers out.old o (shown_words (record { answer = a; cells = cells.now; festivals = list.now }))
         out.new result }
 {
     let told = put_month_words(o, out, a);

@@ -1,41 +1,21 @@
 // Questions about the rules as a text file: `readrules` and `writerules`.
-ghost use Rattle.std.specs.Prelude.{◌≡◌};
-ghost use Rattle.rulefile.specs.Files.{read_into, write_into, read_says, written_says};
+ghost use Rattle.rulefile.specs.Files.{read_into, write_into};
 ghost use Rattle.output.specs.Gathered.{Gathers};
-ghost use Rattle.replies.specs.Replies.{said};
-ghost use Rattle.replies.specs.declared.Reply.TheVariants as R;
 ghost use Rattle.questions.specs.Texts.{read_words, written_words, read_rules_words, write_rules_words};
 
 use asked::Words;
 use output::Out;
 use replies::Reply;
-use rulefile::{FileRead, FileWritten};
-
-// The reply of how many rules were read.
-fn rules_of(a: FileRead) -> Reply
-    ensures { result ≡ said R.Number (read_says a) }
-{
-    match a {
-        FileRead::Rules(n) => Reply::Number(n as u64),
-        FileRead::Refused(e) => Reply::Refused(e),
-    }
-}
-
-// The reply of how many bytes were written.
-fn bytes_of(a: FileWritten) -> Reply
-    ensures { result ≡ said R.Number (written_says a) }
-{
-    match a {
-        FileWritten::Bytes(n) => Reply::Number(n as u64),
-        FileWritten::Refused(e) => Reply::Refused(e),
-    }
-}
 
 // The rules of the text, and the buffer after the call.
 fn put_read(o: Out, out: &mut [u8], text: &[u8], list: &mut [u16]) -> Out
     ensures { Gathers out.old o (read_words (read_into text.now list.old)) out.new result }
 {
-    let counted = rules_of(rulefile::read_rules(text, list)).put(o, out);
+    let counted = Reply::said(
+        rulefile::read_rules(text, list),
+        |n| Reply::Number(n as u64),
+    )
+    .put(o, out);
     replies::put_list(counted, out, list)
 }
 
@@ -43,7 +23,11 @@ fn put_read(o: Out, out: &mut [u8], text: &[u8], list: &mut [u16]) -> Out
 fn put_written(o: Out, out: &mut [u8], rules: &[u16], list: &mut [u8]) -> Out
     ensures { Gathers out.old o (written_words (write_into rules.now list.old)) out.new result }
 {
-    let counted = bytes_of(rulefile::write_rules(rules, list)).put(o, out);
+    let counted = Reply::said(
+        rulefile::write_rules(rules, list),
+        |n| Reply::Number(n as u64),
+    )
+    .put(o, out);
     replies::put_bytes(counted, out, list)
 }
 

@@ -1,7 +1,6 @@
 -- What a question is answered, and its words. Assumes nothing.
-use Rattle.std.specs.Prelude.{ℕ, Bool, cond, List, [], ◌∷◌, ◌++◌, map, eqb, Float}
-use Rattle.std.proofs.Math.Option.{Option, some, none}
-use Rattle.paper.specs.Answers.{Answer, answered, refused}
+use Rattle.std.specs.Prelude.{ℕ, Bool, cond, List, [], ◌∷◌, ◌++◌, map, eqb, Float, Err, None, Ok, Option, Some}
+use Rattle.paper.specs.Answers.{Answer}
 use Rattle.paper.specs.Refusals.{number, told}
 use Rattle.paper.specs.declared.Told.{Told}
 use Rattle.paper.specs.declared.Told.TheVariants as T
@@ -19,13 +18,13 @@ use Rattle.replies.specs.declared.Reply.TheVariants as R
 
 -- what is made of the value, or the refusal
 abbrev pub said : {A : Type 0} → (A → Reply) → Answer A → Reply
-said f (answered x) = f x
-said f (refused k) = R.Refused k
+said f (Ok x) = f x
+said f (Err k) = R.Refused k
 
 -- the same of a value that may be none
 abbrev pub perhaps : {A : Type 0} → (A → Reply) → Option A → Reply
-perhaps f (some x) = f x
-perhaps f none = R.Nothing
+perhaps f (Some x) = f x
+perhaps f None = R.Nothing
 
 -- a date
 abbrev pub dated : Date → Reply
@@ -52,11 +51,11 @@ abbrev pub date_words : ℕ → ℕ → ℕ → List (List ℕ)
 date_words y m d = digits y ∷ digits m ∷ digits d ∷ []
 
 -- what is told behind a refusal's number: of 7 the days after the last day, or behind a minus sign those before the first; of 12 the line
-abbrev pub told_words : Told → List (List ℕ)
-told_words (T.Before k) = (bytes "-" ++ digits k) ∷ []
-told_words (T.After k) = digits k ∷ []
-told_words (T.Line k) = digits k ∷ []
-told_words T.Nothing = []
+abbrev pub told_words : Option Told → List (List ℕ)
+told_words (Some (T.Before k)) = (bytes "-" ++ digits k) ∷ []
+told_words (Some (T.After k)) = digits k ∷ []
+told_words (Some (T.Line k)) = digits k ∷ []
+told_words None = []
 
 -- a question mark, a refusal's number and what is told with it, or 0 and the values; "none" where there is none
 unfoldable pub reply_words : Reply → List (List ℕ)

@@ -1,8 +1,11 @@
 // What a question is answered, and its words.
 #![tactic(auto)]
 
-ghost use Rattle.std.specs.Prelude.{◌≡◌};
+ghost use Rattle.std.specs.Prelude.{◌≡◌, List, ℕ, [], ◌∷◌, cond, MatchResult, MatchOption};
+ghost use Rattle.std.specs.Option.{ForSome};
+ghost use Rattle.std.specs.Result.{ForOk};
 ghost use Rattle.text.specs.Digits.{digits};
+ghost use Rattle.output.specs.Floats.{float_text};
 ghost use Rattle.output.specs.Gathered.{Gathers};
 ghost use Rattle.replies.specs.Replies.{date_in, date_words, told_words, reply_words, barred, bytes_words};
 ghost use Rattle.replies.specs.declared.Reply.TheVariants as R;
@@ -11,7 +14,7 @@ use asked::Words;
 use gregorian::Date;
 use output::Out;
 use panchanga::lunar::Reading;
-use paper::{Refusal, Told};
+use paper::{Answer, Refusal, Told};
 
 // A question mark for a line out of form, the number of a refusal and what is told with it, or 0 and values.
 #[derive(Clone, Copy)]
@@ -31,6 +34,7 @@ pub enum Reply {
 }
 
 // A date as three words.
+#[tactic(auto, using(output::proofs::Gathering::then))]
 pub fn put_date_words(o: Out, out: &mut [u8], year: u16, month: u16, day: u16) -> Out
     ensures { Gathers out.old o (date_words year month day) out.new result }
 {
@@ -40,6 +44,7 @@ pub fn put_date_words(o: Out, out: &mut [u8], year: u16, month: u16, day: u16) -
 }
 
 // A 0 and two numbers.
+#[tactic(auto, unfolding(crate::specs::Replies::reply_words), using(output::proofs::Gathering::then))]
 fn put_pair(o: Out, out: &mut [u8], n: u64, k: u64) -> Out
     ensures { Gathers out.old o (reply_words (R.Pair «n» «k»)) out.new result }
 {
@@ -47,6 +52,7 @@ fn put_pair(o: Out, out: &mut [u8], n: u64, k: u64) -> Out
 }
 
 // A 0 and the four numbers of a reading.
+#[tactic(auto, unfolding(crate::specs::Replies::reply_words), using(output::proofs::Gathering::then))]
 fn put_reading(o: Out, out: &mut [u8], x: Reading) -> Out
     ensures { Gathers out.old o (reply_words (R.Reading x)) out.new result }
 {
@@ -55,14 +61,15 @@ fn put_reading(o: Out, out: &mut [u8], x: Reading) -> Out
 }
 
 // What a refusal tells beside its number.
-fn put_told(o: Out, out: &mut [u8], t: Told) -> Out
+#[tactic(auto, using(output::proofs::Gathering::gathers_none))]
+fn put_told(o: Out, out: &mut [u8], t: Option<Told>) -> Out
     ensures { Gathers out.old o (told_words t) out.new result }
 {
     match t {
-        Told::Before(days) => o.negative(out, days as u64),
-        Told::After(days) => o.number(out, days as u64),
-        Told::Line(line) => o.number(out, line as u64),
-        Told::Nothing => o,
+        Some(Told::Before(days)) => o.negative(out, days as u64),
+        Some(Told::After(days)) => o.number(out, days as u64),
+        Some(Told::Line(line)) => o.number(out, line as u64),
+        None => o,
     }
 }
 
@@ -74,7 +81,40 @@ fn put_refusal(o: Out, out: &mut [u8], k: Refusal) -> Out
 }
 
 impl Reply {
+    // The reply of an answer: what is made of its value, or the refusal.
+    pub fn said<T, F: FnOnce(T) -> Reply>(a: Answer<T>, shown: F) -> Reply
+        requires { ForOk a (F.pre shown) }
+        ensures { MatchResult a (λ x. F.post shown x result) (λ k. result ≡ R.Refused k) }
+    {
+        match a {
+            Ok(x) => shown(x),
+            Err(k) => Reply::Refused(k),
+        }
+    }
+
+    // The same of a value that may be none.
+    pub fn perhaps<T, F: FnOnce(T) -> Reply>(x: Option<T>, shown: F) -> Reply
+        requires { ForSome x (F.pre shown) }
+        ensures { MatchOption x (result ≡ R.Nothing) (λ v. F.post shown v result) }
+    {
+        match x {
+            Some(v) => shown(v),
+            None => Reply::Nothing,
+        }
+    }
+
+    // The reply of a test: nothing more where it passes, or the refusal.
+    pub fn passed(good: bool, k: Refusal) -> Reply
+        ensures { result ≡ cond good R.Good (R.Refused k) }
+    {
+        if good {
+            return Reply::Good;
+        }
+        Reply::Refused(k)
+    }
+
     // Puts the reply's words behind what is gathered.
+    #[tactic(auto, unfolding(crate::specs::Replies::reply_words), using(output::proofs::Gathering::then))]
     pub fn put(self, o: Out, out: &mut [u8]) -> Out
         ensures { Gathers out.old o (reply_words self) out.new result }
     {
@@ -112,22 +152,38 @@ pub fn date_of(w: Words) -> Date
     }
 }
 
-// The same number.
-fn wide(x: u16) -> u64
-    ensures { result ≡ x }
-{
-    x as u64
+// What a lent buffer holds: each element is one word.
+pub trait Element: Copy {
+    ghost word: { Self → List ℕ };
+
+    // Puts the element's word behind what is gathered.
+    fn put(self, o: Out, out: &mut [u8]) -> Out
+        ensures { Gathers out.old o (word self ∷ []) out.new result };
 }
 
-// Every number of a lent buffer, behind a bar.
-pub fn put_list(o: Out, out: &mut [u8], list: &[u16]) -> Out
-    ensures { Gathers out.old o (barred digits list.now) out.new result }
+impl Element for u16 {
+    ghost word = { digits };
+
+    fn put(self, o: Out, out: &mut [u8]) -> Out {
+        o.number(out, self as u64)
+    }
+}
+
+impl Element for f64 {
+    ghost word = { float_text };
+
+    fn put(self, o: Out, out: &mut [u8]) -> Out {
+        o.float(out, self)
+    }
+}
+
+// Every element of a lent buffer, behind a bar.
+pub fn put_list<T: Element>(o: Out, out: &mut [u8], list: &[T]) -> Out
+    ensures { Gathers out.old o (barred T.word list.now) out.new result }
 {
     let mut p = o.word(out, b"|");
-    let mut i: usize = 0;
-    while i < list.len() {
-        p = p.number(out, wide(list[i]));
-        i += 1;
+    for &x in list {
+        p = x.put(p, out);
     }
     p
 }
@@ -137,7 +193,7 @@ pub fn put_bytes(o: Out, out: &mut [u8], list: &[u8]) -> Out
     ensures { Gathers out.old o (bytes_words list.now) out.new result }
 {
     let p = o.word(out, b"|");
-    if list.len() == 0 {
+    if list.is_empty() {
         return p;
     }
     p.octets(out, list)

@@ -1,4 +1,5 @@
 -- What is claimed of rule files holds. Assumes nothing.
+use Rattle.std.specs.Prelude.{Err, Ok}
 use Prim.Native.Nat.{ℕ, ◌*◌, ◌/◌, ◌%◌, ◌≤◌}
 use mathlib.Core.Path.{◌≡◌, refl, sym, ap, ◌∙◌}
 use mathlib.Core.Bool.{Bool, true, false}
@@ -9,20 +10,15 @@ use lib.Dec.{leb}
 use lib.ListN.{length}
 use Rattle.paper.specs.declared.Refusal.{Refusal}
 use Rattle.paper.specs.declared.Refusal.TheVariants.{BadRules, NoRoom, OutOfForm}
-use Rattle.paper.specs.Refusals.{number}
-use Rattle.paper.specs.Answers.{Answer, answered, refused, given}
-use Rattle.paper.proofs.Answers.{told_by_law, answered_same, refused_answered, given_answered}
+use Rattle.paper.specs.Answers.{Answer, given}
+use Rattle.paper.proofs.Answers.{answered_same, refused_answered, given_answered}
 use Rattle.keyed.specs.Forms.{after, told_line, Writing, OutAt}
 use Rattle.keyed.proofs.Forms as forms
 use Rattle.rules.specs.declared.Rule.{Rule}
 use Rattle.rules.specs.Rules.{rules_of, accepted_rules}
 use Rattle.rules.proofs.Accepted.{good_rules}
-use Rattle.rulefile.specs.declared.reading.FileRead.{FileRead}
-use Rattle.rulefile.specs.declared.reading.FileRead.TheVariants as read
-use Rattle.rulefile.specs.declared.writing.FileWritten.{FileWritten}
-use Rattle.rulefile.specs.declared.writing.FileWritten.TheVariants as written
 use Rattle.rulefile.specs.Rules.{rules_text, flat, Small}
-use Rattle.rulefile.specs.Files.{rule_form, file_lines, file_text, rules_read, file_written, into, read_into, write_into, read_says, written_says}
+use Rattle.rulefile.specs.Files.{rule_form, file_lines, file_text, rules_read, file_written, into, read_into, write_into}
 use Rattle.rulefile.specs.Claims.{FileOf, InForm, rules_in, RuleFiles}
 use Rattle.rulefile.proofs.Grouped.{file_rules, flat_rules, small_keeps, keeps_small, after_all}
 
@@ -61,19 +57,14 @@ same_bytes s t e f q = (form_file s e).same ∙ ap rules_text q ∙ sym (form_fi
 
 -- ---- the line that is told
 
--- the refusals behind it have other numbers
-numbered : Answer (List ℕ) → ℕ
-numbered (answered ns) = 0
-numbered (refused k) = number k
+-- the refusals behind it are others
+not_told : (a b : Bool) (ns : List ℕ) (k : ℕ) → given a BadRules (given b NoRoom (Ok ns)) ≡ Err (OutOfForm k) → ⊥
+not_told true true ns k e = cc
+not_told true false ns k e = cc
+not_told false b ns k e = cc
 
-not_told : (a b : Bool) (ns : List ℕ) (k : ℕ) → given a BadRules (given b NoRoom (answered ns)) ≡ refused (OutOfForm k) → ⊥
-unfolding given numbered
-not_told true true ns k e = let z : ◌≡◌ {A = ℕ} 0 12 = ap numbered e in omega arith
-not_told true false ns k e = let z : ◌≡◌ {A = ℕ} 9 12 = ap numbered e in omega arith
-not_told false b ns k e = let z : ◌≡◌ {A = ℕ} 2 12 = ap numbered e in omega arith
-
-told_out : (s : List ℕ) (room k : ℕ) → rules_read s room ≡ refused (OutOfForm k) → OutAt rule_form 0 s k
-unfolding rules_read given
+told_out : (s : List ℕ) (room k : ℕ) → rules_read s room ≡ Err (OutOfForm k) → OutAt rule_form 0 s k
+unfolding rules_read
 told_out s room k h = go (file_lines s).whole refl h
   where
     good : Bool
@@ -83,19 +74,19 @@ told_out s room k h = go (file_lines s).whole refl h
     fits = leb (length (file_lines s).numbers) room
 
     go : (b : Bool) → (file_lines s).whole ≡ b
-        → given b (OutOfForm (told_line (file_lines s))) (given good BadRules (given fits NoRoom (answered (file_lines s).numbers))) ≡ refused (OutOfForm k)
+        → given b (OutOfForm (told_line (file_lines s))) (given good BadRules (given fits NoRoom (Ok (file_lines s).numbers))) ≡ Err (OutOfForm k)
         → OutAt rule_form 0 s k
     go true e q = absurd (not_told good fits (file_lines s).numbers k q)
     go false e q = let z : told_line (file_lines s) ≡ k = cc in rw (← z) (forms.told rule_form 0 s e)
 
-out_told : (s : List ℕ) (room k : ℕ) → OutAt rule_form 0 s k → rules_read s room ≡ refused (OutOfForm k)
-unfolding rules_read given
+out_told : (s : List ℕ) (room k : ℕ) → OutAt rule_form 0 s k → rules_read s room ≡ Err (OutOfForm k)
+unfolding rules_read
 out_told s room k w = let o = forms.told_only rule_form 0 s k w in rw (o.0, o.1)
 
 -- ---- there and back
 
-read_back_law : (rules s : List ℕ) (room wide : ℕ) → Small rules → file_written rules room ≡ answered s → length rules ≤ wide → rules_read s wide ≡ answered rules
-unfolding rules_read file_written given
+read_back_law : (rules s : List ℕ) (room wide : ℕ) → Small rules → file_written rules room ≡ Ok s → length rules ≤ wide → rules_read s wide ≡ Ok rules
+unfolding rules_read file_written
 read_back_law rules s room wide m h l =
     let p = given_answered (accepted_rules rules) BadRules _ h in
     let q = given_answered (leb (length (file_text rules)) room) NoRoom _ p.1 in
@@ -104,8 +95,8 @@ read_back_law rules s room wide m h l =
     let k = le-leb (length rules) wide l in
     rw (e, a, k)
 
-write_back : (s rules : List ℕ) (room wide : ℕ) → rules_read s room ≡ answered rules → length s ≤ wide → file_written rules wide ≡ answered s
-unfolding rules_read file_written given
+write_back : (s rules : List ℕ) (room wide : ℕ) → rules_read s room ≡ Ok rules → length s ≤ wide → file_written rules wide ≡ Ok s
+unfolding rules_read file_written
 write_back s rules room wide h l =
     let p = given_answered (file_lines s).whole (OutOfForm (told_line (file_lines s))) _ h in
     let q = given_answered (accepted_rules (file_lines s).numbers) BadRules _ p.1 in
@@ -117,41 +108,16 @@ write_back s rules room wide h l =
 
 -- ---- what a refusal leaves
 
-left : (count : List ℕ → ℕ) (a : Answer (List ℕ)) (out : List ℕ) (k : Refusal) → (into count a out).0 ≡ refused k → (into count a out).1 ≡ out
-left count (answered vs) out k e = absurd (refused_answered e refl)
-left count (refused j) out k e = refl
+left : (count : List ℕ → ℕ) (a : Answer (List ℕ)) (out : List ℕ) (k : Refusal) → (into count a out).0 ≡ Err k → (into count a out).1 ≡ out
+left count (Ok vs) out k e = absurd (refused_answered e refl)
+left count (Err j) out k e = refl
 
 -- ---- one answer alone
 
-read_back : Answer ℕ → FileRead
-read_back (answered n) = read.Rules n
-read_back (refused k) = read.Refused k
-
-read_only : (r q : FileRead) → read_says r ≡ read_says q → r ≡ q
-unfolding read_back
-read_only = told_by_law read_says read_back back
-  where
-    back : (r : FileRead) → read_back (read_says r) ≡ r
-    back (read.Rules n) = refl
-    back (read.Refused k) = refl
-
-written_back : Answer ℕ → FileWritten
-written_back (answered n) = written.Bytes n
-written_back (refused k) = written.Refused k
-
-written_only : (r q : FileWritten) → written_says r ≡ written_says q → r ≡ q
-unfolding written_back
-written_only = told_by_law written_says written_back back
-  where
-    back : (r : FileWritten) → written_back (written_says r) ≡ r
-    back (written.Bytes n) = refl
-    back (written.Refused k) = refl
-
-one : {R : Type 0} (says : R → Answer ℕ) → ((r q : R) → says r ≡ says q → r ≡ q) → (w : Answer ℕ × List ℕ) (r q : R) (a b : List ℕ)
-    → (says r, a) ≡ w → (says q, b) ≡ w → (r ≡ q) × (a ≡ b)
-one says only w r q a b e f =
+one : (w : Answer ℕ × List ℕ) (r q : Answer ℕ) (a b : List ℕ) → (r, a) ≡ w → (q, b) ≡ w → (r ≡ q) × (a ≡ b)
+one w r q a b e f =
     let g = e ∙ sym f in
-    (only r q (ap (λ (x : Answer ℕ × List ℕ). x.0) g), ap (λ (x : Answer ℕ × List ℕ). x.1) g)
+    (ap (λ (x : Answer ℕ × List ℕ). x.0) g, ap (λ (x : Answer ℕ × List ℕ). x.1) g)
 
 -- ---- all of it
 
@@ -167,6 +133,6 @@ rule_files =
       write_back = write_back;
       read_left = λ s out k e. left (λ ns. length ns / 8) (rules_read s (length out)) out k e;
       write_left = λ rules out k e. left length (file_written rules (length out)) out k e;
-      one_read = λ s out. one read_says read_only (read_into s out);
-      one_written = λ rules out. one written_says written_only (write_into rules out);
+      one_read = λ s out. one (read_into s out);
+      one_written = λ rules out. one (write_into rules out);
     }

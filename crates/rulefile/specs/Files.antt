@@ -1,14 +1,10 @@
 -- The rules as a text file: eight lines `key=NUMBER` for each rule, in the order of its fields; how a file is read and written. Assumes nothing.
-use Rattle.std.specs.Prelude.{ℕ, ◌+◌, ◌/◌, ◌%◌, true, List, [], ◌∷◌, ◌++◌, leb, eqb, length, get_or, drop}
-use Rattle.paper.specs.Answers.{Answer, answered, refused, given}
+use Rattle.std.specs.Prelude.{ℕ, ◌+◌, ◌/◌, ◌%◌, true, List, [], ◌∷◌, ◌++◌, leb, eqb, length, get_or, drop, Err, Ok}
+use Rattle.paper.specs.Answers.{Answer, given}
 use Rattle.paper.specs.declared.Refusal.TheVariants.{BadRules, NoRoom, OutOfForm}
 use Rattle.text.specs.Quoted.{bytes}
 use Rattle.keyed.specs.Forms.{Form, Found, told_line, text, lines}
 use Rattle.rules.specs.Rules.{accepted_rules}
-use Rattle.rulefile.specs.declared.reading.FileRead.{FileRead}
-use Rattle.rulefile.specs.declared.reading.FileRead.TheVariants as read
-use Rattle.rulefile.specs.declared.writing.FileWritten.{FileWritten}
-use Rattle.rulefile.specs.declared.writing.FileWritten.TheVariants as written
 
 abbrev pub keys : List (List ℕ)
 keys = bytes "kind" ∷ bytes "year" ∷ bytes "month" ∷ bytes "day" ∷ bytes "half" ∷ bytes "kala" ∷ bytes "name" ∷ bytes "holiday" ∷ []
@@ -32,19 +28,19 @@ rules_read s room =
     given (file_lines s).whole (OutOfForm (told_line (file_lines s)))
     (given (accepted_rules (file_lines s).numbers) BadRules
     (given (leb (length (file_lines s).numbers) room) NoRoom
-    (answered (file_lines s).numbers)))
+    (Ok (file_lines s).numbers)))
 
 -- the file of a list of rules, for a buffer of so many bytes: refusals 2, 9
 unfoldable pub file_written : List ℕ → ℕ → Answer (List ℕ)
 file_written rules room =
     given (accepted_rules rules) BadRules
     (given (leb (length (file_text rules)) room) NoRoom
-    (answered (file_text rules)))
+    (Ok (file_text rules)))
 
 -- the count is answered, and what was read or written stands at the front of the lent buffer, with what lay past it as it was; a refusal leaves the buffer
 abbrev pub into : (List ℕ → ℕ) → Answer (List ℕ) → List ℕ → Answer ℕ × List ℕ
-into count (answered vs) out = (answered (count vs), vs ++ drop (length vs) out)
-into count (refused k) out = (refused k, out)
+into count (Ok vs) out = (Ok (count vs), vs ++ drop (length vs) out)
+into count (Err k) out = (Err k, out)
 
 -- how many rules are read, and the lent buffer then
 abbrev pub read_into : List ℕ → List ℕ → Answer ℕ × List ℕ
@@ -53,13 +49,3 @@ read_into s out = into (λ ns. length ns / 8) (rules_read s (length out)) out
 -- how many bytes are written, and the lent buffer then
 abbrev pub write_into : List ℕ → List ℕ → Answer ℕ × List ℕ
 write_into rules out = into length (file_written rules (length out)) out
-
--- ---- what the answers say
-
-abbrev pub read_says : FileRead → Answer ℕ
-read_says (read.Rules n) = answered n
-read_says (read.Refused k) = refused k
-
-abbrev pub written_says : FileWritten → Answer ℕ
-written_says (written.Bytes n) = answered n
-written_says (written.Refused k) = refused k

@@ -1,5 +1,6 @@
 -- A day's list in a lent buffer: what is answered and what the buffer holds. Assumes nothing.
-use Prim.Native.Nat.{ℕ, ◌+◌, ◌*◌, ◌≤◌, ◌<◌}
+use Rattle.std.specs.Prelude.{Err, Ok}
+use Prim.Native.Nat.{ℕ, ◌*◌, ◌≤◌, ◌<◌}
 use mathlib.Core.Path.{◌≡◌, refl, ap, ◌∙◌}
 use mathlib.Core.List.{List, [], ◌∷◌, ◌++◌}
 use native.Mathlib.Omega.{arith}
@@ -8,7 +9,7 @@ use lib.ListN.{length, drop}
 use lib.Seq.{sets}
 use Rattle.paper.specs.declared.Refusal.{Refusal}
 use Rattle.paper.specs.declared.Refusal.TheVariants.{NoRoom}
-use Rattle.paper.specs.Answers.{Answer, answered, refused}
+use Rattle.paper.specs.Answers.{Answer}
 use Rattle.paper.proofs.Stores.{sets_front}
 use Rattle.rules.specs.Festivals.{Pair, numbers, listed}
 
@@ -25,15 +26,15 @@ pub record Says (a : Answer (List Pair)) (out : List ℕ) (r : Answer ℕ) (afte
   pub answer : r ≡ (listed a out).answer
   pub buffer : after ≡ (listed a out).buffer
 
-pub says_refused : (k : Refusal) (out : List ℕ) → Says (refused k) out (refused k) out
+pub says_refused : (k : Refusal) (out : List ℕ) → Says (Err k) out (Err k) out
 unfolding listed
 says_refused k out = record { answer = refl; buffer = refl }
 
-pub says_short : (l : List Pair) (out : List ℕ) → length out < length l * 2 → Says (answered l) out (refused NoRoom) out
+pub says_short : (l : List Pair) (out : List ℕ) → length out < length l * 2 → Says (Ok l) out (Err NoRoom) out
 unfolding listed
 says_short l out h = let e = lt-leb (length l * 2) (length out) h in record { answer = rw e; buffer = rw e }
 
-pub says_list : (l : List Pair) (out after : List ℕ) (k : ℕ) → length l * 2 ≤ length out → k ≡ length l → after ≡ sets out 0 (numbers l) → Says (answered l) out (answered k) after
+pub says_list : (l : List Pair) (out after : List ℕ) (k : ℕ) → length l * 2 ≤ length out → k ≡ length l → after ≡ sets out 0 (numbers l) → Says (Ok l) out (Ok k) after
 unfolding listed
 says_list l out after k h p w =
     let e = le-leb (length l * 2) (length out) h in

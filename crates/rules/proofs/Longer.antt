@@ -1,16 +1,16 @@
 -- Festivals over two good calendars of which the longer begins as the shorter does: lunar months, computed entries and day lists of the shorter are
 -- those of the longer. Assumes nothing.
+use Rattle.std.specs.Prelude.{Err, None, Ok, Option, Some}
 use Prim.Native.Nat.{ℕ, ◌+◌, ◌-◌, ◌≤◌, ◌<◌}
 use mathlib.Core.Path.{◌≡◌, refl, sym, ap, ◌∙◌, fun_ext}
 use mathlib.Core.Bool.{Bool, true, false, cond, ◌&&◌, and-false}
-use mathlib.Core.Logic.{◌⊎◌, inl, inr, ⊎_elim}
+use mathlib.Core.Logic.{inl, inr, ⊎_elim}
 use mathlib.Core.List.{List, []}
-use mathlib.Core.Option.{Option, some, none}
 use native.Mathlib.Omega.{arith}
 use borrow.Author.Tests.{le-leb, lt-leb, lt-ltb, eqb-true, ne_eqb}
 use lib.Dec.{eqb}
 use Rattle.paper.specs.declared.Refusal.{Refusal}
-use Rattle.paper.specs.Answers.{Answer, answered, refused}
+use Rattle.paper.specs.Answers.{Answer}
 use Rattle.paper.proofs.Answers.{answered_same}
 use Rattle.paper.proofs.Tests.{split}
 use Rattle.conversion.specs.declared.BsDate.{BsDate}
@@ -25,31 +25,31 @@ use Rattle.rules.specs.Festivals.{dated, first_day, last_day, moons, in_month, o
 use Rattle.rules.specs.Longer.{AddedDay, SameEntry}
 
 -- ---- the tests of a date and of an entry
-same_dated : (p : BsDate → Bool) (a b : Answer BsDate) → ((t : BsDate) → a ≡ answered t → b ≡ answered t) → ((t : BsDate) (k : Refusal) → a ≡ refused k → b ≡ answered t → p t ≡ false) → dated a p ≡ dated b p
+same_dated : (p : BsDate → Bool) (a b : Answer BsDate) → ((t : BsDate) → a ≡ Ok t → b ≡ Ok t) → ((t : BsDate) (k : Refusal) → a ≡ Err k → b ≡ Ok t → p t ≡ false) → dated a p ≡ dated b p
 unfolding dated
-same_dated p (answered t) b h g = rw (h t refl)
-same_dated p (refused k) (answered t) h g = sym (g t k refl refl)
-same_dated p (refused k) (refused j) h g = refl
+same_dated p (Ok t) b h g = rw (h t refl)
+same_dated p (Err k) (Ok t) h g = sym (g t k refl refl)
+same_dated p (Err k) (Err j) h g = refl
 
 -- an entry that is compared with a day of the table: the table plays no part
-in_table_on : (c : Calendar) (n : ℕ) (t : BsDate) → from_day c n ≡ answered t → (k : ℕ) → holds (in_table c k) (λ j. eqb j n) ≡ eqb k n
+in_table_on : (c : Calendar) (n : ℕ) (t : BsDate) → from_day c n ≡ Ok t → (k : ℕ) → holds (in_table c k) (λ j. eqb j n) ≡ eqb k n
 unfolding in_table holds dated
 in_table_on c n t e k = go (eqb k n) refl
   where
-    off : (b : Bool) → eqb k n ≡ false → holds (cond b (some k) none) (λ j. eqb j n) ≡ false
+    off : (b : Bool) → eqb k n ≡ false → holds (cond b (Some k) None) (λ j. eqb j n) ≡ false
     off true h = h
     off false h = refl
 
-    go : (b : Bool) → eqb k n ≡ b → holds (cond (dated (from_day c k) (λ t. true)) (some k) none) (λ j. eqb j n) ≡ b
+    go : (b : Bool) → eqb k n ≡ b → holds (cond (dated (from_day c k) (λ t. true)) (Some k) None) (λ j. eqb j n) ≡ b
     go true h = rw (eqb-true k n h, e) (rw (eqb-true k n h) at h)
     go false h = off (dated (from_day c k) (λ t. true)) h
 
 next_holds : {A B : Type 0} (o : Option A) (f : A → Option B) (p : B → Bool) (q : A → Bool) → ((a : A) → holds (f a) p ≡ q a) → holds (next o f) p ≡ holds o q
 unfolding next holds
-next_holds (some a) f p q h = h a
-next_holds none f p q h = refl
+next_holds (Some a) f p q h = h a
+next_holds None f p q h = refl
 
-entry_by_day : {I : Type 0} (s : Sky I) (c : Calendar) (n : ℕ) (t : BsDate) → from_day c n ≡ answered t → (y : ℕ) (r : Rule) → entry_on s c y r n ≡ holds (rule_day s c y r) (λ k. eqb k n)
+entry_by_day : {I : Type 0} (s : Sky I) (c : Calendar) (n : ℕ) (t : BsDate) → from_day c n ≡ Ok t → (y : ℕ) (r : Rule) → entry_on s c y r n ≡ holds (rule_day s c y r) (λ k. eqb k n)
 unfolding entry_on entry
 entry_by_day s c n t e y r = next_holds (rule_day s c y r) (in_table c) (λ k. eqb k n) (λ k. eqb k n) (in_table_on c n t e)
 
@@ -62,24 +62,24 @@ moons_out : {I : Type 0} (s : Sky I) (c : Calendar) (y : ℕ) → y < c.first �
 unfolding moons
 moons_out s c y l = simp (lt-leb _ _ l, and-false)
 
-in_table_answered : (c : Calendar) (n : ℕ) (t : BsDate) → from_day c n ≡ answered t → in_table c n ≡ some n
+in_table_answered : (c : Calendar) (n : ℕ) (t : BsDate) → from_day c n ≡ Ok t → in_table c n ≡ Some n
 unfolding in_table dated
 in_table_answered c n t e = rw e
 
-in_table_refused : (c : Calendar) (n : ℕ) (k : Refusal) → from_day c n ≡ refused k → in_table c n ≡ none
+in_table_refused : (c : Calendar) (n : ℕ) (k : Refusal) → from_day c n ≡ Err k → in_table c n ≡ None
 unfolding in_table dated
 in_table_refused c n k e = rw e
 
-next_some : {A B : Type 0} (o : Option A) (f : A → Option B) (a : A) → o ≡ some a → next o f ≡ f a
+next_some : {A B : Type 0} (o : Option A) (f : A → Option B) (a : A) → o ≡ Some a → next o f ≡ f a
 unfolding next
 next_some o f a h = rw h
 
-next_none : {A B : Type 0} (o : Option A) (f : A → Option B) → o ≡ none → next o f ≡ none
+next_none : {A B : Type 0} (o : Option A) (f : A → Option B) → o ≡ None → next o f ≡ None
 unfolding next
 next_none o f h = rw h
 
 -- a day that the longer answers is refused by the shorter exactly if it lies in an added year
-pub day_refused : (c e : Calendar) → Extends c e → (n : ℕ) (t : BsDate) → from_day e n ≡ answered t → RefusedIf (from_day c n) (outside c n) (AddedDay c e n)
+pub day_refused : (c e : Calendar) → Extends c e → (n : ℕ) (t : BsDate) → from_day e n ≡ Ok t → RefusedIf (from_day c n) (outside c n) (AddedDay c e n)
 day_refused c e x n t q =
     let r = from_day_added c e x n t q in
     record {
@@ -101,9 +101,9 @@ module _ {I : Type 0} (s : Sky I) (c e : Calendar) (x : Extends c e) (w : Filled
   in_table_same n = go (from_day c n) (from_day e n) refl refl
     where
       go : (a b : Answer BsDate) → from_day c n ≡ a → from_day e n ≡ b → SameEntry c e (in_table c n) (in_table e n)
-      go (answered t) b p q = inl (in_table_answered c n t p ∙ sym (in_table_answered e n t (from_day_longer c e x n t p)))
-      go (refused k) (refused j) p q = inl (in_table_refused c n k p ∙ sym (in_table_refused e n j q))
-      go (refused k) (answered t) p q =
+      go (Ok t) b p q = inl (in_table_answered c n t p ∙ sym (in_table_answered e n t (from_day_longer c e x n t p)))
+      go (Err k) (Err j) p q = inl (in_table_refused c n k p ∙ sym (in_table_refused e n j q))
+      go (Err k) (Ok t) p q =
           inr (n, (in_table_refused c n k p, (in_table_answered e n t q, (day_refused c e x n t q).only k p)))
 
   module _ (y : ℕ) (h : y < c.first + c.years) where
@@ -163,19 +163,19 @@ module _ {I : Type 0} (s : Sky I) (c e : Calendar) (x : Extends c e) (w : Filled
         q = sym (rule-day-same r)
 
         go : (o : Option ℕ) → rule_day s c y r ≡ o → SameEntry c e (next (rule_day s c y r) (in_table c)) (next (rule_day s e y r) (in_table e))
-        go none p = inl (next_none _ _ p ∙ sym (next_none _ _ (q ∙ p)))
-        go (some n) p =
+        go None p = inl (next_none _ _ p ∙ sym (next_none _ _ (q ∙ p)))
+        go (Some n) p =
             ⊎_elim
             (λ l. inl (next_some _ _ n p ∙ l ∙ sym (next_some _ _ n (q ∙ p))))
             (λ l. inr (l.0, (next_some _ _ n p ∙ l.1.0, (next_some _ _ n (q ∙ p) ∙ l.1.1.0, l.1.1.1))))
             (in_table_same n)
 
     -- on a day of the shorter no computed entry differs
-    entry-on-same : (n : ℕ) (t : BsDate) → from_day c n ≡ answered t → (r : Rule) → entry_on s c y r n ≡ entry_on s e y r n
+    entry-on-same : (n : ℕ) (t : BsDate) → from_day c n ≡ Ok t → (r : Rule) → entry_on s c y r n ≡ entry_on s e y r n
     entry-on-same n t g r =
         entry_by_day s c n t g y r ∙ ap (λ o. holds o (λ k. eqb k n)) (rule-day-same r) ∙ sym (entry_by_day s e n t (from_day_longer c e x n t g) y r)
 
-  module _ (rs : List Rule) (n : ℕ) (t : BsDate) (q : from_day c n ≡ answered t) where
+  module _ (rs : List Rule) (n : ℕ) (t : BsDate) (q : from_day c n ≡ Ok t) where
     computed_same : (y : ℕ) → y < c.first + c.years → is_computed s c rs y t n ≡ is_computed s e rs y t n
     unfolding is_computed
     computed_same y h = fun_ext (λ r. rw (entry-on-same y h n t q r))

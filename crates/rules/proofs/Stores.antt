@@ -1,7 +1,8 @@
 -- Laws of the loops that store pairs: what a turn does, and what the stores come to. Assumes nothing.
+use Rattle.std.specs.Prelude.{Option, Some, None}
 use Prim.Native.Nat.{ℕ, suc, ◌+◌, ◌-◌, ◌*◌, ◌<◌}
 use mathlib.Core.Path.{◌≡◌, refl, sym, ap, subst, ◌∙◌}
-use mathlib.Core.Bool.{Bool, true, false, cond, ◌&&◌, ◌||◌, or_assoc, or-false}
+use mathlib.Core.Bool.{Bool, true, false, cond, ◌||◌, or_assoc, or-false}
 use mathlib.Core.List.{List, [], ◌∷◌, ◌++◌}
 use native.Mathlib.Numerals.{add-one}
 use native.Mathlib.Omega.{arith}
@@ -14,7 +15,7 @@ use Rattle.rules.specs.declared.lists.Kept.{Kept}
 use Rattle.rules.specs.Rules.{rule_at, rules_from}
 use Rattle.rules.specs.Festivals.{Pair, picked, any, overrides, silenced, kept_after, kept, numbers}
 use Rattle.rules.specs.Resolved.{shows, used}
-use Rattle.rules.specs.Inner.{State, repeats, store_if, store_pairs}
+use Rattle.rules.specs.Inner.{State, is_name, repeats, store_if, store_pairs}
 use Rattle.rules.proofs.Walk.{rest, left}
 
 -- ---- one pair
@@ -28,7 +29,7 @@ unfolding store_if
 store_same on σ name holiday e q = rw (e, q)
 
 pub store_new : (on : Bool) (l : List ℕ) (s : Kept) (name holiday : ℕ) → on ≡ true → repeats s name ≡ false
-    → ◌≡◌ {A = State} (set (set l (s.n * 2) name) (s.n * 2 + 1) holiday, record { n = s.n + 1; any = true; last = name }) (store_if on (l, s) name holiday)
+    → ◌≡◌ {A = State} (set (set l (s.n * 2) name) (s.n * 2 + 1) holiday, record { n = s.n + 1; last = Some name }) (store_if on (l, s) name holiday)
 unfolding store_if
 store_new on l s name holiday e q = rw (e, q, add-one)
 
@@ -114,11 +115,12 @@ module _ (xs : List ℕ) (i n : ℕ) (h : i < n) (r : Rule) (er : r ≡ rule_at 
 -- ---- what the stores come to
 
 -- what is kept of a list, after what is kept already
-abbrev kept_from : Kept → List Pair → List Pair
-kept_from s es = cond s.any (kept_after s.last es) (kept es)
+abbrev kept_from : Option ℕ → List Pair → List Pair
+kept_from (Some last) es = kept_after last es
+kept_from None es = kept es
 
 abbrev fresh : State → Pair → State
-fresh σ e = (sets σ.0 (σ.1.n * 2) (e.0 ∷ e.1 ∷ []), record { n = σ.1.n + 1; any = true; last = e.0 })
+fresh σ e = (sets σ.0 (σ.1.n * 2) (e.0 ∷ e.1 ∷ []), record { n = σ.1.n + 1; last = Some e.0 })
 
 pub record Came (σ τ : State) (l : List Pair) : Type 0 where
   pub buffer : τ.0 ≡ sets σ.0 (σ.1.n * 2) (numbers l)
@@ -129,13 +131,13 @@ came_fresh σ τ e l c =
     let h : (σ.1.n + 1) * 2 ≡ suc (suc (σ.1.n * 2)) = omega arith in
     record { buffer = c.buffer ∙ rw h; count = omega (arith, c.count) }
 
-came_none : (σ : State) → Came σ σ (kept_from σ.1 [])
+came_none : (σ : State) → Came σ σ (kept_from σ.1.last [])
 unfolding kept kept_after
-came_none σ = go σ.1.any
+came_none σ = go σ.1.last
   where
-    go : (b : Bool) → Came σ σ (cond b [] [])
-    go true = record { buffer = refl; count = omega arith }
-    go false = record { buffer = refl; count = omega arith }
+    go : (o : Option ℕ) → Came σ σ (kept_from o [])
+    go (Some last) = record { buffer = refl; count = omega arith }
+    go None = record { buffer = refl; count = omega arith }
 
 eqb_sym : (a b : ℕ) → eqb a b ≡ eqb b a
 eqb_sym a b = go (eqb b a) refl
@@ -144,23 +146,27 @@ eqb_sym a b = go (eqb b a) refl
     go true e = eq-eqb a b (sym (eqb-true b a e))
     go false e = ne_eqb a b (λ q. eqb-false b a e (sym q))
 
-came_by : (σ : State) (e : Pair) (es : List Pair) (b : Bool) → ((τ : State) → Came τ (store_pairs τ es) (kept_from τ.1 es)) → (a : Bool) → σ.1.any ≡ a → eqb e.0 σ.1.last ≡ b
-    → Came σ (store_pairs (cond (a && b) σ (fresh σ e)) es) (cond a (kept_after σ.1.last (e ∷ es)) (kept (e ∷ es)))
-unfolding kept kept_after
-came_by σ e es b ih false ea eb = came_fresh σ _ e (kept_after e.0 es) (ih (fresh σ e))
-came_by σ e es true ih true ea eb = rw eb (subst (λ (z : Bool). Came σ (store_pairs σ es) (cond z (kept_after σ.1.last es) (kept es))) ea (ih σ))
-came_by σ e es false ih true ea eb = rw eb (came_fresh σ _ e (kept_after e.0 es) (ih (fresh σ e)))
+came_some : (σ : State) (e : Pair) (es : List Pair) (last : ℕ) → ((τ : State) → Came τ (store_pairs τ es) (kept_from τ.1.last es)) → σ.1.last ≡ Some last → (b : Bool)
+    → Came σ (store_pairs (cond b σ (fresh σ e)) es) (cond b (kept_after last es) (e ∷ kept_after e.0 es))
+came_some σ e es last ih q true = subst (λ (o : Option ℕ). Came σ (store_pairs σ es) (kept_from o es)) q (ih σ)
+came_some σ e es last ih q false = came_fresh σ _ e (kept_after e.0 es) (ih (fresh σ e))
 
-came : (es : List Pair) (σ : State) → Came σ (store_pairs σ es) (kept_from σ.1 es)
+came_by : (σ : State) (e : Pair) (es : List Pair) → ((τ : State) → Came τ (store_pairs τ es) (kept_from τ.1.last es)) → (o : Option ℕ) → σ.1.last ≡ o
+    → Came σ (store_pairs (cond (is_name o e.0) σ (fresh σ e)) es) (kept_from o (e ∷ es))
+unfolding kept kept_after
+came_by σ e es ih (Some last) q = rw (eqb_sym last e.0) (came_some σ e es last ih q (eqb e.0 last))
+came_by σ e es ih None q = came_fresh σ _ e (kept_after e.0 es) (ih (fresh σ e))
+
+came : (es : List Pair) (σ : State) → Came σ (store_pairs σ es) (kept_from σ.1.last es)
 unfolding store_pairs store_if
 came [] σ = came_none σ
-came (e ∷ es) σ = came_by σ e es (eqb σ.1.last e.0) (came es) σ.1.any refl (eqb_sym e.0 σ.1.last)
+came (e ∷ es) σ = came_by σ e es (came es) σ.1.last refl
 
 -- five runs, one after the other, where nothing of the day is kept yet
-pub five : (a b c d e : List Pair) (buf : List ℕ) (at : ℕ) (σ₁ σ₂ σ₃ σ₄ σ₅ : State) → σ₁ ≡ store_pairs (buf, record { n = at; any = false; last = 0 }) a → σ₂ ≡ store_pairs σ₁ b → σ₃ ≡ store_pairs σ₂ c → σ₄ ≡ store_pairs σ₃ d → σ₅ ≡ store_pairs σ₄ e
+pub five : (a b c d e : List Pair) (buf : List ℕ) (at : ℕ) (σ₁ σ₂ σ₃ σ₄ σ₅ : State) → σ₁ ≡ store_pairs (buf, record { n = at; last = None }) a → σ₂ ≡ store_pairs σ₁ b → σ₃ ≡ store_pairs σ₂ c → σ₄ ≡ store_pairs σ₃ d → σ₅ ≡ store_pairs σ₄ e
     → (σ₅.0 ≡ sets buf (at * 2) (numbers (kept (a ++ b ++ c ++ d ++ e)))) × (σ₅.1.n ≡ at + length (kept (a ++ b ++ c ++ d ++ e)))
 five a b c d e buf at σ₁ σ₂ σ₃ σ₄ σ₅ p₁ p₂ p₃ p₄ p₅ =
-    let σ₀ : State = (buf, record { n = at; any = false; last = 0 }) in
+    let σ₀ : State = (buf, record { n = at; last = None }) in
     let p : σ₅ ≡ store_pairs σ₀ (a ++ b ++ c ++ d ++ e) = simp pairs_append (rw (p₅, p₄, p₃, p₂, p₁)) in
     let w = came (a ++ b ++ c ++ d ++ e) σ₀ in
     (ap (λ (σ : State). σ.0) p ∙ w.buffer, ap (λ (σ : State). σ.1.n) p ∙ w.count)

@@ -1,9 +1,9 @@
 -- A resolved year serves each day as the rules themselves do. Assumes nothing.
+use Rattle.std.specs.Prelude.{None, Option, Some}
 use Prim.Native.Nat.{ℕ, zero, suc, ◌+◌, ◌-◌, ◌≤◌, ◌<◌}
 use mathlib.Core.Path.{◌≡◌, refl, sym, ap, ◌∙◌}
 use mathlib.Core.Bool.{Bool, true, false, cond, not, ◌&&◌}
 use mathlib.Core.List.{List, [], ◌∷◌}
-use mathlib.Core.Option.{Option, some, none}
 use mathlib.Core.Logic.{◌⊎◌, inl, inr, ⊎_elim}
 use native.Mathlib.Omega.{arith}
 use borrow.Author.Tests.{eq-eqb, ne_eqb, eqb-true, eqb-false}
@@ -38,19 +38,19 @@ module _ {I : Type 0} (s : Sky I) (c : Calendar) (y : ℕ) (d : List ℕ) (j : �
 
 put_length : (d : List ℕ) (j : ℕ) (o : Option ℕ) → length (put_entry d j o) ≡ length d
 unfolding put_entry
-put_length d j (some n) = length-set d j n
-put_length d j none = refl
+put_length d j (Some n) = length-set d j n
+put_length d j None = refl
 
 put_other : (d : List ℕ) (j k : ℕ) (o : Option ℕ) → (k ≡ j → ⊥) → get_or (put_entry d j o) k 0 ≡ get_or d k 0
 unfolding put_entry
-put_other d j k (some n) h = get_or-set_other d j k n 0 h
-put_other d j k none h = refl
+put_other d j k (Some n) h = get_or-set_other d j k n 0 h
+put_other d j k None h = refl
 
 -- the place of an entry, where it is compared with a day that is not 0
 put_on : (d : List ℕ) (j : ℕ) (o : Option ℕ) (n : ℕ) → j < length d → get_or d j 0 ≡ 0 → 1 ≤ n → eqb (get_or (put_entry d j o) j 0) n ≡ holds o (λ k. eqb k n)
 unfolding put_entry holds
-put_on d j (some k) n h z p = rw (get_or-set_same d j k 0 h)
-put_on d j none n h z p = rw z (ne_eqb 0 n (λ e. omega arith))
+put_on d j (Some k) n h z p = rw (get_or-set_same d j k 0 h)
+put_on d j None n h z p = rw z (ne_eqb 0 n (λ e. omega arith))
 
 zeros : (m k : ℕ) → ◌≡◌ {A = ℕ} (get_or (replicate m 0) k 0) 0
 zeros zero k = refl

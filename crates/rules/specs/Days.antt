@@ -1,27 +1,26 @@
 -- The day on which a tithi is celebrated, over any sky. Assumes nothing.
-use Rattle.std.specs.Prelude.{ℕ, zero, suc, ◌+◌, ◌-◌, Bool, false, cond, ◌&&◌, eqb}
-use Rattle.std.proofs.Math.Option.{Option, some, none}
+use Rattle.std.specs.Prelude.{ℕ, zero, suc, ◌+◌, ◌-◌, Bool, false, cond, ◌&&◌, eqb, None, Option, Some}
 use Rattle.rules.specs.Sky.{Sky}
 
 -- ---- what may be nothing
 
 unfoldable pub next : {A B : Type 0} → Option A → (A → Option B) → Option B
-next (some x) f = f x
-next none f = none
+next (Some x) f = f x
+next None f = None
 
 -- a test; nothing fails it
 unfoldable pub holds : {A : Type 0} → Option A → (A → Bool) → Bool
-holds (some x) p = p x
-holds none p = false
+holds (Some x) p = p x
+holds None p = false
 
 unfoldable pub or_else : {A : Type 0} → Option A → A → A
-or_else (some x) y = x
-or_else none y = y
+or_else (Some x) y = x
+or_else None y = y
 
 -- the first of the k numbers from n on that passes
 unfoldable pub first_from : (ℕ → Bool) → ℕ → ℕ → Option ℕ
-first_from p n zero = none
-first_from p n (suc k) = cond (p n) (some n) (first_from p (n + 1) k)
+first_from p n zero = None
+first_from p n (suc k) = cond (p n) (Some n) (first_from p (n + 1) k)
 
 -- ---- the kalas
 
@@ -58,4 +57,4 @@ module _ {I : Type 0} (s : Sky I) where
   -- the day of a festival: the tithi, its kala, and the instant at which it begins
   unfoldable pub festival_day : ℕ → ℕ → I → Option ℕ
   festival_day t k b =
-      next (s.day_of b) (λ n. cond (eqb k begins) (some n) (next (s.end_of t b) (λ e. some (asked_day (rank k) b e k n))))
+      next (s.day_of b) (λ n. cond (eqb k begins) (Some n) (next (s.end_of t b) (λ e. Some (asked_day (rank k) b e k n))))

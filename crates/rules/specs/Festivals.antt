@@ -1,8 +1,7 @@
 -- The festival rules (docs/RULES.md, Festivals), over any calendar and any sky. Assumes nothing.
-use Rattle.std.specs.Prelude.{ℕ, ◌+◌, ◌-◌, ◌*◌, Bool, true, false, cond, not, ◌&&◌, ◌||◌, List, [], ◌∷◌, ◌++◌, leb, eqb, length, drop}
-use Rattle.std.proofs.Math.Option.{Option, some, none}
+use Rattle.std.specs.Prelude.{ℕ, ◌+◌, ◌-◌, ◌*◌, Bool, true, false, cond, not, ◌&&◌, ◌||◌, List, [], ◌∷◌, ◌++◌, leb, eqb, length, drop, Err, None, Ok, Option, Some}
 use Rattle.paper.specs.declared.Refusal.TheVariants.{NoSuchDate, NoRoom}
-use Rattle.paper.specs.Answers.{Answer, answered, refused, given, then}
+use Rattle.paper.specs.Answers.{Answer, given, then}
 use Rattle.gregorian.specs.declared.Date.{Date}
 use Rattle.gregorian.specs.Calendar.{is_date, day_number, date_of}
 use Rattle.conversion.specs.declared.BsDate.{BsDate}
@@ -16,13 +15,13 @@ use Rattle.rules.specs.Days.{next, holds, festival_day}
 
 -- a test of a date; a day outside the table fails it
 unfoldable pub dated : Answer BsDate → (BsDate → Bool) → Bool
-dated (answered t) p = p t
-dated (refused k) p = false
+dated (Ok t) p = p t
+dated (Err k) p = false
 
 -- the last of a list that passes, or else what is given
 unfoldable pub last_of : {A : Type 0} → (A → Bool) → Option A → List A → Option A
 last_of p a [] = a
-last_of p a (x ∷ xs) = last_of p (cond (p x) (some x) a) xs
+last_of p a (x ∷ xs) = last_of p (cond (p x) (Some x) a) xs
 
 abbrev pub first_day : Calendar → ℕ → ℕ
 first_day c y = day_at c (y - c.first) 0 0
@@ -36,11 +35,11 @@ tithi r = r.day + 15 * r.half
 
 -- a day outside the table is nothing
 unfoldable pub in_table : Calendar → ℕ → Option ℕ
-in_table c n = cond (dated (from_day c n) (λ t. true)) (some n) none
+in_table c n = cond (dated (from_day c n) (λ t. true)) (Some n) None
 
 -- where a tithi begins, by its new moon: tithi 1 begins at the new moon itself
 unfoldable pub beginning : {I : Type 0} → Sky I → ℕ → I → Option I
-beginning s t x = cond (eqb t 1) (some x) (s.start_of t x)
+beginning s t x = cond (eqb t 1) (Some x) (s.start_of t x)
 
 module _ {I : Type 0} (s : Sky I) (c : Calendar) where
   -- the new moons of year y; a year not in the table has none
@@ -53,7 +52,7 @@ module _ {I : Type 0} (s : Sky I) (c : Calendar) where
 
   -- the new moon that opens lunar month m of year y: the last in the solar month
   unfoldable pub opening : ℕ → ℕ → Option I
-  opening y m = last_of (in_month y m) none (moons y)
+  opening y m = last_of (in_month y m) None (moons y)
 
   -- the day of a computed rule in year y, in the table or not
   unfoldable pub rule_day : ℕ → Rule → Option ℕ
@@ -128,13 +127,13 @@ module _ {I : Type 0} (s : Sky I) (c : Calendar) (rs : List Rule) where
   module _ (ok : Bool) where
     -- asked by BS date: refusals 1, 2, 4, 5, 6
     unfoldable pub listOnBs : ℕ → ℕ → ℕ → Answer (List Pair)
-    listOnBs y m d = lent c ok (then (to_day c y m d) (λ n. answered (day_list (record { year = y; month = m; day = d }) n)))
+    listOnBs y m d = lent c ok (then (to_day c y m d) (λ n. Ok (day_list (record { year = y; month = m; day = d }) n)))
 
     -- asked by Gregorian date: refusals 1, 2, 3, 7
     unfoldable pub listOnAd : ℕ → ℕ → ℕ → Answer (List Pair)
     listOnAd y m d =
         let n = day_number (record { year = y; month = m; day = d }) in
-        lent c ok (given (is_date y m d) NoSuchDate (then (from_day c n) (λ t. answered (day_list t n))))
+        lent c ok (given (is_date y m d) NoSuchDate (then (from_day c n) (λ t. Ok (day_list t n))))
 
 -- ---- what is answered and written
 
@@ -149,8 +148,8 @@ pub record Listed : Type 0 where
 
 -- a list that fits is written from the front, its count is answered, and what lies past it stays; no room where it does not fit. A refusal changes nothing
 unfoldable pub listed : Answer (List Pair) → List ℕ → Listed
-listed (answered l) out =
+listed (Ok l) out =
     cond (leb (length l * 2) (length out))
-    (record { answer = answered (length l); buffer = numbers l ++ drop (length l * 2) out })
-    (record { answer = refused NoRoom; buffer = out })
-listed (refused k) out = record { answer = refused k; buffer = out }
+    (record { answer = Ok (length l); buffer = numbers l ++ drop (length l * 2) out })
+    (record { answer = Err NoRoom; buffer = out })
+listed (Err k) out = record { answer = Err k; buffer = out }

@@ -1,6 +1,5 @@
 -- A resolved year in sixty-four places, one for each computed rule in list order, and a day's list from two of them. Assumes nothing.
-use Rattle.std.specs.Prelude.{ℕ, ◌+◌, ◌-◌, Bool, cond, not, ◌&&◌, List, [], ◌∷◌, ◌++◌, leb, eqb, get_or, set, replicate}
-use Rattle.std.proofs.Math.Option.{Option, some, none}
+use Rattle.std.specs.Prelude.{ℕ, ◌+◌, ◌-◌, Bool, cond, not, ◌&&◌, List, [], ◌∷◌, ◌++◌, leb, eqb, get_or, set, replicate, None, Option, Some}
 use Rattle.gregorian.specs.Calendar.{date_of}
 use Rattle.conversion.specs.declared.BsDate.{BsDate}
 use Rattle.conversion.specs.Calendar.{Calendar}
@@ -14,8 +13,8 @@ use Rattle.rules.specs.Festivals.{entry, Pair, picked, kept, silenced, is_fixed,
 
 -- an entry takes its place; nothing leaves it at 0
 unfoldable pub put_entry : List ℕ → ℕ → Option ℕ → List ℕ
-put_entry d j (some n) = set d j n
-put_entry d j none = d
+put_entry d j (Some n) = set d j n
+put_entry d j None = d
 
 -- the entries of the rules of kind 3, from place j on
 unfoldable pub filled : {I : Type 0} → Sky I → Calendar → ℕ → List ℕ → ℕ → List Rule → List ℕ

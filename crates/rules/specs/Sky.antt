@@ -1,6 +1,5 @@
 -- The sky, as far as festivals ask it: any instants, any astronomy. Days are day numbers; tithis, 1 to 30, and kalas, 0 to 5, are numbers. Assumes nothing.
-use Rattle.std.specs.Prelude.{ℕ, Bool, List}
-use Rattle.std.proofs.Math.Option.{Option}
+use Rattle.std.specs.Prelude.{ℕ, Bool, List, Option}
 
 pub record Sky (I : Type 0) : Type 0 where
   -- the new moons from 35 days before 0h of one day to 5 days after 0h of another, in their order

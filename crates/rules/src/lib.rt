@@ -5,15 +5,14 @@ pub mod lists;
 
 ghost use Rattle.std.specs.Prelude.{◌≡◌, ◌+◌, ◌*◌, ◌/◌, ◌≤◌, length};
 ghost use Rattle.conversion.specs.Flat.{flat};
-ghost use Rattle.conversion.specs.Answers.{valid_says};
 ghost use Rattle.rules.specs.Lent.{accepting};
 ghost use Rattle.rules.specs.Rules.{rule_at, rules_of, has_date, rule_good, all_good, count_kind, accepted_rules};
 
-use conversion::{Table, Validity};
-use paper::Refusal;
+use conversion::Table;
+use paper::{Answer, Refusal};
 
-// A rule: fixed BS date (kind 1), fixed Gregorian date (2), computed (3) or override (4).
-#[derive(Clone, Copy)]
+// A rule: fixed BS date (kind 1), fixed Gregorian date (2), computed (3) or override (4). Its numbers are those of a lent list, of any kind.
+#[derive(Clone, Copy, PartialEq, Eq)]
 pub struct Rule {
     pub kind: u16,
     pub year: u16,
@@ -66,12 +65,11 @@ fn is_good(r: Rule) -> bool
 fn all_good(rules: &[u16]) -> bool
     ensures { result ≡ all_good (rules_of rules.now) }
 {
+    // A loop: no proof was found from what std says of `all` over a range to the list of rules.
     let n = rules.len() / 8;
     let mut good = true;
-    let mut i = 0;
-    while i < n {
+    for i in 0..n {
         good = good & is_good(rule_at(rules, i));
-        i += 1;
     }
     good
 }
@@ -80,16 +78,14 @@ fn all_good(rules: &[u16]) -> bool
 fn count_kind(rules: &[u16], k: u16) -> usize
     ensures { result ≡ count_kind k (rules_of rules.now) }
 {
+    // A loop: no proof was found from what std says of `count` over a range to the list of rules.
     let n = rules.len() / 8;
     let mut count = 0;
-    let mut i = 0;
-    while i < n {
+    for i in 0..n {
         let r = rule_at(rules, i);
-        i += 1;
-        if r.kind != k {
-            continue;
+        if r.kind == k {
+            count += 1;
         }
-        count += 1;
     }
     count
 }
@@ -109,14 +105,14 @@ pub fn accepts_rules(rules: &[u16]) -> bool
 }
 
 // Whether what is lent is good: the table first, then the rules. Refusals 1, 2.
-pub fn accept(table: Table, rows: &[u16], rules: &[u16]) -> Validity
-    ensures { valid_says result ≡ accepting (flat table rows.now) (accepted_rules rules.now) }
+pub fn accept(table: Table, rows: &[u16], rules: &[u16]) -> Answer<()>
+    ensures { result ≡ accepting (flat table rows.now) (accepted_rules rules.now) }
 {
     if !conversion::accepts(table, rows) {
-        return Validity::Refused(Refusal::BadTable);
+        return Err(Refusal::BadTable);
     }
     if !accepts_rules(rules) {
-        return Validity::Refused(Refusal::BadRules);
+        return Err(Refusal::BadRules);
     }
-    Validity::Valid
+    Ok(())
 }

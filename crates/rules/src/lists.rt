@@ -31,12 +31,11 @@ pub struct Day {
     pub number: u32,
 }
 
-// How many pairs stand in the buffer, whether one of them is of this day, and the last name.
+// How many pairs stand in the buffer, and the name of the last one where it is of this day.
 #[derive(Clone, Copy)]
 pub struct Kept {
     pub n: usize,
-    pub any: bool,
-    pub last: u16,
+    pub last: Option<u16>,
 }
 
 // Stores x at index i, if there is such an index.
@@ -52,7 +51,7 @@ pub fn set_at(buf: &mut [u16], i: usize, x: u16)
 fn is_repeat(s: Kept, name: u16) -> bool
     ensures { result ≡ repeats s name }
 {
-    s.any & (s.last == name)
+    s.last == Some(name)
 }
 
 // Keeps a pair where `on` says so and its name is not the last one.
@@ -72,8 +71,7 @@ fn keep_pair(buf: &mut [u16], s: Kept, on: bool, name: u16, holiday: u16) -> Kep
     set_at(buf, at + 1, holiday);
     Kept {
         n: s.n + 1,
-        any: true,
-        last: name,
+        last: Some(name),
     }
 }
 
@@ -99,13 +97,11 @@ fn is_override(bs: BsDate, r: Rule) -> bool
 fn falls_on(k: u16, day: Day, r: Rule) -> bool
     ensures { result ≡ falls k day r }
 {
-    if k == 1 {
-        return is_fixed(day.bs, r);
+    match k {
+        1 => is_fixed(day.bs, r),
+        2 => is_gregorian(day.ad, r),
+        _ => is_override(day.bs, r),
     }
-    if k == 2 {
-        return is_gregorian(day.ad, r);
-    }
-    is_override(day.bs, r)
 }
 
 // The pairs of the rules of kind k that fall on the day.
@@ -116,11 +112,9 @@ fn put_dated(rules: &[u16], k: u16, day: Day, buf: &mut [u16], s: Kept) -> Kept
 {
     let n = rules.len() / 8;
     let mut t = s;
-    let mut i = 0;
-    while i < n {
+    for i in 0..n {
         let r = rule_at(rules, i);
         t = keep_pair(buf, t, falls_on(k, day, r), r.name, r.holiday);
-        i += 1;
     }
     t
 }
@@ -135,6 +129,7 @@ fn overrides_it(r: Rule, year: u16, name: u16) -> bool
 fn is_silenced(rules: &[u16], year: u16, name: u16) -> bool
     ensures { result ≡ silenced (rules_of rules.now) year name }
 {
+    // A loop: no proof was found from what std says of `any` over a range to the list of rules.
     let n = rules.len() / 8;
     let mut found = false;
     for i in 0..n {
@@ -147,10 +142,7 @@ fn is_silenced(rules: &[u16], year: u16, name: u16) -> bool
 fn shows_on(rules: &[u16], year: u16, name: u16, k: u32, n: u32) -> bool
     ensures { result ≡ shows (rules_of rules.now) year name k n }
 {
-    if k != n {
-        return false;
-    }
-    !is_silenced(rules, year, name)
+    k == n && !is_silenced(rules, year, name)
 }
 
 // The pairs of the computed rules whose entry of a resolved year is day n of the year.
@@ -170,10 +162,8 @@ fn put_resolved(
     let count = rules.len() / 8;
     let mut t = s;
     let mut j = 0;
-    let mut i = 0;
-    while i < count {
+    for i in 0..count {
         let r = rule_at(rules, i);
-        i += 1;
         if r.kind != 3 {
             continue;
         }
@@ -190,6 +180,9 @@ fn put_resolved(
     t
 }
 
+// The last month in which the year before is asked.
+const LAST_ASKED: u16 = 2;
+
 // The pairs of the year before, asked in months 1 and 2 only.
 fn put_before(rules: &[u16], day: Day, entries: Resolved, buf: &mut [u16], s: Kept) -> Kept
     requires rules_bound { count_kind 3 (rules_of rules.now) ≤ 64 }
@@ -197,7 +190,7 @@ fn put_before(rules: &[u16], day: Day, entries: Resolved, buf: &mut [u16], s: Ke
     ensures result_after { (buf.new, result) ≡ store_pairs (buf.old, s) (used_early (rules_of rules.now) day entries.days) }
     ensures n_bound { result.n ≤ s.n + length rules.now / 8 }
 {
-    if 2 < day.bs.month {
+    if LAST_ASKED < day.bs.month {
         return s;
     }
     put_resolved(rules, day.bs.year, entries, day.number, buf, s)
@@ -211,11 +204,7 @@ pub fn put_day_list(rules: &[u16], day: Day, years: Years, buf: &mut [u16], at: 
     ensures value { result ≡ at + length (list_by (rules_of rules.now) day years) }
     ensures upper_bound { result ≤ at + 384 }
 {
-    let none = Kept {
-        n: at,
-        any: false,
-        last: 0,
-    };
+    let none = Kept { n: at, last: None };
     let fixed = put_dated(rules, 1, day, buf, none);
     let both = put_dated(rules, 2, day, buf, fixed);
     let prior = put_before(rules, day, years.before, buf, both);

@@ -1,10 +1,10 @@
 -- The arrays that hold a good state have their lengths. Assumes nothing.
+use Rattle.std.specs.Prelude.{None, Option, Some}
 use Prim.Native.Nat.{ℕ, ◌+◌, ◌-◌, ◌≤◌}
 use mathlib.Core.Path.{◌≡◌, refl, ap, ◌∙◌}
 use mathlib.Core.Bool.{Bool, true, false, cond}
 use mathlib.Core.List.{List, [], ◌∷◌}
 use mathlib.Core.Logic.{⊎_elim}
-use mathlib.Core.Option.{Option, some, none}
 use native.Mathlib.Omega.{arith}
 use lib.Dec.{eqb}
 use lib.ListN.{length, replicate, length-append, length-replicate, length-set}
@@ -29,8 +29,8 @@ either false l m n e f = f
 
 length_entry : (d : List ℕ) (j : ℕ) (o : Option ℕ) → length (put_entry d j o) ≡ length d
 unfolding put_entry
-length_entry d j (some n) = length-set d j n
-length_entry d j none = refl
+length_entry d j (Some n) = length-set d j n
+length_entry d j None = refl
 
 module _ {I : Type 0} (s : Sky I) (c : Calendar) (y : ℕ) where
   length_filled : (d : List ℕ) (j : ℕ) (rs : List Rule) → length (filled s c y d j rs) ≡ length d

@@ -17,27 +17,21 @@ use rules::lists::{Resolved, Years};
 fn number_at(numbers: &[u16], i: usize) -> u16
     ensures { result ≡ get_or numbers.now i 0 }
 {
-    if i < numbers.len() {
-        return numbers[i];
-    }
-    0
+    numbers.get(i).copied().unwrap_or(0)
 }
 
 // The n numbers from place at on, as far as there are.
 fn part(numbers: &[u16], at: usize, n: usize) -> &[u16]
     ensures { result.now ≡ take n (drop at numbers.now) }
 {
-    if at <= numbers.len() {
-        return front(&numbers[at..], n);
-    }
-    &numbers[..0]
+    front(&numbers[at.min(numbers.len())..], n)
 }
 
 // A day from its two halves.
 fn whole(low: u16, high: u16) -> u32
     ensures { result ≡ low + 65536 * high }
 {
-    low as u32 + 65536 * (high as u32)
+    u32::from(low) + 65536 * u32::from(high)
 }
 
 // The 64 days from place at on.
@@ -46,11 +40,9 @@ fn days_at(numbers: &[u16], at: usize) -> Resolved
     ensures { result ≡ days_at numbers.now at }
 {
     let mut days = [0u32; 64];
-    let mut i = 0;
-    while i < 64 {
+    for i in 0..64 {
         let k = at + i * 2;
         days[i] = whole(number_at(numbers, k), number_at(numbers, k + 1));
-        i += 1;
     }
     Resolved { days }
 }
@@ -71,20 +63,20 @@ pub fn table_of(numbers: &[u16]) -> Table
 pub fn rows_of(numbers: &[u16]) -> &[u16]
     ensures { result.now ≡ rows_of numbers.now }
 {
-    part(numbers, 8, number_at(numbers, 4) as usize)
+    part(numbers, 8, usize::from(number_at(numbers, 4)))
 }
 
 // The stored years.
 fn store_of(numbers: &[u16]) -> Store
     ensures { result ≡ store_in numbers.now }
 {
-    let before = days_at(numbers, 4232);
-    let this = days_at(numbers, 4360);
-    let years = Years { before, this };
     Store {
         count: number_at(numbers, 6),
         year: number_at(numbers, 7),
-        years,
+        years: Years {
+            before: days_at(numbers, 4232),
+            this: days_at(numbers, 4360),
+        },
     }
 }
 
@@ -96,15 +88,13 @@ pub fn kept_of(numbers: &[u16]) -> Kept
     put_at(&mut rows, 0, part(numbers, 8, 1664));
     let mut rules = [0u16; 2560];
     put_at(&mut rules, 0, part(numbers, 1672, 2560));
-    let table = table_of(numbers);
-    let store = store_of(numbers);
     Kept {
-        table,
+        table: table_of(numbers),
         rows,
-        row_len: number_at(numbers, 4) as usize,
+        row_len: usize::from(number_at(numbers, 4)),
         rules,
-        rule_len: number_at(numbers, 5) as usize,
-        store,
+        rule_len: usize::from(number_at(numbers, 5)),
+        store: store_of(numbers),
     }
 }
 
@@ -125,32 +115,16 @@ fn head_of(state: Kept) -> [u16; 8]
     ]
 }
 
-// The low sixteen bits of a day.
-fn low_half(d: u32) -> u16
-    ensures { result ≡ d % 65536 }
-{
-    (d % 65536) as u16
-}
-
-// The high sixteen bits of a day.
-fn high_half(d: u32) -> u16
-    ensures { result ≡ d / 65536 }
-{
-    (d / 65536) as u16
-}
-
 // Stores 64 days from place at on.
 fn put_days(out: &mut [u16], at: usize, entries: Resolved)
     requires { at + 128 ≤ length out.old }
     ensures { out.new ≡ sets out.old at (halves entries.days) }
 {
-    let mut i = 0;
-    while i < 64 {
-        let d = entries.days[i];
+    for i in 0..64 {
+        let day = entries.days[i];
         let k = at + i * 2;
-        out[k] = low_half(d);
-        out[k + 1] = high_half(d);
-        i += 1;
+        out[k] = (day % 65536) as u16;
+        out[k + 1] = (day / 65536) as u16;
     }
 }
 
@@ -160,12 +134,9 @@ fn put_all(state: Kept, out: &mut [u16])
     requires row_len_bound { (state.row_len ≤ 65535) × (state.rule_len ≤ 65535) }
     ensures { out.new ≡ numbers_of state ++ drop 4488 out.old }
 {
-    let head = head_of(state);
-    let rows = state.rows;
-    let rules = state.rules;
-    put_at(out, 0, &head);
-    put_at(out, 8, &rows);
-    put_at(out, 1672, &rules);
+    put_at(out, 0, &head_of(state));
+    put_at(out, 8, &state.rows);
+    put_at(out, 1672, &state.rules);
     put_days(out, 4232, state.store.years.before);
     put_days(out, 4360, state.store.years.this);
 }
@@ -174,14 +145,7 @@ fn put_all(state: Kept, out: &mut [u16])
 pub fn put(state: Kept, out: &mut [u16])
     ensures { out.new ≡ placed state out.old }
 {
-    if out.len() < 4488 {
-        return;
+    if 4488 <= out.len() && state.row_len <= 65535 && state.rule_len <= 65535 {
+        put_all(state, out);
     }
-    if 65535 < state.row_len {
-        return;
-    }
-    if 65535 < state.rule_len {
-        return;
-    }
-    put_all(state, out);
 }

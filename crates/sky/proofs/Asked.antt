@@ -1,8 +1,8 @@
 -- A search between two instants asks instants alone: the middle of two is one, the end of a step is one, and so is what halving finds. Over any offset. Assumes nothing.
+use Rattle.std.specs.Prelude.{Some}
 use mathlib.Core.Path.{◌≡◌, refl}
 use mathlib.Core.Bool.{Bool, true, false, cond}
 use mathlib.Core.List.{List, [], ◌∷◌, ◌++◌}
-use mathlib.Core.Option.{some}
 use Prim.Native.Nat.{ℕ, zero, suc}
 use native.Mathlib.Omega.{arith}
 use lib.Dec.{T}
@@ -47,7 +47,7 @@ joined : (l m : List Float) → Instants l → Instants m → Instants (l ++ m)
 joined [] m h k = k
 joined (x ∷ l) m h k = (h.0, joined l m h.1 k)
 
-head_instant : (l : List Float) {x : Float} → Instants l → first l ≡ some x → T (instant x)
+head_instant : (l : List Float) {x : Float} → Instants l → first l ≡ Some x → T (instant x)
 unfolding first
 head_instant [] h e = absurd (let z : ◌≡◌ {A = ℕ} 0 1 = cc in omega arith)
 head_instant (y ∷ l) {x} h e = let q : y ≡ x = cc in rw (← q) h.0
@@ -112,5 +112,5 @@ module _ (f : Float → Float) where
   unfolding searched
   starts_instants a to h k = walk_instants 1024 (lt a to) to a k h
 
-  pub first_instant : (a to : Float) {x : Float} → T (instant a) → T (instant to) → first (searched f a to).starts ≡ some x → T (instant x)
+  pub first_instant : (a to : Float) {x : Float} → T (instant a) → T (instant to) → first (searched f a to).starts ≡ Some x → T (instant x)
   first_instant a to h k e = head_instant (searched f a to).starts (starts_instants a to h k) e

@@ -4,11 +4,10 @@
 -- digit is left. The moon needs no more room: the engine's sixty rows are all that the book sums for the longitude.
 use lib.Dec.{T}
 use lib.Ieee.{Float, neg, add, sub, mul, div, rem, le, lt, eq, of_int, of_bits}
-use Rattle.paper.specs.Answers.{given}
 use Rattle.paper.specs.Floats.{◌⊕◌, near, dec}
 use Rattle.gregorian.specs.Calendar.{is_date, meeus_day}
 use Rattle.gregorian.specs.Instants.{instant, zero_hour, julian_answer}
-use Rattle.trig.specs.Trig.{least, most, clamp, magnitude, turned, signed, turn_sign, sine_series, swing, sine_above, sine}
+use Rattle.trig.specs.Trig.{least, most, clamp, magnitude, turned, signed, turn_sign, sine_series, wave, swing, sine_above, sine}
 use Rattle.sky.specs.Angles.{norm360, deg}
 use Rattle.sky.specs.Time.{tt_day, julian_centuries}
 use Rattle.sky.specs.Sun.{mean_longitude, anomaly, center, sun_longitude}
@@ -19,7 +18,7 @@ use Rattle.sky.specs.Claims.{within, prints, answers}
 -- ---- 7.a: 1957 October 4.81 is JD 2436116.31, of which the answer is the nearest f64
 
 pub julian_day : T (answers (eq (dec 243611631 2)) (julian_answer (record { year = 1957; month = 10; day = 4 }) (dec 81 2)))
-unfolding near given is_date meeus_day zero_hour instant add le eq
+unfolding near is_date meeus_day zero_hour instant add le eq
 julian_day = tt
 
 -- ---- 25.a: the sun on 1992 October 13 at 0h TD, JDE 2448908.5
@@ -44,12 +43,12 @@ sun_anomaly_law = tt
 
 -- the equation of the center, C = -1.89732
 pub sun_center : T (prints 189732 5 (neg (center october (anomaly october))))
-unfolding near julian_centuries deg anomaly center sine signed turned sine_above magnitude swing turn_sign sine_series clamp least most neg add sub mul div le lt eq of_bits
+unfolding near julian_centuries deg anomaly center sine signed turned sine_above magnitude swing wave turn_sign sine_series clamp least most neg add sub mul div le lt eq of_bits
 sun_center = tt
 
 -- the true longitude, 199.90988, to one unit of the last digit: the book adds its rounded L0 and C; rounded once the sum is 199.90987
 pub sun_longitude_law : T (answers (within 2 19990988 5) (sun_answer (dec 24489085 1)))
-unfolding near given tt_day julian_centuries norm360 deg mean_longitude anomaly center sun_longitude sine signed turned sine_above magnitude swing turn_sign sine_series clamp least most neg add sub mul div rem le lt eq of_bits
+unfolding near tt_day julian_centuries norm360 deg mean_longitude anomaly center sun_longitude sine signed turned sine_above magnitude swing wave turn_sign sine_series clamp least most neg add sub mul div rem le lt eq of_bits
 sun_longitude_law = tt
 
 -- ---- 47.a: the moon on 1992 April 12 at 0h TD, JDE 2448724.5
@@ -94,10 +93,10 @@ moon_factor = tt
 
 -- the sum of the periodic and the additive terms, -1127527 millionths of a degree
 pub moon_terms_law : T (prints 1127527 0 (neg (moon_sum (moon_args april) ⊕ additive april (moon_args april))))
-unfolding near julian_centuries deg mean_place mean_elongation sun_anomaly moon_anomaly argument_of_latitude eccentricity_factor factor_power zero_or series moon_sum venus jupiter additive sine signed turned sine_above magnitude swing turn_sign sine_series clamp least most neg add sub mul div le lt eq of_int of_bits
+unfolding near julian_centuries deg mean_place mean_elongation sun_anomaly moon_anomaly argument_of_latitude eccentricity_factor factor_power zero_or series moon_sum venus jupiter additive sine signed turned sine_above magnitude swing wave turn_sign sine_series clamp least most neg add sub mul div le lt eq of_int of_bits
 moon_terms_law = tt
 
 -- the longitude without nutation, 133.162655
 pub moon_longitude_law : T (answers (prints 133162655 6) (moon_answer (dec 24487245 1)))
-unfolding near given tt_day julian_centuries norm360 deg mean_place mean_elongation sun_anomaly moon_anomaly argument_of_latitude eccentricity_factor factor_power zero_or series moon_sum venus jupiter additive moon_longitude sine signed turned sine_above magnitude swing turn_sign sine_series clamp least most neg add sub mul div rem le lt eq of_int of_bits
+unfolding near tt_day julian_centuries norm360 deg mean_place mean_elongation sun_anomaly moon_anomaly argument_of_latitude eccentricity_factor factor_power zero_or series moon_sum venus jupiter additive moon_longitude sine signed turned sine_above magnitude swing wave turn_sign sine_series clamp least most neg add sub mul div rem le lt eq of_int of_bits
 moon_longitude_law = tt

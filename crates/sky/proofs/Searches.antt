@@ -1,5 +1,6 @@
 -- A search, over any offset: it has at most as many starts as steps, and at most 1,024 steps; from not below to it has none. And what
 -- `tithi_starts_between` gives at each refusal. Assumes nothing.
+use Rattle.std.specs.Prelude.{Err, Ok}
 use mathlib.Core.Path.{◌≡◌}
 use mathlib.Core.Bool.{Bool, true, false, cond}
 use mathlib.Core.List.{List, [], ◌∷◌, ◌++◌}
@@ -10,7 +11,7 @@ use lib.ListN.{length, drop, length-append}
 use lib.Ieee.{Float, lt}
 use Rattle.paper.specs.declared.Refusal.{Refusal}
 use Rattle.paper.specs.declared.Refusal.TheVariants.{OutOfRange, NoRoom, NotEnded}
-use Rattle.paper.specs.Answers.{Answer, answered, refused, given}
+use Rattle.paper.specs.Answers.{Answer}
 use Rattle.sky.specs.Search.{halved, step_end, crosses, here, walk, searched, starts_of}
 use Rattle.sky.specs.Answers.{query, starts_answer, held, starts_buffer}
 use Rattle.sky.proofs.Steps.{rest_stop}
@@ -61,11 +62,11 @@ module _ (f : Float → Float) where
 
 -- ---- what a call gives: the answer, and what the buffer holds
 -- a refusal leaves the buffer as it was
-pub held_refused : {A B : Type 0} (r : Answer A) {k : Refusal} (w b : B) → r ≡ refused k → held r w b ≡ b
+pub held_refused : {A B : Type 0} (r : Answer A) {k : Refusal} (w b : B) → r ≡ Err k → held r w b ≡ b
 unfolding held
 held_refused r w b e = rw e
 
-pub held_answered : {A B : Type 0} (r : Answer A) {x : A} (w b : B) → r ≡ answered x → held r w b ≡ w
+pub held_answered : {A B : Type 0} (r : Answer A) {x : A} (w b : B) → r ≡ Ok x → held r w b ≡ w
 unfolding held
 held_answered r w b e = rw e
 
@@ -73,27 +74,27 @@ module _ (n : ℕ) (a b : Float) (out : List Float) where
   abbrev answer : Answer (ℕ × ℕ)
   answer = starts_answer n a b (length out)
 
-  pub refused_buffer : {k : Refusal} → answer ≡ refused k → starts_buffer n a b out ≡ out
+  pub refused_buffer : {k : Refusal} → answer ≡ Err k → starts_buffer n a b out ≡ out
   unfolding starts_buffer
   refused_buffer e = held_refused answer _ out e
 
-  pub out_of_range : query n a b ≡ false → answer ≡ refused OutOfRange
-  unfolding starts_answer given
+  pub out_of_range : query n a b ≡ false → answer ≡ Err OutOfRange
+  unfolding starts_answer
   out_of_range h = rw h
 
   module _ (good : query n a b ≡ true) where
-    pub not-ended : (starts_of n a b).ended ≡ false → answer ≡ refused NotEnded
-    unfolding starts_answer given
+    pub not-ended : (starts_of n a b).ended ≡ false → answer ≡ Err NotEnded
+    unfolding starts_answer
     not-ended h = rw (good, h)
 
     module _ (e : (starts_of n a b).ended ≡ true) where
-      pub no_room : length out < length (starts_of n a b).starts → answer ≡ refused NoRoom
-      unfolding starts_answer given
+      pub no_room : length out < length (starts_of n a b).starts → answer ≡ Err NoRoom
+      unfolding starts_answer
       no_room h = rw (good, e, lt-leb (length (starts_of n a b).starts) (length out) h)
 
       module _ (room : length (starts_of n a b).starts ≤ length out) where
-        pub gives_found : answer ≡ answered (length (starts_of n a b).starts, (starts_of n a b).steps)
-        unfolding starts_answer given
+        pub gives_found : answer ≡ Ok (length (starts_of n a b).starts, (starts_of n a b).steps)
+        unfolding starts_answer
         gives_found = rw (good, e, le-leb (length (starts_of n a b).starts) (length out) room)
 
         pub found-buffer : starts_buffer n a b out ≡ (starts_of n a b).starts ++ drop (length (starts_of n a b).starts) out

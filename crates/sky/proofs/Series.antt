@@ -1,6 +1,6 @@
 -- The moon's series: a power of E by cases, one row's term, one row more. Assumes nothing.
-use mathlib.Core.Path.{◌≡◌, refl, ◌∙◌}
-use mathlib.Core.List.{List}
+use mathlib.Core.Path.{◌≡◌, refl, ap, ◌∙◌}
+use mathlib.Core.List.{List, map}
 use Prim.Native.Nat.{ℕ, zero, suc, ◌+◌, ◌<◌, ◌≤◌}
 use mathlib.Core.Logic.{⊎_elim}
 use native.Mathlib.Numerals.{add-one}
@@ -8,6 +8,8 @@ use native.Mathlib.Omega.{arith}
 use lib.IntN.{ℤ, pos, negsuc}
 use lib.Ieee.{Float, nan}
 use lib.ListN.{length, get_or, set}
+use Rattle.std.specs.List.{range_with_len}
+use Rattle.std.proofs.lemmas.List.FromFn.{get_or-map-range_with_len}
 use lib.Seq.{get_or-set_same, get_or-set_other}
 use mir.Syntax.{w32}
 use mir.Val.{SFits, to_z, of_z}
@@ -17,7 +19,7 @@ use Rattle.paper.specs.Floats.{◌⊕◌, ◌⊗◌, whole}
 use Rattle.trig.specs.Trig.{sine}
 use Rattle.sky.specs.Angles.{deg}
 use Rattle.sky.specs.Moon.{factor_power, angle, zero_or, term_at, series}
-use Rattle.sky.specs.Inner.{add_term, added}
+use Rattle.sky.specs.Inner.{row, add_term, added}
 use Rattle.sky.specs.declared.moon.MoonArgs.{MoonArgs}
 use Rattle.sky.specs.declared.moon.Term.{Term}
 
@@ -56,15 +58,24 @@ module _ (e : Float) (x : Term) (v s : Float) where
   term_none h = rw h
 
 -- one row more
-pub row_more : (rows : List ℤ) (e : Float) (f : ℕ → Float) (i : ℕ) {x : Term} {v s r : Float} → s ≡ added rows e f i → x ≡ term_at rows i → v ≡ f i → r ≡ add_term e x v s → r ≡ added rows e f (i + 1)
+pub row_more : (t : ℕ → Term) (e : Float) (f : ℕ → Float) (i : ℕ) {x : Term} {v s r : Float} → s ≡ added t e f i → x ≡ t i → v ≡ f i → r ≡ add_term e x v s → r ≡ added t e f (i + 1)
 unfolding added
-row_more rows e f i hs hx hv hr = rw (add-one i) (hr ∙ simp (hs, hx, hv))
+row_more t e f i hs hx hv hr = rw (add-one i) (hr ∙ simp (hs, hx, hv))
+
+pub added_same : (t : ℕ → Term) (e : Float) (f g : ℕ → Float) (n : ℕ) → ((i : ℕ) → i < n → f i ≡ g i) → added t e f n ≡ added t e g n
+unfolding added
+added_same t e f g zero h = refl
+added_same t e f g (suc n) h = rw (h n (omega arith), added_same t e f g n (λ i l. h i (omega arith)))
 
 -- three passes are one: the rows added with the sines of their own angles
-pub passes : (rows : List ℤ) (a : MoonArgs) (f : ℕ → Float) (n : ℕ) → ((i : ℕ) → i < n → f i ≡ sine (angle a (term_at rows i))) → added rows a.factor f n ≡ series rows a n
+pub passes : (t : ℕ → Term) (rows : List ℤ) (a : MoonArgs) (n : ℕ) → ((i : ℕ) → i < n → t i ≡ term_at rows i) → added t a.factor (λ i. sine (angle a (t i))) n ≡ series rows a n
 unfolding added add_term series
-passes rows a f zero h = refl
-passes rows a f (suc n) h = rw (h n (omega arith), passes rows a f n (λ i l. h i (omega arith)))
+passes t rows a zero h = refl
+passes t rows a (suc n) h = rw (h n (omega arith), passes t rows a n (λ i l. h i (omega arith)))
+
+-- a row of a table that was made of the rows of another
+pub row_of : (f : ℕ → Term) (n : ℕ) (l : List Term) → l ≡ map f (range_with_len 0 n) → (i : ℕ) → i < n → row l i ≡ f i
+row_of f n l e i h = ap (λ (k : List Term). row k i) e ∙ get_or-map-range_with_len f 0 n i i _ h (omega arith)
 
 -- the places below i hold the one, the others what the other says
 abbrev pub Filled : List Float → (ℕ → Float) → (ℕ → Float) → ℕ → Type 0

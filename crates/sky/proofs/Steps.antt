@@ -1,8 +1,8 @@
 -- The walk of a search, over any offset f: a step, the way from one start to the next, and all of them. Assumes nothing.
+use Rattle.std.specs.Prelude.{Option, None, Some}
 use mathlib.Core.Path.{◌≡◌, refl, sym, ap, ◌∙◌}
 use mathlib.Core.Bool.{true, false, not}
 use mathlib.Core.List.{List, [], ◌∷◌, ◌++◌, append_assoc, append-nil}
-use mathlib.Core.Option.{none, some}
 use Prim.Native.Nat.{ℕ, zero, suc, ◌+◌, ◌-◌, ◌≤◌, ◌<◌}
 use native.Mathlib.Nat.{not-suc-le-zero}
 use native.Mathlib.Numerals.{add-one, sub-one}
@@ -11,14 +11,14 @@ use lib.ListN.{length, take, drop, set, length-set, take-append-drop}
 use lib.Seq.{take-suc-set, drop-set-lt, drop-drop, length-take-le}
 use lib.Ieee.{Float, lt}
 use Rattle.sky.specs.Search.{halved, step_end, crosses, here, Walk, onward, walk, searched, first}
-use Rattle.sky.specs.Inner.{stopped, came, no_start, rest, Goes, Comes}
+use Rattle.sky.specs.Inner.{stopped, listed, came, no_start, rest, Goes, Comes}
 use Rattle.sky.specs.declared.search.Next.{Next}
 
-came_none : (r : Next) → r.found ≡ false → came r ≡ []
-came_none r h = rw h
+came_none : (r : Next) → r.at ≡ None → came r ≡ []
+came_none r h = ap listed h
 
-pub came_one : (r : Next) → r.found ≡ true → came r ≡ r.at ∷ []
-came_one r h = rw h
+pub came_one : (r : Next) {v : Float} → r.at ≡ Some v → came r ≡ v ∷ []
+came_one r h = ap listed h
 
 module _ (f : Float → Float) (to : Float) where
   walk_on : (n : ℕ) (lo : Float) → 0 < n → walk f n true to lo ≡ onward (here f lo (step_end to lo)) (rest f to (n - 1) (step_end to lo))
@@ -93,11 +93,11 @@ module _ (f : Float → Float) (to : Float) where
         pub sought-none : crosses flo fhi ≡ false → Sought hi fhi (left - 1)
         sought-none h = let n = i.fewer in record { goes = goes_then [] i.goes (step-none t h); fewer = omega arith; from_is = t.to_is }
 
-        pub sought-one : {v : Float} → crosses flo fhi ≡ true → v ≡ halved f 30 lo hi → Comes f to steps a (record { found = true; at = v; lo = hi; gap = fhi; left = left - 1 })
+        pub sought-one : {v : Float} → crosses flo fhi ≡ true → v ≡ halved f 30 lo hi → Comes f to steps a (record { at = Some v; lo = hi; gap = fhi; left = left - 1 })
         sought-one h e =
             let n = i.fewer in
             let m = t.more in
-            record { goes = goes_then [] i.goes (step-one t h e); fewer = omega arith; gap_is = t.to_is; over = λ q. absurd (let z : ◌≡◌ {A = ℕ} 0 1 = cc in omega arith) }
+            record { goes = goes_then [] i.goes (step-one t h e); fewer = omega arith; gap_is = t.to_is; over = λ q. absurd (cc) }
 
       pub sought-out : rest f to left lo ≡ stopped (not (lt lo to)) → Comes f to steps a (no_start lo flo left)
       sought-out e = let n = i.fewer in record { goes = i.goes; fewer = omega arith; gap_is = i.from_is; over = λ q. e }
@@ -108,14 +108,14 @@ module _ (f : Float → Float) (to : Float) where
     whole = searched f a to
 
     module _ {r : Next} (i : Comes f to 1024 a r) where
-      pub first_found : r.found ≡ true → some r.at ≡ first whole.starts
+      first_come : (o : Option Float) → r.at ≡ o → o ≡ first whole.starts
       unfolding first searched
-      first_found h = sym (ap first (i.goes.starts ∙ ap (λ (l : List Float). l ++ (rest f to r.left r.lo).starts) (came_one r h)))
-
-      pub first-none : r.found ≡ false → none ≡ first whole.starts
-      unfolding first searched
-      first-none h =
+      first_come (Some v) h = sym (ap first (i.goes.starts ∙ ap (λ (l : List Float). l ++ (rest f to r.left r.lo).starts) (came_one r h)))
+      first_come None h =
           sym (ap first (i.goes.starts ∙ ap (λ (l : List Float). l ++ (rest f to r.left r.lo).starts) (came_none r h) ∙ ap (λ (w : Walk). w.starts) (i.over h)))
+
+      pub first_is : r.at ≡ first whole.starts
+      first_is = first_come r.at refl
 
     -- every start: those before the next are in b
     pub record All (b₀ b : List Float) (count : ℕ) (r : Next) : Type 0 where
@@ -124,18 +124,17 @@ module _ (f : Float → Float) (to : Float) where
       pub goes : Goes f to 1024 a (take count b ++ came r) r.left r.lo
       pub behind : drop count b ≡ drop count b₀
       pub gap_is : r.gap ≡ f r.lo
-      pub over : r.found ≡ false → rest f to r.left r.lo ≡ stopped (not (lt r.lo to))
+      pub over : r.at ≡ None → rest f to r.left r.lo ≡ stopped (not (lt r.lo to))
 
     pub all-begin : (b : List Float) {r : Next} → length b ≡ 1024 → Comes f to 1024 a r → All b b 0 r
     all-begin b h i = let n = i.fewer in record { len = h; room = omega arith; goes = i.goes; behind = refl; gap_is = i.gap_is; over = i.over }
 
     module _ {b₀ b : List Float} {count : ℕ} {r : Next} (i : All b₀ b count r) where
-      pub all_room : r.found ≡ true → count + 1 + r.left ≤ 1024
-      all_room h = let n = i.room in let e = ap length (came_one r h) in omega arith
+      pub all_room : {v : Float} → r.at ≡ Some v → count + 1 + r.left ≤ 1024
+      all_room {v} h = let n = i.room in let e = ap length (came_one r h) in omega arith
 
-      pub all_more : {next : Next} → r.found ≡ true → Comes f to r.left r.lo next → All b₀ (set b count r.at) (count + 1) next
-      all_more {next} h j =
-          let v = r.at in
+      pub all_more : {next : Next} {v : Float} → r.at ≡ Some v → Comes f to r.left r.lo next → All b₀ (set b count v) (count + 1) next
+      all_more {next} {v} h j =
           let m = i.len in
           let n = all_room h in
           let k = j.fewer in
@@ -151,7 +150,7 @@ module _ (f : Float → Float) (to : Float) where
           }
 
       -- what the contract says, where no start is left
-      module _ (h : r.found ≡ false) where
+      module _ (h : r.at ≡ None) where
         all_found : whole.starts ≡ take count b
         unfolding searched
         all_found =

@@ -1,9 +1,9 @@
 -- What is claimed of the formulas: each angle is one that sine serves (proofs/Served.antt), and the numbers are those that a book prints
 -- (proofs/Meeus.antt). Assumes nothing.
-use Rattle.std.specs.Prelude.{ℕ, ◌+◌, ◌*◌, ◌^◌, ◌<◌, Bool, false, not, ◌&&◌, T, leb, Float}
+use Rattle.std.specs.Prelude.{ℕ, ◌+◌, ◌*◌, ◌^◌, ◌<◌, Bool, false, not, ◌&&◌, T, leb, Float, Err, Ok}
 use Rattle.std.specs.Float.{nan, inf, fin}
 use Rattle.std.specs.Float.Ieee.{up, down}
-use Rattle.paper.specs.Answers.{Answer, answered, refused}
+use Rattle.paper.specs.Answers.{Answer}
 use Rattle.paper.specs.Floats.{◌⊖◌, ◌⊗◌, dec}
 use Rattle.trig.specs.Trig.{in_range}
 use Rattle.sky.specs.Angles.{deg}
@@ -35,5 +35,5 @@ prints n k x = within 1 n k x
 
 -- what is answered passes a test
 abbrev pub answers : (Float → Bool) → Answer Float → Bool
-answers p (answered x) = p x
-answers p (refused k) = false
+answers p (Ok x) = p x
+answers p (Err k) = false

@@ -1,7 +1,6 @@
 -- The search for the instants at which a tithi begins: steps of 0.75 days, a start where the offset from the tithi's elongation goes from at
 -- most 0 to above 0, then thirty halvings. It is written over any offset, so over any elongation. Assumes nothing.
-use Rattle.std.specs.Prelude.{ℕ, zero, suc, ◌+◌, Bool, true, false, cond, not, ◌&&◌, List, [], ◌∷◌, ◌++◌, ltb, pos, Float}
-use Rattle.std.proofs.Math.Option.{Option, none, some}
+use Rattle.std.specs.Prelude.{ℕ, zero, suc, ◌+◌, Bool, true, false, cond, not, ◌&&◌, List, [], ◌∷◌, ◌++◌, ltb, pos, Float, None, Option, Some}
 use Rattle.std.specs.Float.Ieee.{lt, le, neg}
 use Rattle.paper.specs.Floats.{◌⊕◌, ◌⊖◌, ◌⊗◌, ◌⊘◌, dec, whole}
 use Rattle.sky.specs.Tithi.{elongation_of}
@@ -63,8 +62,8 @@ searched f a to = walk f 1024 (lt a to) to a
 
 -- the first of some instants
 unfoldable pub first : List Float → Option Float
-first [] = none
-first (x ∷ xs) = some x
+first [] = None
+first (x ∷ xs) = Some x
 
 -- ---- with the moon's elongation
 -- where tithi n begins, from a to b

@@ -11,6 +11,5 @@ pub const DEG: f64 = 3.141592653589793 / 180.0;
 pub fn norm360(x: f64) -> f64
     ensures { result ≡ norm360 x }
 {
-    let r = division::remainder(x, 360);
-    if r < 0.0 { r + 360.0 } else { r }
+    division::rem_euclid(x, 360)
 }

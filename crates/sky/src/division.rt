@@ -3,6 +3,7 @@ ghost use Rattle.std.specs.Prelude.{◌≡◌, ◌<◌, ◌*◌, ◌^◌, ◌%�
 ghost use Rattle.std.specs.Float.{binary64, float_is_finite};
 ghost use Rattle.std.specs.Float.Ieee.{rem, lt};
 ghost use Rattle.paper.specs.Floats.{whole, bits};
+ghost use Rattle.sky.specs.Angles.{rem_euclid};
 
 // The weight of the leading digit, which an f64 does not write.
 const LEADING: u64 = 0x10_0000_0000_0000;
@@ -13,10 +14,8 @@ fn doubled(digits: u64, times: u64, n: u32) -> u64
     ensures { result ≡ digits * 2 ^ times % n }
 {
     let mut left = digits % n as u64;
-    let mut done: u64 = 0;
-    while done < times {
+    for _done in 0..times {
         left = left * 2 % n as u64;
-        done += 1;
     }
     left
 }
@@ -64,4 +63,12 @@ pub fn remainder(x: f64, n: u32) -> f64
     } else {
         size_remainder(x, n)
     }
+}
+
+// Rust's `x.rem_euclid(n as f64)`: the remainder, and n more where that is below 0.0. It can give n itself.
+pub fn rem_euclid(x: f64, n: u32) -> f64
+    ensures { result ≡ rem_euclid x (whole (pos n)) }
+{
+    let r = remainder(x, n);
+    if r < 0.0 { r + n as f64 } else { r }
 }

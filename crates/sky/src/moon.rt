@@ -3,8 +3,8 @@ ghost use Rattle.std.specs.Prelude.{◌≡◌, ◌<◌, length, get_or};
 ghost use Rattle.std.specs.Float.{nan};
 ghost use Rattle.paper.specs.Floats.{whole};
 ghost use Rattle.trig.specs.Trig.{sine};
-ghost use Rattle.sky.specs.Moon.{moon_args, factor_power, angle, term_at, series, moon_sum, additive, moon_longitude};
-ghost use Rattle.sky.specs.Inner.{Sixty, add_term, added};
+ghost use Rattle.sky.specs.Moon.{moon_args, factor_power, angle, moon_sum, additive, moon_longitude};
+ghost use Rattle.sky.specs.Inner.{Sixty, row, add_term, added};
 
 use super::angles::{DEG, norm360};
 use super::terms::MOON_TERMS;
@@ -93,74 +93,41 @@ fn add_term(factor: f64, x: Term, sine: f64, sum: f64) -> f64
     sum + as_float(x.coefficient) * factor_power(factor, x.sun) * sine
 }
 
-// Row i of a table.
-fn term_at(terms: &[i32; 300], i: usize) -> Term
-    requires { i < 60 }
-    ensures { result ≡ term_at terms.now i }
-{
-    let row = 5 * i;
-    Term {
-        elongation: terms[row],
-        sun: terms[row + 1],
-        moon: terms[row + 2],
-        node: terms[row + 3],
-        coefficient: terms[row + 4],
-    }
-}
-
 // The angles of the rows of a table.
-fn put_angles(terms: &[i32; 300], a: MoonArgs, out: &mut [f64; 60])
+fn put_angles(terms: &[Term; 60], a: MoonArgs, out: &mut [f64; 60])
     requires { length out.old ≡ 60 }
-    ensures { Sixty out.new (λ i. angle a (term_at terms.now i)) }
+    ensures { Sixty out.new (λ i. angle a (row terms.now i)) }
 {
-    let mut i: usize = 0;
-    while i < 60 {
-        out[i] = angle(a, term_at(terms, i));
-        i += 1;
-    }
-}
-
-// The sine of each number in its place.
-fn put_sines(out: &mut [f64; 60])
-    requires { length out.old ≡ 60 }
-    ensures { Sixty out.new (λ i. sine (get_or out.old i nan)) }
-{
-    let mut i: usize = 0;
-    while i < 60 {
-        out[i] = trig::sine(out[i]);
-        i += 1;
+    for i in 0..60 {
+        out[i] = angle(a, terms[i]);
     }
 }
 
 // The sum over the rows of a table, whose angles have these sines.
-fn add_terms(terms: &[i32; 300], factor: f64, sines: &[f64; 60]) -> f64
-    ensures { result ≡ added terms.now factor (λ i. get_or sines.now i nan) 60 }
+fn add_terms(terms: &[Term; 60], factor: f64, sines: &[f64; 60]) -> f64
+    ensures { result ≡ added (row terms.now) factor (λ i. get_or sines.now i nan) 60 }
 {
     let mut sum = 0.0;
-    let mut i: usize = 0;
-    while i < 60 {
-        sum = add_term(factor, term_at(terms, i), sines[i], sum);
-        i += 1;
+    for i in 0..60 {
+        sum = add_term(factor, terms[i], sines[i], sum);
     }
     sum
 }
 
 // The sum over the rows of a table: all angles, then all sines, then the sum, so that two sines are worked out at a time.
-fn series(terms: &[i32; 300], a: MoonArgs) -> f64
-    ensures { result ≡ series terms.now a 60 }
+fn series(terms: &[Term; 60], a: MoonArgs) -> f64
+    ensures { result ≡ added (row terms.now) a.factor (λ i. sine (angle a (row terms.now i))) 60 }
 {
-    let mut sines = [0.0; 60];
-    put_angles(terms, a, &mut sines);
-    put_sines(&mut sines);
-    add_terms(terms, a.factor, &sines)
+    let mut angles = [0.0; 60];
+    put_angles(terms, a, &mut angles);
+    add_terms(terms, a.factor, &trig::sines(&angles))
 }
 
-// The sum over the moon's terms, which are laid out once.
+// The sum over the moon's terms.
 fn moon_sum(a: MoonArgs) -> f64
     ensures { result ≡ moon_sum a }
 {
-    let terms = MOON_TERMS;
-    series(&terms, a)
+    series(&MOON_TERMS, a)
 }
 
 // The additive terms: Venus, the flattening of the earth, Jupiter.

@@ -8,13 +8,6 @@ ghost use Rattle.sky.specs.Inner.{no_start, Comes};
 use super::tithi::elongation_of;
 use gregorian::UtDay;
 
-// The first instant of some, if there is one.
-#[derive(Clone, Copy)]
-pub enum FirstStart {
-    At(UtDay),
-    Nothing,
-}
-
 // How many starts a walk found, how many steps it took, and whether it came to the end.
 #[derive(Clone, Copy)]
 pub struct Walked {
@@ -23,11 +16,10 @@ pub struct Walked {
     pub ended: bool,
 }
 
-// Whether a walk came to a start and which it is, where the walk stands then, the offset there, and how many steps are left.
+// The start that a walk came to, if it did, where the walk stands then, the offset there, and how many steps are left.
 #[derive(Clone, Copy)]
 pub struct Next {
-    pub found: bool,
-    pub at: f64,
+    pub at: Option<f64>,
     pub lo: f64,
     pub gap: f64,
     pub left: usize,
@@ -37,17 +29,12 @@ pub struct Next {
 fn turn(x: f64) -> f64
     ensures { result ≡ turned x }
 {
-    let mut y = x;
-    if y <= -180.0 {
-        y = y + 360.0;
-    }
-    if y > 180.0 {
-        return y - 360.0;
-    }
-    y
+    let y = if x <= -180.0 { x + 360.0 } else { x };
+    if y > 180.0 { y - 360.0 } else { y }
 }
 
 // The signed distance from a target to the elongation.
+#[tactic(auto, unfolding(crate::specs::Search::offset))]
 fn elongation_offset(ut: UtDay, target: f64) -> f64
     ensures { result ≡ offset elongation_of target ut.0 }
 {
@@ -67,15 +54,13 @@ fn bisect_crossing(target: f64, from: f64, to: f64) -> f64
 {
     let mut a = from;
     let mut b = to;
-    let mut left: u8 = 30;
-    while left > 0 {
+    for _done in 0..30u8 {
         let mid = (a + b) / 2.0;
         if elongation_offset(UtDay(mid), target) <= 0.0 {
             a = mid;
         } else {
             b = mid;
         }
-        left -= 1;
     }
     (a + b) / 2.0
 }
@@ -92,10 +77,7 @@ fn step_end(to: f64, lo: f64) -> f64
 fn is_crossing(a: f64, b: f64) -> bool
     ensures { result ≡ crosses a b }
 {
-    if a <= 0.0 {
-        return b > 0.0;
-    }
-    false
+    a <= 0.0 && b > 0.0
 }
 
 // The walk came to its end, with no start.
@@ -103,8 +85,7 @@ fn no_start(lo: f64, gap: f64, left: usize) -> Next
     ensures { result ≡ no_start lo gap left }
 {
     Next {
-        found: false,
-        at: lo,
+        at: None,
         lo,
         gap,
         left,
@@ -118,28 +99,24 @@ fn next_start(target: f64, end: f64, from: f64, gap: f64, steps: usize) -> Next
 {
     let mut lo = from;
     let mut f_lo = gap;
-    let mut left = steps;
-    while left > 0 {
-        if lo < end {
-            let hi = step_end(end, lo);
-            let f_hi = elongation_offset(UtDay(hi), target);
-            left -= 1;
-            if is_crossing(f_lo, f_hi) {
-                return Next {
-                    found: true,
-                    at: bisect_crossing(target, lo, hi),
-                    lo: hi,
-                    gap: f_hi,
-                    left,
-                };
-            }
-            lo = hi;
-            f_lo = f_hi;
-        } else {
-            return no_start(lo, f_lo, left);
+    for done in 0..steps {
+        if !(lo < end) {
+            return no_start(lo, f_lo, steps - done);
         }
+        let hi = step_end(end, lo);
+        let f_hi = elongation_offset(UtDay(hi), target);
+        if is_crossing(f_lo, f_hi) {
+            return Next {
+                at: Some(bisect_crossing(target, lo, hi)),
+                lo: hi,
+                gap: f_hi,
+                left: steps - done - 1,
+            };
+        }
+        lo = hi;
+        f_lo = f_hi;
     }
-    no_start(lo, f_lo, left)
+    no_start(lo, f_lo, 0)
 }
 
 // The first start of a walk of at most 1,024 steps.
@@ -168,8 +145,8 @@ pub fn walk(tithi: u16, from: UtDay, to: UtDay, found: &mut [f64; 1024]) -> Walk
     let end = to.0;
     let mut next = first_next(target, end, begin);
     let mut count: usize = 0;
-    while next.found {
-        found[count] = next.at;
+    while let Some(start) = next.at {
+        found[count] = start;
         count += 1;
         next = next_start(target, end, next.lo, next.gap, next.left);
     }
@@ -183,17 +160,15 @@ pub fn walk(tithi: u16, from: UtDay, to: UtDay, found: &mut [f64; 1024]) -> Walk
 }
 
 // The first start of a tithi from one instant to another.
-pub fn first_start(tithi: u16, from: UtDay, to: UtDay) -> FirstStart
+pub fn first_start(tithi: u16, from: UtDay, to: UtDay) -> Option<UtDay>
     ensures { first_says result ≡ first (starts_of tithi from.0 to.0).starts }
 {
-    let next = first_next(target_of(tithi), to.0, from.0);
-    if next.found {
-        return FirstStart::At(UtDay(next.at));
-    }
-    FirstStart::Nothing
+    let at = first_next(target_of(tithi), to.0, from.0).at?;
+    Some(UtDay(at))
 }
 
 // The tithi after another; the first comes after the thirtieth.
+#[tactic(auto, unfolding(crate::specs::Search::next_tithi))]
 pub fn next_tithi(tithi: u16) -> u16
     ensures { result ≡ next_tithi tithi }
 {
@@ -201,7 +176,7 @@ pub fn next_tithi(tithi: u16) -> u16
 }
 
 // Where a tithi that runs at a day of universal time ends: the next one's first start in two and a half days.
-pub fn end_of(tithi: u16, ut: UtDay) -> FirstStart
+pub fn end_of(tithi: u16, ut: UtDay) -> Option<UtDay>
     ensures { first_says result ≡ end_of tithi ut.0 }
 {
     first_start(next_tithi(tithi), ut, UtDay(ut.0 + 2.5))

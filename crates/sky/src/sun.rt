@@ -41,6 +41,7 @@ fn true_longitude(t: f64, mean: f64, m: f64) -> f64
 }
 
 // The sun's place at t centuries after the beginning of 2000.
+#[tactic(auto, unfolding(crate::specs::Sun::sun_longitude))]
 pub fn sun_at(t: f64) -> SunPlace
     ensures { result ≡ sun_at t }
 {

@@ -9,10 +9,7 @@ use gregorian::UtDay;
 pub fn is_tt_day(x: f64) -> bool
     ensures { result ≡ tt_day x }
 {
-    if 2399999.0 <= x {
-        return x <= 2510001.0;
-    }
-    false
+    2399999.0 <= x && x <= 2510001.0
 }
 
 // ΔT, the difference between terrestrial and universal time, in seconds. Espenak and Meeus' piecewise polynomials.

@@ -9,6 +9,7 @@ use super::time::{julian_centuries, tt_of};
 use gregorian::UtDay;
 
 // The elongation at a day of universal time.
+#[tactic(auto, unfolding(crate::specs::Tithi::elongation_of))]
 pub fn elongation_of(ut: UtDay) -> f64
     ensures { result ≡ elongation_of ut.0 }
 {
@@ -23,12 +24,10 @@ pub fn tithi_of(x: f64) -> u16
     ensures { result ≡ tithi_of x }
 {
     let mut n: u16 = 1;
-    let mut k: u16 = 0;
-    while k < 29 {
+    for k in 0..29u16 {
         if (12 * (k + 1)) as f64 <= x {
             n += 1;
         }
-        k += 1;
     }
     n
 }

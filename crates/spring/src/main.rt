@@ -6,7 +6,6 @@ ghost use Rattle.conversion.specs.Flat.{accepted};
 ghost use Rattle.growth.specs.Growth.{same_first, Grown};
 
 use conversion::Table;
-use files::{NamesRead, RulesRead, TableRead};
 use output::STDERR;
 use std::rt::{Env, Files};
 
@@ -142,10 +141,10 @@ fn answer_with<R: Env + Files>(
     names: &mut [u8],
     out: &mut [u8],
 ) {
-    let RulesRead::Are(k) = files::rules_asked(rt, 3, count, rules) else {
+    let Ok(k) = files::rules_asked(rt, 3, count, rules) else {
         return;
     };
-    let NamesRead::Are(m) = files::names_asked(rt, 4, count, names) else {
+    let Some(m) = files::names_asked(rt, 4, count, names) else {
         return;
     };
     answer(
@@ -175,10 +174,10 @@ fn run<R: Env + Files>(
         io::write_all(STDERR, b"expected arguments: OLD NEW [RULES [NAMES]]\n");
         return;
     }
-    let TableRead::Is(table, n) = files::table_at(rt, 1, old) else {
+    let Ok((table, n)) = files::table_at(rt, 1, old) else {
         return;
     };
-    let TableRead::Is(new_table, m) = files::table_at(rt, 2, new) else {
+    let Ok((new_table, m)) = files::table_at(rt, 2, new) else {
         return;
     };
     answer_with(

@@ -1,11 +1,12 @@
 -- The checked examples of docs/RULES.md hold; demand 3 holds of its table; and its month 100/2 in weeks. Assumes nothing.
+use Rattle.std.specs.Prelude.{Ok}
 use Prim.Native.Nat.{ℕ, ◌-◌}
 use mathlib.Core.Path.{◌≡◌, refl, ap, ◌∙◌}
 use mathlib.Core.Bool.{true}
 use mathlib.Core.List.{List}
 use lib.Dec.{T}
 use lib.ListN.{length, take, drop, replicate}
-use Rattle.paper.specs.Answers.{answered, given}
+use Rattle.paper.specs.Answers.{given}
 use Rattle.paper.specs.Sums.{sum, all}
 use Rattle.gregorian.specs.declared.Date.{Date}
 use Rattle.gregorian.specs.Calendar.{is_date, day_number, weekday_of}
@@ -34,15 +35,15 @@ unfolding accepted row_ok all sum is_date day_number
 good = refl
 
 -- a date by its number
-by_number : (t : BsDate) (x : Date) → to_day own t.year t.month t.day ≡ answered (day_number x) → T (real x) → Says (is t x)
+by_number : (t : BsDate) (x : Date) → to_day own t.year t.month t.day ≡ Ok (day_number x) → T (real x) → Says (is t x)
 unfolding Says
 by_number t x e r =
-    let a : to_ad own t.year t.month t.day ≡ answered x = number_ad own (served own_table own_rows good) _ _ _ _ e ∙ ap answered (of_number x (real_of x r)) in
+    let a : to_ad own t.year t.month t.day ≡ Ok x = number_ad own (served own_table own_rows good) _ _ _ _ e ∙ ap Ok (of_number x (real_of x r)) in
     (a, ad_to_from own (served own_table own_rows good) _ _ _ x a)
 
 -- THE EXAMPLES
 pub checked : AllSay examples
-unfolding AllSay Says examples to_day to_ad from_ad from_day outside given accepted row_ok all sum is_date day_number step_month month_at absolute whole_years months_left
+unfolding AllSay Says examples to_day to_ad from_ad from_day outside accepted row_ok all sum is_date day_number step_month month_at absolute whole_years months_left
 checked = (
   by_number _ _ refl tt,
   (
@@ -95,5 +96,5 @@ pub month_100_2 : (list : Day → List Pair) (reading : Day → Reading) (today 
 month_100_2 list reading today = in_35 _ _ (laid_out list reading today 100 2 first_number days)
 
 -- and so wherever `month_grid` answers it
-pub month_100_2_asked : (rules : List ℕ) (today : Date) (a b : ℕ) (g : Grid) → month_under own rules today 100 2 a b ≡ answered g → In35 g.cells
+pub month_100_2_asked : (rules : List ℕ) (today : Date) (a b : ℕ) (g : Grid) → month_under own rules today 100 2 a b ≡ Ok g → In35 g.cells
 month_100_2_asked rules today a b g h = in_35 _ _ (month_weeks own _ _ _ today 100 2 a b g h)

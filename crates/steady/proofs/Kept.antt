@@ -1,4 +1,5 @@
 -- DEMAND 3 holds for the kept state, before and after an appended row. Assumes nothing.
+use Rattle.std.specs.Prelude.{Ok}
 use Prim.Native.Nat.{ℕ}
 use mathlib.Core.Path.{◌≡◌, refl, ap}
 use mathlib.Core.Bool.{Bool, true, false}
@@ -8,7 +9,7 @@ use native.Mathlib.Omega.{arith}
 use lib.Dec.{eqb}
 use lib.ListN.{length, length-append}
 use Rattle.paper.specs.declared.Refusal.TheVariants.{BadTable}
-use Rattle.paper.specs.Answers.{answered, given}
+use Rattle.paper.specs.Answers.{given}
 use Rattle.paper.proofs.Answers.{refused_answered}
 use Rattle.paper.proofs.Tests.{and_right}
 use Rattle.conversion.specs.Flat.{accepted}
@@ -41,13 +42,12 @@ module _ (σ : State) (g : Good σ) (h : σ.rows ≡ [] → ⊥) (row : List ℕ
         bs_outside = λ y m d. rw (u.to_bs h y m d, v.to_bs some y m d) (s.bs_outside y m d);
       }
 
-  by_test : (b : Bool) → (b ≡ true → accepted σ.table (σ.rows ++ row) ≡ true) → (outcome σ (given b BadTable (answered (with_row σ row)))).answer ≡ answered tt
-      → KeptSteady σ (outcome σ (given b BadTable (answered (with_row σ row)))).state
-  unfolding given
+  by_test : (b : Bool) → (b ≡ true → accepted σ.table (σ.rows ++ row) ≡ true) → (outcome σ (given b BadTable (Ok (with_row σ row)))).answer ≡ Ok tt
+      → KeptSteady σ (outcome σ (given b BadTable (Ok (with_row σ row)))).state
   by_test true t e = with_row_law (t refl)
   by_test false t e = absurd (refused_answered refl e)
 
   -- an appended row changes no answer
-  pub kept_steady : (append_row σ row).answer ≡ answered tt → KeptSteady σ (append_row σ row).state
+  pub kept_steady : (append_row σ row).answer ≡ Ok tt → KeptSteady σ (append_row σ row).state
   unfolding append_row
   kept_steady e = by_test _ (λ t. and_right (eqb (length row) 13) _ t) e

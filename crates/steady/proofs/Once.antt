@@ -11,13 +11,12 @@ use Rattle.gregorian.proofs.Date.from_day_number.Reads as FromDayNumber
 use Rattle.gregorian.proofs.is_instant.Reads as IsInstant
 use Rattle.gregorian.proofs.julian_day.Reads as JulianDay
 use Rattle.gregorian.proofs.npt_date.Reads as NptDate
-use Rattle.gregorian.proofs.Unique.{date_only, number_only, julian_only}
+use Rattle.gregorian.proofs.Unique.{julian_only}
 use Rattle.conversion.proofs.accepts.Reads as Accepts
 use Rattle.conversion.proofs.bs_month_len.Reads as BsMonthLen
 use Rattle.conversion.proofs.validate_bs_date.Reads as ValidateBsDate
 use Rattle.conversion.proofs.bs_to_ad.Reads as BsToAd
 use Rattle.conversion.proofs.ad_to_bs.Reads as AdToBs
-use Rattle.conversion.proofs.Unique.{days_only, valid_only, bs_only}
 use Rattle.trig.proofs.sine.Reads as Sine
 use Rattle.trig.proofs.cosine.Reads as Cosine
 use Rattle.trig.proofs.tangent.Reads as Tangent
@@ -32,7 +31,7 @@ use Rattle.sky.proofs.tithi_at.Reads as TithiAt
 use Rattle.sky.proofs.tithi.tithi_of.Reads as TithiOf
 use Rattle.sky.proofs.tithi_starts_between.Reads as TithiStarts
 use Rattle.sky.proofs.tithi_end.Reads as TithiEnd
-use Rattle.sky.proofs.Unique.{tt_only, degrees_only, small_only, starts_only, instant_only}
+use Rattle.sky.proofs.Unique.{tt_only, starts_only, instant_only}
 use Rattle.panchanga.proofs.sun_events.Reads as SunEvents
 use Rattle.panchanga.proofs.sunrise.Reads as Sunrise
 use Rattle.panchanga.proofs.sunset.Reads as Sunset
@@ -41,16 +40,13 @@ use Rattle.panchanga.proofs.kala_instant.Reads as KalaInstant
 use Rattle.panchanga.proofs.clock.minutes_of.Reads as MinutesOf
 use Rattle.panchanga.proofs.npt_clock.Reads as NptClock
 use Rattle.panchanga.proofs.reading.Reads as Reading
-use Rattle.panchanga.proofs.Unique.{span_only, reading_only}
+use Rattle.panchanga.proofs.Unique.{span_only}
 use Rattle.rules.proofs.accepts_rules.Reads as AcceptsRules
 use Rattle.festivals.proofs.festivals_on.Reads as FestivalsOn
 use Rattle.festivals.proofs.festivals_on_ad.Reads as FestivalsOnAd
-use Rattle.festivals.proofs.Unique.{list_only}
 use Rattle.grid.proofs.step_month.Reads as StepMonth
 use Rattle.grid.proofs.month_grid.Reads as MonthGrid
-use Rattle.grid.proofs.Unique.{step_only, grid_only}
 use Rattle.holiday.proofs.is_holiday.Reads as IsHoliday
-use Rattle.holiday.proofs.Unique.{holiday_only}
 use Rattle.kept.specs.Held.{Ready}
 use Rattle.kept.proofs.start.Reads as KeptStart
 use Rattle.kept.proofs.take_rules.Reads as KeptTake
@@ -71,19 +67,19 @@ both e h = rw (e, h)
 -- ---- gregorian
 
 pub date_new : OneAnswer DateNew.Learnt
-date_new k a x y s t p q = date_only x y (p ∙ sym q)
+date_new k a x y s t p q = p ∙ sym q
 
 pub day_number_law : OneAnswer DayNumber.Learnt
-day_number_law k a x y s t p q = number_only x y (p ∙ sym q)
+day_number_law k a x y s t p q = p ∙ sym q
 
 pub weekday : OneAnswer Weekday.Learnt
-weekday k a x y s t p q = number_only x y (p ∙ sym q)
+weekday k a x y s t p q = p ∙ sym q
 
 pub date_next : OneAnswer DateNext.Learnt
-date_next k a x y s t p q = date_only x y (p ∙ sym q)
+date_next k a x y s t p q = p ∙ sym q
 
 pub from_day_number : OneAnswer FromDayNumber.Learnt
-from_day_number k a x y s t p q = date_only x y (p ∙ sym q)
+from_day_number k a x y s t p q = p ∙ sym q
 
 pub is_instant : OneAnswer IsInstant.Learnt
 is_instant k a x y s t p q = p ∙ sym q
@@ -92,7 +88,7 @@ pub julian_day : OneAnswer JulianDay.Learnt
 julian_day k a x y s t p q = julian_only x y (p ∙ sym q)
 
 pub npt_date : OneAnswer NptDate.Learnt
-npt_date k a x y s t p q = date_only x y (p ∙ sym q)
+npt_date k a x y s t p q = p ∙ sym q
 
 -- ---- conversion
 
@@ -100,16 +96,16 @@ pub accepts : OneAnswer Accepts.Learnt
 accepts k a x y s t p q = p ∙ sym q
 
 pub bs_month_len : OneAnswer BsMonthLen.Learnt
-bs_month_len k a x y s t p q = days_only x y (p ∙ sym q)
+bs_month_len k a x y s t p q = p ∙ sym q
 
 pub validate_bs_date : OneAnswer ValidateBsDate.Learnt
-validate_bs_date k a x y s t p q = valid_only x y (p ∙ sym q)
+validate_bs_date k a x y s t p q = p ∙ sym q
 
 pub bs_to_ad : OneAnswer BsToAd.Learnt
-bs_to_ad k a x y s t p q = date_only x y (p ∙ sym q)
+bs_to_ad k a x y s t p q = p ∙ sym q
 
 pub ad_to_bs : OneAnswer AdToBs.Learnt
-ad_to_bs k a x y s t p q = bs_only x y (p ∙ sym q)
+ad_to_bs k a x y s t p q = p ∙ sym q
 
 -- ---- trig
 
@@ -137,16 +133,16 @@ pub tt_from_ut : OneAnswer TtFromUt.Learnt
 tt_from_ut k a x y s t p q = tt_only x y (p ∙ sym q)
 
 pub sun_longitude_law : OneAnswer SunLongitude.Learnt
-sun_longitude_law k a x y s t p q = degrees_only x y (p ∙ sym q)
+sun_longitude_law k a x y s t p q = p ∙ sym q
 
 pub moon_longitude_law : OneAnswer MoonLongitude.Learnt
-moon_longitude_law k a x y s t p q = degrees_only x y (p ∙ sym q)
+moon_longitude_law k a x y s t p q = p ∙ sym q
 
 pub elongation : OneAnswer Elongation.Learnt
-elongation k a x y s t p q = degrees_only x y (p ∙ sym q)
+elongation k a x y s t p q = p ∙ sym q
 
 pub tithi_at : OneAnswer TithiAt.Learnt
-tithi_at k a x y s t p q = small_only x y (p ∙ sym q)
+tithi_at k a x y s t p q = p ∙ sym q
 
 pub tithi_of_law : OneAnswer TithiOf.Learnt
 tithi_of_law k a x y s t p q = p ∙ sym q
@@ -179,10 +175,10 @@ pub minutes_of_law : OneAnswer MinutesOf.Learnt
 minutes_of_law k a x y s t p q = p ∙ sym q
 
 pub npt_clock : OneAnswer NptClock.Learnt
-npt_clock k a x y s t p q = small_only x y (p ∙ sym q)
+npt_clock k a x y s t p q = p ∙ sym q
 
 pub reading : OneAnswer Reading.Learnt
-reading k a x y s t p q = reading_only x y (p ∙ sym q)
+reading k a x y s t p q = p ∙ sym q
 
 -- ---- rules
 
@@ -193,25 +189,25 @@ accepts_rules k a x y s t p q = p ∙ sym q
 
 -- the buffer is the seventh parameter
 pub festivals_on : OneOutcome FestivalsOn.Learnt (λ k s. s.1.1.1.1.1.1.0.now)
-festivals_on k a x y s t p q = (list_only x y (p.0 ∙ sym q.0), p.1 ∙ sym q.1)
+festivals_on k a x y s t p q = (p.0 ∙ sym q.0, p.1 ∙ sym q.1)
 
 -- the buffer is the seventh parameter
 pub festivals_on_ad : OneOutcome FestivalsOnAd.Learnt (λ k s. s.1.1.1.1.1.1.0.now)
-festivals_on_ad k a x y s t p q = (list_only x y (p.0 ∙ sym q.0), p.1 ∙ sym q.1)
+festivals_on_ad k a x y s t p q = (p.0 ∙ sym q.0, p.1 ∙ sym q.1)
 
 -- ---- grid
 
 pub step_month_law : OneAnswer StepMonth.Learnt
-step_month_law k a x y s t p q = step_only x y (p ∙ sym q)
+step_month_law k a x y s t p q = p ∙ sym q
 
 -- cells and festivals are the seventh and eighth parameters
 pub month_grid_law : OneOutcome {B = List ℕ × List ℕ} MonthGrid.Learnt (λ k s. (s.1.1.1.1.1.1.0.now, s.1.1.1.1.1.1.1.0.now))
-month_grid_law k a x y s t p q = (grid_only x y (p.0 ∙ sym q.0), both (p.1.0 ∙ sym q.1.0) (p.1.1 ∙ sym q.1.1))
+month_grid_law k a x y s t p q = (p.0 ∙ sym q.0, both (p.1.0 ∙ sym q.1.0) (p.1.1 ∙ sym q.1.1))
 
 -- ---- holiday
 
 pub is_holiday : OneAnswer IsHoliday.Learnt
-is_holiday k a x y s t p q = holiday_only x y (p ∙ sym q)
+is_holiday k a x y s t p q = p ∙ sym q
 
 -- ---- kept: of a record that a call made, which is the first parameter
 
@@ -242,7 +238,7 @@ pub kept_month_law : OneOutcomeIf {B = List ℕ × List ℕ} (λ k a. Ready a.0)
 kept_month_law k a w x y s t p q = let m = month_only x y _ _ _ _ _ (p w) (q w) in (m.0, both m.1.0 m.1.1)
 
 pub kept_to_ad : OneAnswerIf (λ k a. Ready a.0) KeptToAd.Learnt
-kept_to_ad k a w x y s t p q = date_only x y (p w ∙ sym (q w))
+kept_to_ad k a w x y s t p q = p w ∙ sym (q w)
 
 pub kept_to_bs : OneAnswerIf (λ k a. Ready a.0) KeptToBs.Learnt
-kept_to_bs k a w x y s t p q = bs_only x y (p w ∙ sym (q w))
+kept_to_bs k a w x y s t p q = p w ∙ sym (q w)

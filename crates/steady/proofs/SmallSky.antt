@@ -10,7 +10,7 @@ use Rattle.holiday.specs.Holiday.{holiday_by}
 use Rattle.steady.specs.SmallSky.{SmallSky}
 
 pub small_sky : SmallSky
-unfolding given then sum last to_day from_day next holds or_else first_from rank claims claimed asked_day festival_day dated last_of in_table beginning moons in_month opening rule_day entry entry_on picked any kept_after kept silenced is_computed day_pairs day_list any_holiday holiday_by
+unfolding sum last to_day from_day next holds or_else first_from rank claims claimed asked_day festival_day dated last_of in_table beginning moons in_month opening rule_day entry entry_on picked any kept_after kept silenced is_computed day_pairs day_list any_holiday holiday_by
 small_sky =
     record {
       first_inside = refl;

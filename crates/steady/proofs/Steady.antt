@@ -1,4 +1,5 @@
 -- DEMAND 3 holds, for every accepted table and the same with more rows where that is accepted too. Assumes nothing.
+use Rattle.std.specs.Prelude.{Err, Ok}
 use Prim.Native.Nat.{ℕ, ◌*◌}
 use mathlib.Core.Path.{◌≡◌, refl, sym, ap, ◌∙◌}
 use mathlib.Core.Bool.{Bool, true, false, cond}
@@ -8,7 +9,7 @@ use lib.Dec.{leb}
 use lib.ListN.{length, drop}
 use Rattle.paper.specs.declared.Refusal.{Refusal}
 use Rattle.paper.specs.declared.Refusal.TheVariants.{Before, After, NoRoom}
-use Rattle.paper.specs.Answers.{Answer, answered, refused}
+use Rattle.paper.specs.Answers.{Answer}
 use Rattle.paper.specs.Refusals.{number}
 use Rattle.paper.proofs.Answers.{refused_answered}
 use Rattle.paper.proofs.Days.{same_number, refused_as}
@@ -29,16 +30,16 @@ use Rattle.steady.specs.Steady.{Stays, AnswerStays, Steady}
 use Rattle.steady.proofs.Stepping.{step_longer, step_added}
 
 -- an answer alone
-stays : {A : Type 0} {a b : Answer A} {k : Refusal} {P : A → Type 0} → ((x : A) → a ≡ answered x → b ≡ answered x) → ((x : A) → b ≡ answered x → RefusedIf a k (P x)) → AnswerStays a b k P
+stays : {A : Type 0} {a b : Answer A} {k : Refusal} {P : A → Type 0} → ((x : A) → a ≡ Ok x → b ≡ Ok x) → ((x : A) → b ≡ Ok x → RefusedIf a k (P x)) → AnswerStays a b k P
 stays longer added = record { same = λ x h. longer x h ∙ sym h; added = added }
 
 -- an answer from which w makes all that is told, a refusal of a refusal
-module _ {X W A : Type 0} (w : Answer X → W) (answer : W → Answer A) (refuses : (k : Refusal) → answer (w (refused k)) ≡ refused k) where
-  tells : (u : Answer X) (v : A) → answer (w u) ≡ answered v → (x : X) × (u ≡ answered x)
-  tells (answered x) v h = (x, refl)
-  tells (refused j) v h = absurd (refused_answered (refuses j) h)
+module _ {X W A : Type 0} (w : Answer X → W) (answer : W → Answer A) (refuses : (k : Refusal) → answer (w (Err k)) ≡ Err k) where
+  tells : (u : Answer X) (v : A) → answer (w u) ≡ Ok v → (x : X) × (u ≡ Ok x)
+  tells (Ok x) v h = (x, refl)
+  tells (Err j) v h = absurd (refused_answered (refuses j) h)
 
-  told_stays : {a b : Answer X} {k : Refusal} {P : Type 0} → ((x : X) → a ≡ answered x → b ≡ answered x) → ((x : X) → b ≡ answered x → RefusedIf a k P) → Stays answer (w a) (w b) k (λ v. P)
+  told_stays : {a b : Answer X} {k : Refusal} {P : Type 0} → ((x : X) → a ≡ Ok x → b ≡ Ok x) → ((x : X) → b ≡ Ok x → RefusedIf a k P) → Stays answer (w a) (w b) k (λ v. P)
   told_stays {a} {b} {k} {P} longer added =
       record {
         same = λ v h. let x = tells a v h in ap w (longer x.0 x.1 ∙ sym x.1);
@@ -48,25 +49,25 @@ module _ {X W A : Type 0} (w : Answer X → W) (answer : W → Answer A) (refuse
             record { when = λ p. ap (λ (z : Answer X). answer (w z)) (r.when p) ∙ refuses k; only = λ j q. go v h r j q a refl };
       }
     where
-      go : (v : A) → answer (w b) ≡ answered v → RefusedIf a k P → (j : Refusal) → answer (w a) ≡ refused j → (c : Answer X) → a ≡ c → P
-      go v h r j q (answered z) p = absurd (refused_answered q (ap (λ (u : Answer X). answer (w u)) (p ∙ sym (longer z p)) ∙ h))
-      go v h r j q (refused i) p = r.only i p
+      go : (v : A) → answer (w b) ≡ Ok v → RefusedIf a k P → (j : Refusal) → answer (w a) ≡ Err j → (c : Answer X) → a ≡ c → P
+      go v h r j q (Ok z) p = absurd (refused_answered q (ap (λ (u : Answer X). answer (w u)) (p ∙ sym (longer z p)) ∙ h))
+      go v h r j q (Err i) p = r.only i p
 
-listed_refused : (out : List ℕ) (k : Refusal) → (listed (refused k) out).answer ≡ refused k
+listed_refused : (out : List ℕ) (k : Refusal) → (listed (Err k) out).answer ≡ Err k
 unfolding listed
 listed_refused out k = refl
 
 -- a list in a buffer that is refused with 7 is refused before it comes to the buffer
-listed_outside : (a : Answer (List Pair)) (out : List ℕ) (k : Refusal) → number k ≡ 7 → (listed a out).answer ≡ refused k → a ≡ refused k
+listed_outside : (a : Answer (List Pair)) (out : List ℕ) (k : Refusal) → number k ≡ 7 → (listed a out).answer ≡ Err k → a ≡ Err k
 unfolding listed
-listed_outside (answered l) out k n e = absurd (go (leb (length l * 2) (length out)) e)
+listed_outside (Ok l) out k n e = absurd (go (leb (length l * 2) (length out)) e)
   where
-    go : (b : Bool) → (cond {A = Listed} b (record { answer = answered (length l); buffer = numbers l ++ drop (length l * 2) out }) (record { answer = refused NoRoom; buffer = out })).answer ≡ refused k → ⊥
+    go : (b : Bool) → (cond {A = Listed} b (record { answer = Ok (length l); buffer = numbers l ++ drop (length l * 2) out }) (record { answer = Err NoRoom; buffer = out })).answer ≡ Err k → ⊥
     go true h = refused_answered h refl
     go false h = let z = same_number h in omega arith
-listed_outside (refused j) out k n e = refused_as e
+listed_outside (Err j) out k n e = refused_as e
 
-shown_refused : (cells festivals : List ℕ) (k : Refusal) → (shown (refused k) cells festivals).answer ≡ refused k
+shown_refused : (cells festivals : List ℕ) (k : Refusal) → (shown (Err k) cells festivals).answer ≡ Err k
 unfolding shown
 shown_refused cells festivals k = refl
 

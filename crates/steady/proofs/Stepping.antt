@@ -1,4 +1,5 @@
 -- A month step under a table and under one with more rows. Assumes nothing.
+use Rattle.std.specs.Prelude.{Ok}
 use Prim.Native.Nat.{ℕ, ◌+◌, ◌≤◌, ◌<◌}
 use mathlib.Core.Path.{◌≡◌, refl, sym, ap, subst, ◌∙◌}
 use mathlib.Core.Bool.{true, false, and-false}
@@ -8,7 +9,7 @@ use borrow.Author.Tests.{leb-true, ltb-true, lt-ltb, le-ltb, le-leb}
 use lib.Dec.{leb}
 use lib.IntN.{ℤ, pos, negsuc, nat_abs}
 use Rattle.paper.specs.declared.Refusal.TheVariants.{BadTable, OffTable}
-use Rattle.paper.specs.Answers.{answered, given}
+use Rattle.paper.specs.Answers.{given}
 use Rattle.paper.proofs.Answers.{answered_same, refused_answered, given_answered, given_on, given_off}
 use Rattle.paper.proofs.Tests.{and_left, and_right, split}
 use Rattle.conversion.specs.Calendar.{Calendar}
@@ -38,18 +39,18 @@ stepped a = record { year = nat_abs (whole_years a); month = months_left a + 1 }
 
 module _ (c : Calendar) (y m : ℕ) (s : ℤ) where
   -- a step is answered exactly if the table is good and the year is one of its years
-  step_is : step_month c y m s ≡ given c.good BadTable (given (in_years c.first c.years (whole_years (absolute y m s))) OffTable (answered (stepped (absolute y m s))))
+  step_is : step_month c y m s ≡ given c.good BadTable (given (in_years c.first c.years (whole_years (absolute y m s))) OffTable (Ok (stepped (absolute y m s))))
   unfolding step_month month_at stepped
   step_is = refl
 
-  told : (x : BsMonth) → step_month c y m s ≡ answered x → (c.good ≡ true) × (in_years c.first c.years (whole_years (absolute y m s)) ≡ true) × (stepped (absolute y m s) ≡ x)
+  told : (x : BsMonth) → step_month c y m s ≡ Ok x → (c.good ≡ true) × (in_years c.first c.years (whole_years (absolute y m s)) ≡ true) × (stepped (absolute y m s) ≡ x)
   told x e =
       let a = given_answered c.good BadTable _ (sym step_is ∙ e) in
       let b = given_answered (in_years c.first c.years (whole_years (absolute y m s))) OffTable _ a.1 in
       (a.0, b.0, answered_same b.1)
 
-  tells : (x : BsMonth) → c.good ≡ true → in_years c.first c.years (whole_years (absolute y m s)) ≡ true → stepped (absolute y m s) ≡ x → step_month c y m s ≡ answered x
-  tells x g i e = step_is ∙ given_on c.good BadTable _ g ∙ given_on _ OffTable _ i ∙ ap answered e
+  tells : (x : BsMonth) → c.good ≡ true → in_years c.first c.years (whole_years (absolute y m s)) ≡ true → stepped (absolute y m s) ≡ x → step_month c y m s ≡ Ok x
+  tells x g i e = step_is ∙ given_on c.good BadTable _ g ∙ given_on _ OffTable _ i ∙ ap Ok e
 
 year_of_law : (a : ℤ) → (stepped a).year ≡ nat_abs (whole_years a)
 unfolding stepped
@@ -59,7 +60,7 @@ year_of_law a = refl
 
 module _ (c e : Calendar) (w : Extends c e) (y m : ℕ) (s : ℤ) (x : BsMonth) where
   -- what the shorter answers, the longer answers
-  pub step_longer : step_month c y m s ≡ answered x → step_month e y m s ≡ answered x
+  pub step_longer : step_month c y m s ≡ Ok x → step_month e y m s ≡ Ok x
   step_longer h =
       let t = told c y m s x h in
       let z = whole_years (absolute y m s) in
@@ -68,13 +69,13 @@ module _ (c e : Calendar) (w : Extends c e) (y m : ℕ) (s : ℤ) (x : BsMonth) 
       tells e y m s x w.good_too (subst (λ (v : ℤ). in_years e.first e.years v ≡ true) (sym i.0) k) t.2
 
   -- what the longer answers, the shorter refuses exactly if the month lies in an added year
-  pub step_added : step_month e y m s ≡ answered x → RefusedIf (step_month c y m s) OffTable (Added c x.year)
+  pub step_added : step_month e y m s ≡ Ok x → RefusedIf (step_month c y m s) OffTable (Added c x.year)
   step_added h =
       let t = told e y m s x h in
       let z = whole_years (absolute y m s) in
       let i = in_years_law e.first e.years z t.1 in
       let n : x.year ≡ nat_abs z = sym (ap (λ (v : BsMonth). v.year) t.2) ∙ year_of_law (absolute y m s) in
-      let in_c : nat_abs z < c.first + c.years → step_month c y m s ≡ answered x =
+      let in_c : nat_abs z < c.first + c.years → step_month c y m s ≡ Ok x =
       λ k. tells c y m s x w.good (subst (λ (v : ℤ). in_years c.first c.years v ≡ true) (sym i.0) (years_in_law c.first c.years (nat_abs z) (omega (arith, i.1, w.first)) k)) t.2 in
       record {
         when = λ a. step_is c y m s ∙ given_on c.good BadTable _ w.good ∙ given_off _ OffTable _ (subst (λ (v : ℤ). in_years c.first c.years v ≡ false) (sym i.0) (years_past c.first c.years (nat_abs z) (omega arith)));

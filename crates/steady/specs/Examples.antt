@@ -1,8 +1,7 @@
 -- The checked examples of docs/RULES.md, as one list. Assumes nothing.
-use Rattle.std.specs.Prelude.{ℕ, ◌≡◌, List, [], ◌∷◌, ℤ, pos, negsuc}
+use Rattle.std.specs.Prelude.{ℕ, ◌≡◌, List, [], ◌∷◌, ℤ, pos, negsuc, Err, Ok}
 use Rattle.paper.specs.declared.Refusal.{Refusal}
 use Rattle.paper.specs.declared.Refusal.TheVariants.{NoYear, NoMonth, NoDay, Before, After, OffTable}
-use Rattle.paper.specs.Answers.{answered, refused}
 use Rattle.gregorian.specs.declared.Date.{Date}
 use Rattle.conversion.specs.declared.BsDate.{BsDate}
 use Rattle.conversion.specs.Calendar.{bs, to_ad, from_ad}
@@ -23,11 +22,11 @@ pub data Example : Type 0 where
 
 -- what an example says of the own table
 unfoldable pub Says : Example → Type 0
-Says (is t x) = (to_ad own t.year t.month t.day ≡ answered x) × (from_ad own x.year x.month x.day ≡ answered t)
-Says (no_bs t k) = to_ad own t.year t.month t.day ≡ refused k
-Says (no_ad x k) = from_ad own x.year x.month x.day ≡ refused k
-Says (step y m s x) = step_month own y m s ≡ answered x
-Says (no_step y m s k) = step_month own y m s ≡ refused k
+Says (is t x) = (to_ad own t.year t.month t.day ≡ Ok x) × (from_ad own x.year x.month x.day ≡ Ok t)
+Says (no_bs t k) = to_ad own t.year t.month t.day ≡ Err k
+Says (no_ad x k) = from_ad own x.year x.month x.day ≡ Err k
+Says (step y m s x) = step_month own y m s ≡ Ok x
+Says (no_step y m s k) = step_month own y m s ≡ Err k
 
 -- every example of a list
 unfoldable pub AllSay : List Example → Type 0

@@ -1,7 +1,6 @@
 -- DEMAND 3 for the kept state: the questions of a state that holds a row, and of the same after an appended row. Assumes nothing.
-use Rattle.std.specs.Prelude.{ℕ, ◌≡◌, List}
+use Rattle.std.specs.Prelude.{ℕ, ◌≡◌, List, Ok}
 use Rattle.paper.specs.declared.Refusal.TheVariants.{NoYear}
-use Rattle.paper.specs.Answers.{answered}
 use Rattle.gregorian.specs.declared.Date.{Date}
 use Rattle.gregorian.specs.Calendar.{day_number}
 use Rattle.conversion.specs.declared.BsDate.{BsDate}
@@ -27,4 +26,4 @@ pub record KeptSteady (σ τ : State) : Type 0 where
   pub to_bs : (y m d : ℕ) → AnswerStays (ask_from_ad σ y m d) (ask_from_ad τ y m d) (outside (calendar σ) (day_number (date y m d)))
       (λ x. Added (calendar σ) x.year)
   pub bs_outside : (y m d : ℕ) → OutsideStays (ask_from_ad σ y m d) (ask_from_ad τ y m d) (added_days (calendar σ) (calendar τ))
-      ((x : BsDate) × ((ask_from_ad τ y m d ≡ answered x) × Added (calendar σ) x.year))
+      ((x : BsDate) × ((ask_from_ad τ y m d ≡ Ok x) × Added (calendar σ) x.year))

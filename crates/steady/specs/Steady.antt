@@ -1,9 +1,9 @@
 -- DEMAND 3, whole: the rows of one table are the first rows of a longer one. What the shorter answers the longer answers, with the same numbers in each
 -- lent buffer; and what the longer answers the shorter refuses exactly if it lies in an added year. Assumes nothing.
-use Rattle.std.specs.Prelude.{ℕ, ◌-◌, ◌≤◌, ◌<◌, ◌≡◌, List, ◌++◌, ℤ}
+use Rattle.std.specs.Prelude.{ℕ, ◌-◌, ◌≤◌, ◌<◌, ◌≡◌, List, ◌++◌, ℤ, Err, Ok}
 use Rattle.paper.specs.declared.Refusal.{Refusal}
 use Rattle.paper.specs.declared.Refusal.TheVariants.{NoYear, Before, After, OffTable}
-use Rattle.paper.specs.Answers.{Answer, answered, refused}
+use Rattle.paper.specs.Answers.{Answer}
 use Rattle.gregorian.specs.declared.Date.{Date}
 use Rattle.gregorian.specs.Calendar.{day_number}
 use Rattle.conversion.specs.declared.Table.{Table}
@@ -20,8 +20,8 @@ use Rattle.holiday.specs.Holiday.{holiday_on}
 -- One question under the shorter and under the longer. `answer` reads the answer of all that is told, which may hold lent buffers as they then stand.
 -- P says of an answer of the longer that it lies in an added year; k is the refusal that the shorter then gives.
 pub record Stays {W A : Type 0} (answer : W → Answer A) (short long : W) (k : Refusal) (P : A → Type 0) : Type 0 where
-  pub same : (x : A) → answer short ≡ answered x → long ≡ short
-  pub added : (x : A) → answer long ≡ answered x → RefusedIf (answer short) k (P x)
+  pub same : (x : A) → answer short ≡ Ok x → long ≡ short
+  pub added : (x : A) → answer long ≡ Ok x → RefusedIf (answer short) k (P x)
 
 -- where nothing is lent to write to, the answer is all that is told
 abbrev pub AnswerStays : {A : Type 0} → Answer A → Answer A → Refusal → (A → Type 0) → Type 0
@@ -30,9 +30,9 @@ AnswerStays {A} short long k P = Stays {W = Answer A} (λ a. a) short long k P
 -- How far outside a Gregorian date lies under the shorter and under the longer, which has so many days more: the days before the first day stay;
 -- those after the last shrink by the days added, where that leaves one, and else Reached holds.
 pub record OutsideStays {A : Type 0} (short long : Answer A) (days : ℕ) (Reached : Type 0) : Type 0 where
-  pub before : (k : ℕ) → short ≡ refused (Before k) → long ≡ refused (Before k)
-  pub after : (k : ℕ) → short ≡ refused (After k) → days < k → long ≡ refused (After (k - days))
-  pub reached : (k : ℕ) → short ≡ refused (After k) → k ≤ days → Reached
+  pub before : (k : ℕ) → short ≡ Err (Before k) → long ≡ Err (Before k)
+  pub after : (k : ℕ) → short ≡ Err (After k) → days < k → long ≡ Err (After (k - days))
+  pub reached : (k : ℕ) → short ≡ Err (After k) → k ≤ days → Reached
 
 module _ (t : Table) (rows more rules : List ℕ) (today : Date) where
   abbrev pub short : Calendar
@@ -62,6 +62,6 @@ module _ (t : Table) (rows more rules : List ℕ) (today : Date) where
         (month_shown t (rows ++ more) rules today y m cells festivals) NoYear (λ n. Added short y)
     -- the distance that `ad_to_bs` and `festivals_on_ad` tell with 7: where it is reached the date is answered, and lies in an added year
     pub bs_outside : (y m d : ℕ) → OutsideStays (from_ad short y m d) (from_ad long y m d) (added_days short long)
-        ((x : BsDate) × ((from_ad long y m d ≡ answered x) × Added short x.year))
+        ((x : BsDate) × ((from_ad long y m d ≡ Ok x) × Added short x.year))
     pub list_outside : (y m d : ℕ) (out : List ℕ) → OutsideStays (on_ad t rows rules y m d out).answer (on_ad t (rows ++ more) rules y m d out).answer
         (added_days short long) (AddedDay short long (day_number (date y m d)))

@@ -1,5 +1,5 @@
 -- What is wrong with a year table, in words. Assumes nothing.
-use Rattle.std.specs.Prelude.{ℕ, ◌+◌, ◌%◌, ◌^◌, cond, List, ◌++◌, nat_lt}
+use Rattle.std.specs.Prelude.{ℕ, ◌+◌, ◌%◌, ◌^◌, cond, List, ◌++◌, nat_lt, None, Option, Some}
 use Rattle.text.specs.Digits.{digits}
 use Rattle.text.specs.Quoted.{bytes}
 use Rattle.conversion.specs.declared.Table.{Table}
@@ -40,7 +40,6 @@ day_text t wrong = bytes "the first day " ++ (first_day_text t ++ wrong)
 
 -- the first rule that a table breaks
 unfoldable pub rule_text : Table → Broken → List ℕ
-rule_text t broken.Nothing = bytes "its numbers are no whole rows"
 rule_text t broken.FirstYear = year_text t.first_year
 rule_text t broken.NoRow = bytes "there is no row"
 rule_text t broken.ManyRows = bytes "there are more than 128 rows"
@@ -49,9 +48,14 @@ rule_text t broken.FirstDay = day_text t (bytes " is before 1901-01-01")
 rule_text t (broken.Cell i m n) = cell_text t i m n
 rule_text t broken.LastDay = bytes "the last day is after 2099-12-31"
 
+-- why a table is refused: the first rule that it breaks, or else that its numbers are no rows
+abbrev pub fault_text : Table → Option Broken → List ℕ
+fault_text t (Some b) = rule_text t b
+fault_text t None = bytes "its numbers are no whole rows"
+
 -- the refusal behind what names the table
-unfoldable pub refusal_text : Table → Broken → List ℕ
-refusal_text t b = bytes ": refused with 1: " ++ (rule_text t b ++ bytes "\n")
+unfoldable pub refusal_text : Table → Option Broken → List ℕ
+refusal_text t b = bytes ": refused with 1: " ++ (fault_text t b ++ bytes "\n")
 
 -- the first row that the longer table has not as the shorter has it
 unfoldable pub change_text : Table → ℕ → List ℕ

@@ -9,7 +9,6 @@ use conversion::Table;
 // with the number that stands there; or the last day is after 2099.
 #[derive(Clone, Copy)]
 pub enum Broken {
-    Nothing,
     FirstYear,
     NoRow,
     ManyRows,
@@ -19,27 +18,30 @@ pub enum Broken {
     LastDay,
 }
 
-// The first column of row i that breaks a rule, and 13 where none does.
-fn column_of(rows: &[u16], i: usize) -> usize
+// The days of the shortest and of the longest month.
+const SHORTEST: u16 = 29;
+
+const LONGEST: u16 = 32;
+
+// The first column of row i that breaks a rule.
+fn column_of(rows: &[u16], i: usize) -> Option<usize>
     ensures { result ≡ column rows.now i }
 {
     let mut days: u16 = 0;
-    let mut m = 0;
-    while m < 12 {
+    for m in 0..12 {
         let len = conversion::number_at(rows, i, m);
-        if len < 29 {
-            return m;
+        if len < SHORTEST {
+            return Some(m);
         }
-        if 32 < len {
-            return m;
+        if LONGEST < len {
+            return Some(m);
         }
         days += len;
-        m += 1;
     }
     if conversion::number_at(rows, i, 12) == days {
-        13
+        None
     } else {
-        12
+        Some(12)
     }
 }
 
@@ -47,13 +49,10 @@ fn column_of(rows: &[u16], i: usize) -> usize
 fn row_of(rows: &[u16], n: usize) -> Broken
     ensures { result ≡ row_from rows.now n 0 }
 {
-    let mut i = 0;
-    while i < n {
-        let m = column_of(rows, i);
-        if m != 13 {
+    for i in 0..n {
+        if let Some(m) = column_of(rows, i) {
             return Broken::Cell(i, m, conversion::number_at(rows, i, m));
         }
-        i += 1;
     }
     Broken::LastDay
 }
@@ -75,22 +74,21 @@ fn place_of(table: Table, rows: &[u16]) -> Broken
     if 128 < n {
         return Broken::ManyRows;
     }
-    let start = conversion::first_day(table);
-    if start == 0 {
+    let Ok(start) = conversion::first_day(table) else {
         return Broken::NoDate;
-    }
+    };
     if start < 2415386 {
         return Broken::FirstDay;
     }
     row_of(rows, n)
 }
 
-// The first line that a table of whole rows breaks: nothing exactly where it is accepted.
-pub fn first_broken(table: Table, rows: &[u16]) -> Broken
+// The first line that a table of whole rows breaks: none exactly where it is accepted.
+pub fn first_broken(table: Table, rows: &[u16]) -> Option<Broken>
     ensures { result ≡ first_broken table rows.now }
 {
     if conversion::accepts(table, rows) {
-        return Broken::Nothing;
+        return None;
     }
-    place_of(table, rows)
+    Some(place_of(table, rows))
 }

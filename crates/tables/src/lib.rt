@@ -14,15 +14,5 @@ pub use words::{put_change_line, put_exchanged_line, put_refusal};
 pub fn shared(old: &[u16], new: &[u16]) -> usize
     ensures { result ≡ Shared.shared old.now new.now }
 {
-    let mut i = 0;
-    while i < old.len() {
-        if new.len() <= i {
-            return i;
-        }
-        if old[i] != new[i] {
-            return i;
-        }
-        i += 1;
-    }
-    i
+    old.iter().zip(new).take_while(|(a, b)| **a == **b).count()
 }

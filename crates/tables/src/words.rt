@@ -1,6 +1,6 @@
 // What is wrong with a table, in words.
 ghost use Rattle.text.specs.Written.{Wrote};
-ghost use Rattle.tables.specs.Words.{row_text, month_text, sum_text, cell_text, year_text, first_day_text, day_text, rule_text, refusal_text};
+ghost use Rattle.tables.specs.Words.{row_text, month_text, sum_text, cell_text, year_text, first_day_text, day_text, rule_text, fault_text, refusal_text};
 ghost use Rattle.tables.specs.Words.{change_text, rows_text, exchanged_text};
 
 use crate::Broken;
@@ -82,7 +82,6 @@ fn put_rule_broken(out: &mut [u8], at: usize, table: Table, b: Broken) -> usize
     ensures { Wrote out.old at (rule_text table b) out.new result }
 {
     match b {
-        Broken::Nothing => text::put(out, at, b"its numbers are no whole rows"),
         Broken::FirstYear => put_year_fault(out, at, table.first_year),
         Broken::NoRow => text::put(out, at, b"there is no row"),
         Broken::ManyRows => text::put(out, at, b"there are more than 128 rows"),
@@ -93,12 +92,22 @@ fn put_rule_broken(out: &mut [u8], at: usize, table: Table, b: Broken) -> usize
     }
 }
 
+// Writes why a table is refused: the first rule that it breaks, or else that its numbers are no rows.
+fn put_fault(out: &mut [u8], at: usize, table: Table, b: Option<Broken>) -> usize
+    ensures { Wrote out.old at (fault_text table b) out.new result }
+{
+    match b {
+        Some(rule) => put_rule_broken(out, at, table, rule),
+        None => text::put(out, at, b"its numbers are no whole rows"),
+    }
+}
+
 // Writes the refusal of a table behind what names it, with the first rule that it breaks, and answers the place after it.
-pub fn put_refusal(out: &mut [u8], at: usize, table: Table, b: Broken) -> usize
+pub fn put_refusal(out: &mut [u8], at: usize, table: Table, b: Option<Broken>) -> usize
     ensures { Wrote out.old at (refusal_text table b) out.new result }
 {
     let c = text::put(out, at, b": refused with 1: ");
-    let d = put_rule_broken(out, c, table, b);
+    let d = put_fault(out, c, table, b);
     text::put(out, d, b"\n")
 }
 

@@ -1,4 +1,5 @@
 -- Three numbers with dashes between them, step by step, and that each is at most 65,535. Assumes nothing.
+use Rattle.std.specs.Prelude.{None, Some}
 use Prim.Native.Nat.{ℕ, ◌≤◌, ◌<◌, ◌^◌}
 use mathlib.Core.Path.{◌≡◌, refl}
 use mathlib.Core.Bool.{Bool, true, false, cond}
@@ -9,7 +10,6 @@ use borrow.Author.Tests.{leb-true, le-leb, lt-leb, ne_eqb}
 use lib.Dec.{leb, eqb}
 use Rattle.text.specs.Digits.{is_end, Got, got, no, found, past, behind, wide, decimal}
 use Rattle.text.specs.Dashed.{number, numbers, dash, ended}
-use Rattle.text.specs.declared.triples.Numbers.TheVariants.{Are, Not}
 use Rattle.text.proofs.Decimals.{digits_decimal}
 use Rattle.text.proofs.Runs.{never}
 use Rattle.text.proofs.Ways.{wide_only}
@@ -57,20 +57,20 @@ next_none w s e = rw e
 -- ---- three
 
 module _ (f o : ℕ) (s : List ℕ) where
-  pub no_first : number f s ≡ no → Not ≡ ended (numbers f o s)
+  pub no_first : number f s ≡ no → None ≡ ended (numbers f o s)
   no_first e = rw e
 
   module _ {y : ℕ} {t : List ℕ} (e : number f s ≡ got y t) where
-    pub no_second : behind dash (number o) t ≡ no → Not ≡ ended (numbers f o s)
+    pub no_second : behind dash (number o) t ≡ no → None ≡ ended (numbers f o s)
     no_second e2 = rw (e, e2)
 
     module _ {m : ℕ} {u : List ℕ} (e2 : behind dash (number o) t ≡ got m u) where
-      pub no_third : behind dash (number o) u ≡ no → Not ≡ ended (numbers f o s)
+      pub no_third : behind dash (number o) u ≡ no → None ≡ ended (numbers f o s)
       no_third e3 = rw (e, e2, e3)
 
       module _ {d : ℕ} {v : List ℕ} (e3 : behind dash (number o) u ≡ got d v) where
-        pub all_three : is_end v ≡ true → Are y m d ≡ ended (numbers f o s)
+        pub all_three : is_end v ≡ true → Some (y, m, d) ≡ ended (numbers f o s)
         all_three h = rw (e, e2, e3, h)
 
-        pub more-after : is_end v ≡ false → Not ≡ ended (numbers f o s)
+        pub more-after : is_end v ≡ false → None ≡ ended (numbers f o s)
         more-after h = rw (e, e2, e3, h)

@@ -3,7 +3,6 @@ pub mod Runs
 pub mod Decimals
 pub mod Signs
 pub mod Texts
-pub mod Fronts
 pub mod Writes
 pub mod Turns
 pub mod Lines

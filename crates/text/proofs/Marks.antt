@@ -1,11 +1,11 @@
 -- Digits as bytes, both ways. Assumes nothing.
-use Prim.Native.Nat.{ℕ, ◌-◌, ◌≤◌, ◌<◌}
+use Prim.Native.Nat.{ℕ, ◌≤◌, ◌<◌}
 use mathlib.Core.Path.{◌≡◌, sym, ap, ◌∙◌, subst}
 use mathlib.Core.Bool.{Bool, true, cond, and-false}
 use mathlib.Core.Logic.{⊎_elim}
 use native.Mathlib.Omega.{arith}
 use lib.Dec.{T, ltb, eqb, eqb→eq}
-use borrow.Author.Tests.{lt-ltb, le-leb, lt-leb}
+use borrow.Author.Tests.{lt-ltb, lt-leb}
 use Rattle.paper.proofs.Tests.{split, at}
 use Rattle.text.specs.Digits.{mark, worth, digit}
 
@@ -20,23 +20,7 @@ worth_mark d h = eqb→eq (worth (mark d)) d (at right_mark 16 tt d h)
 pub digit_mark : (base d : ℕ) → base ≤ 16 → d < base → digit base (mark d) ≡ true
 digit_mark base d h l = let e : d < 16 = omega arith in rw (worth_mark d e) (lt-ltb d base l)
 
--- what a byte is worth, range by range
-pub worth_low : (b : ℕ) → b < 48 → worth b ≡ 16
-unfolding worth
-worth_low b h = rw (lt-leb 48 b h, lt-leb 97 b (omega arith))
-
-pub worth_decimal : (b : ℕ) → 48 ≤ b → b ≤ 57 → worth b ≡ b - 48
-unfolding worth
-worth_decimal b h l = rw (le-leb 48 b h, le-leb b 57 l)
-
-pub worth_between : (b : ℕ) → 57 < b → b < 97 → worth b ≡ 16
-unfolding worth
-worth_between b h l = rw (lt-leb b 57 h, and-false, lt-leb 97 b l)
-
-pub worth_letter : (b : ℕ) → 97 ≤ b → b ≤ 102 → worth b ≡ b - 87
-unfolding worth
-worth_letter b h l = rw (lt-leb b 57 (omega arith), and-false, le-leb 97 b h, le-leb b 102 l)
-
+-- no digit stands above f
 pub worth_past : (b : ℕ) → 103 ≤ b → worth b ≡ 16
 unfolding worth
 worth_past b h =

@@ -1,5 +1,5 @@
 -- Whole numbers with a minus sign below zero, both ways. Assumes nothing.
-use Prim.Native.Nat.{ℕ, zero, suc, ◌-◌, ◌≤◌, ◌<◌, ◌/◌, ◌%◌, ◌^◌}
+use Prim.Native.Nat.{ℕ, zero, suc, ◌+◌, ◌-◌, ◌≤◌, ◌<◌, ◌/◌, ◌%◌, ◌^◌}
 use mathlib.Core.Path.{◌≡◌, refl, sym, ap, ◌∙◌}
 use mathlib.Core.Bool.{Bool, true, false}
 use mathlib.Core.List.{List, [], ◌∷◌, ◌++◌}
@@ -9,6 +9,7 @@ use borrow.Author.Tests.{ne_eqb, eqb-true}
 use lib.Dec.{eqb}
 use lib.IntN.{ℤ, pos, negsuc, ◌-ℤ◌}
 use lib.ListN.{drop}
+use lib.Seq.{drop-drop}
 use mir.Syntax.{w32}
 use mir.Val.{SFits, to_z}
 use mir.ValLaws.{to_z_pos}
@@ -42,6 +43,10 @@ signed_plain s e = rw e
 pub signed_minus : (s : List ℕ) → starts 45 s ≡ true → signed s ≡ below (decimal 2147483648 (drop 1 s))
 unfolding signed
 signed_minus s e = rw e
+
+-- the same of a text from a place on
+pub behind_minus : (s : List ℕ) (i : ℕ) → starts 45 (drop i s) ≡ true → below (decimal 2147483648 (drop (i + 1) s)) ≡ signed (drop i s)
+behind_minus s i e = ap (λ (y : List ℕ). below (decimal 2147483648 y)) (sym (drop-drop 1 i s)) ∙ sym (signed_minus (drop i s) e)
 
 -- reading what was written gives the number, and stops right after it
 pub signed_digits_law : (z : ℤ) (s : List ℕ) → Word z → starts_digit s ≡ false → signed (signed_digits z ++ s) ≡ got z s

@@ -1,15 +1,17 @@
 -- A fixed text read off the front of a text, and texts cut at a place. Assumes nothing.
-use Prim.Native.Nat.{ℕ, ◌+◌, ◌≤◌, ◌<◌}
+use Prim.Native.Nat.{ℕ, ◌+◌, ◌-◌, ◌≤◌, ◌<◌}
 use mathlib.Core.Path.{◌≡◌, refl, sym, ap, ◌∙◌}
-use mathlib.Core.Bool.{Bool, true, false, cond, true≢false}
+use mathlib.Core.Bool.{Bool, true, false, cond, ◌&&◌, true≢false}
 use mathlib.Core.Logic.{⊎_elim}
 use mathlib.Core.List.{List, [], ◌∷◌, ◌++◌}
 use native.Mathlib.Numerals.{add-one}
 use native.Mathlib.Omega.{arith}
-use borrow.Author.Tests.{le-leb, lt-leb, eq-eqb, eqb-true, ne_eqb}
+use borrow.Author.Tests.{le-leb, lt-leb, eq-eqb, eqb-true}
 use lib.Dec.{leb, eqb}
-use lib.ListN.{length, get_or, drop, length-drop, drop_of_length-le}
-use lib.Seq.{drop-cons}
+use Rattle.std.proofs.lemmas.List.{length-take, get_or-take, get_or-drop}
+use lib.ListN.{length, get_or, take, drop, length-drop, drop_of_length-le}
+use lib.Seq.{drop-cons, drop-drop, take_all}
+use Rattle.std.specs.List.{starts_with}
 use Rattle.text.specs.Digits.{starts, starts_digit, is_end, got, no, past}
 use Rattle.paper.proofs.Tests.{split}
 use Rattle.text.proofs.Runs.{never}
@@ -35,6 +37,17 @@ cut s i h = rw (add-one, drop-cons s i 0)
 pub over : (s : List ℕ) (i : ℕ) → length s ≤ i → drop i s ≡ []
 over s i h = drop_of_length-le s {i = i} h
 
+-- a byte of a part of a text stands in the text
+module _ (s : List ℕ) (from n i : ℕ) (h : i < length (take n (drop from s))) where
+  pub part_inside : (i < n) × (from + i < length s)
+  part_inside =
+      let l = length-take n (drop from s) in
+      let m = length-drop from s in
+      (omega arith, omega arith)
+
+  pub part_at : get_or (take n (drop from s)) i 0 ≡ get_or s (from + i) 0
+  part_at = let l = part_inside.0 in get_or-take n (drop from s) i 0 l ∙ get_or-drop from s i 0
+
 -- two places in a text with the same text after them are the same place
 pub same_place : (s : List ℕ) (i j : ℕ) → i ≤ length s → j ≤ length s → drop i s ≡ drop j s → i ≡ j
 same_place s i j h l e = omega (arith, length-drop i s, length-drop j s, ap length e)
@@ -49,13 +62,21 @@ stands_inside b s i e = ⊎_elim (λ h. absurd (true≢false (sym e ∙ ap (star
 pub digit_inside : (s : List ℕ) (i : ℕ) → starts_digit (drop i s) ≡ true → i < length s
 digit_inside s i e = ⊎_elim (λ h. absurd (true≢false (sym e ∙ ap starts_digit (over s i h)))) (λ h. h) (split (length s) i)
 
--- the turns of the loop that compares a text with what stands at a place
-module _ (w s : List ℕ) (k i : ℕ) (h : k < length w) where
-  pub past_over : length s ≤ i → no ≡ past (drop k w) (drop i s)
-  past_over l = rw (cut w k h, over s i l)
+-- what stands at the front of a text is passed, and nothing else
+pub past_starts : (w s : List ℕ) → cond (starts_with eqb s w) (got tt (drop (length w) s)) no ≡ past w s
+past_starts [] s = refl
+past_starts (a ∷ w) [] = refl
+past_starts (a ∷ w) (b ∷ s) = go (eqb a b) (past_starts w s)
+  where
+    go : (f : Bool) → cond (starts_with eqb s w) (got tt (drop (length w) s)) no ≡ past w s
+        → cond (f && starts_with eqb s w) (got tt (drop (length w) s)) no ≡ cond f (past w s) no
+    go true e = e
+    go false e = refl
 
-  pub past_differs : i < length s → (get_or w k 0 ≡ get_or s i 0 → ⊥) → no ≡ past (drop k w) (drop i s)
-  past_differs l n = rw (cut w k h, cut s i l, ne_eqb (get_or w k 0) (get_or s i 0) n)
-
-  pub past_turn : i < length s → get_or w k 0 ≡ get_or s i 0 → past (drop (k + 1) w) (drop (i + 1) s) ≡ past (drop k w) (drop i s)
-  past_turn l e = rw (cut w k h, cut s i l, eq-eqb (get_or w k 0) (get_or s i 0) e)
+-- the same of a text from a place on
+pub past_from : (w s : List ℕ) (from at : ℕ) (b : Bool) → drop from s ≡ drop at s → b ≡ starts_with eqb (take (length s - from) (drop from s)) w
+    → cond b (got tt (drop (from + length w) s)) no ≡ past w (drop at s)
+past_from w s from at b e q =
+    let l : length (drop from s) ≤ length s - from = omega (arith, length-drop from s) in
+    let t : take (length s - from) (drop from s) ≡ drop from s = take_all (length s - from) (drop from s) l in
+    rw (q, t, ← drop-drop (length w) from s) (past_starts w (drop from s)) ∙ ap (past w) e

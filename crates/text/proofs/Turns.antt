@@ -1,38 +1,64 @@
 -- The turns of the loops that read and write numbers, over plain variables. Assumes nothing.
-use Prim.Native.Nat.{ℕ, zero, suc, ◌+◌, ◌-◌, ◌*◌, ◌/◌, ◌%◌, ◌^◌, ◌≤◌, ◌<◌}
+use Rattle.std.specs.Prelude.{None, Some}
+use Prim.Native.Nat.{ℕ, zero, suc, ◌+◌, ◌-◌, ◌*◌, ◌/◌, ◌%◌, ◌^◌, ◌≤◌, ◌<◌, min}
 use mathlib.Core.Path.{◌≡◌, refl, sym, ap, ◌∙◌}
-use mathlib.Core.List.{List, [], ◌∷◌}
+use mathlib.Core.Bool.{Bool, true, false, cond}
+use mathlib.Core.List.{List, [], ◌∷◌, ◌++◌, append_assoc}
 use native.Mathlib.Nat.{le_trans, mul_assoc, mul_comm, suc-mul, mul-le-mul_right, le-mul_of_pos_right, pow-suc, pow-le-pow_right}
 use native.Mathlib.Omega.{arith}
-use borrow.Author.Tests.{lt-ltb, le-ltb, le-leb, lt-leb}
-use lib.ListN.{length, get_or, drop, set}
-use lib.Seq.{sets}
-use Rattle.paper.proofs.Stores.{sets_append, sets_behind}
-use Rattle.text.specs.Digits.{mark, run, worth, got, no, fixed, wide, scan}
+use borrow.Author.Tests.{lt-ltb, le-ltb, le-leb, lt-leb, ltb-true, ltb-false}
+use lib.Dec.{ltb}
+use lib.ListN.{length, get_or, take, drop, set}
+use lib.Seq.{sets, sets-eq, length-sets, drop-drop}
+use borrow.Rule.Slice.PartMut.{put_mid}
+use mathlib.Core.Logic.{◌⊎◌, inl, inr}
+use Rattle.std.proofs.lemmas.List.{take-append-drop, length-take}
+use Rattle.paper.proofs.Tests.{split}
+use Rattle.paper.proofs.Stores.{sets_append, sets_past, sets_behind}
+use Rattle.text.specs.Digits.{mark, run, worth, digit_of, got, no, fixed, wide, scan}
 use Rattle.text.proofs.Runs.{power_pos, run_last, length_run}
 use Rattle.text.proofs.Texts.{cut, over}
 
+-- ---- a digit
+
+-- what is told of a byte as a digit
+pub digit_is : (base b d : ℕ) → Some d ≡ digit_of base b → (d ≡ worth b) × (worth b < base)
+digit_is base b d e = go (ltb (worth b) base) refl e
+  where
+    go : (t : Bool) → ltb (worth b) base ≡ t → Some d ≡ cond t (Some (worth b)) None → (d ≡ worth b) × (worth b < base)
+    go true t q = let w : d ≡ worth b = cc in (w, ltb-true (worth b) base t)
+    go false t q = absurd (let z : ◌≡◌ {A = ℕ} 0 1 = cc in let bad : ⊥ = omega arith in bad)
+
+pub digit_not : (base b : ℕ) → None ≡ digit_of base b → base ≤ worth b
+digit_not base b e = go (ltb (worth b) base) refl e
+  where
+    go : (t : Bool) → ltb (worth b) base ≡ t → None ≡ cond t (Some (worth b)) None → base ≤ worth b
+    go true t q = absurd (let z : ◌≡◌ {A = ℕ} 0 1 = cc in let bad : ⊥ = omega arith in bad)
+    go false t q = ltb-false (worth b) base t
+
 -- ---- exactly k digits
 
-module _ (s : List ℕ) (base i v : ℕ) where
-  pub fixed_over : (left : ℕ) → length s ≤ i → 0 < left → no ≡ fixed base left v (drop i s)
-  fixed_over zero h l = absurd (let bad : ⊥ = omega arith in bad)
-  fixed_over (suc left) h l = rw (over s i h)
+-- too few bytes are left
+pub fixed_short : (base k v : ℕ) (s : List ℕ) → length s < k → no ≡ fixed base k v s
+fixed_short base zero v s h = absurd (let bad : ⊥ = omega arith in bad)
+fixed_short base (suc k) v [] h = refl
+fixed_short base (suc k) v (b ∷ s) h = go (ltb (worth b) base) (fixed_short base k (v * base + worth b) s (omega arith))
+  where
+    go : (t : Bool) → no ≡ fixed base k (v * base + worth b) s → no ≡ cond t (fixed base k (v * base + worth b) s) no
+    go true e = e
+    go false e = refl
 
-  pub fixed_stop : (left : ℕ) → i < length s → base ≤ worth (get_or s i 0) → 0 < left → no ≡ fixed base left v (drop i s)
-  fixed_stop zero h d l = absurd (let bad : ⊥ = omega arith in bad)
-  fixed_stop (suc left) h d l = rw (cut s i h, le-ltb (worth (get_or s i 0)) base d)
+module _ (s : List ℕ) (base i v : ℕ) {b : ℕ} (h : i < length s) (at : b ≡ get_or s i 0) where
+  pub fixed_stop : (left : ℕ) → None ≡ digit_of base b → 0 < left → no ≡ fixed base left v (drop i s)
+  fixed_stop zero d l = absurd (let bad : ⊥ = omega arith in bad)
+  fixed_stop (suc left) d l = let w = digit_not base b d in rw (cut s i h, ← at, le-ltb (worth b) base w)
 
-  pub fixed_turn : (left : ℕ) → i < length s → worth (get_or s i 0) < base → 0 < left
-      → fixed base (left - 1) (v * base + worth (get_or s i 0)) (drop (i + 1) s) ≡ fixed base left v (drop i s)
-  fixed_turn zero h d l = absurd (let bad : ⊥ = omega arith in bad)
-  fixed_turn (suc left) h d l =
+  pub fixed_turn : (left : ℕ) {d : ℕ} → Some d ≡ digit_of base b → 0 < left → fixed base (left - 1) (v * base + d) (drop (i + 1) s) ≡ fixed base left v (drop i s)
+  fixed_turn zero d l = absurd (let bad : ⊥ = omega arith in bad)
+  fixed_turn (suc left) d l =
+      let w = digit_is base b _ d in
       let e : suc left - 1 ≡ left = omega arith in
-      rw (e, cut s i h, lt-ltb (worth (get_or s i 0)) base d)
-
-  pub fixed_done : (left : ℕ) → left ≤ 0 → got v (drop i s) ≡ fixed base left v (drop i s)
-  fixed_done zero h = refl
-  fixed_done (suc left) h = absurd (let bad : ⊥ = omega arith in bad)
+      rw (e, w.0, cut s i h, ← at, lt-ltb (worth b) base w.1)
 
 -- the number so far leaves room for the digits that are left
 pub room_turn : (v d base left most : ℕ) → d < base → 0 < left → suc v * base ^ left ≤ most → suc (v * base + d) * base ^ (left - 1) ≤ most
@@ -70,24 +96,41 @@ module _ (limit : ℕ) (s : List ℕ) (i v : ℕ) where
   pub scan_over : length s ≤ i → got v (drop i s) ≡ scan limit v (drop i s)
   scan_over h = rw (over s i h)
 
-  pub scan_stop : i < length s → 10 ≤ worth (get_or s i 0) → got v (drop i s) ≡ scan limit v (drop i s)
-  scan_stop h d = rw (cut s i h, le-ltb (worth (get_or s i 0)) 10 d)
+  module _ {b : ℕ} (h : i < length s) (at : b ≡ get_or s i 0) where
+    pub scan_stop : None ≡ digit_of 10 b → got v (drop i s) ≡ scan limit v (drop i s)
+    scan_stop d = let w = digit_not 10 b d in rw (cut s i h, ← at, le-ltb (worth b) 10 w)
 
-  pub scan_large : i < length s → worth (get_or s i 0) < 10 → limit < v * 10 + worth (get_or s i 0) → no ≡ scan limit v (drop i s)
-  scan_large h d l = rw (cut s i h, lt-ltb (worth (get_or s i 0)) 10 d, lt-leb (v * 10 + worth (get_or s i 0)) limit l)
+    module _ {d : ℕ} (e : Some d ≡ digit_of 10 b) where
+      pub scan_large : limit < v * 10 + d → no ≡ scan limit v (drop i s)
+      scan_large l =
+          let w = digit_is 10 b d e in
+          let m : limit < v * 10 + worth b = omega arith in
+          rw (cut s i h, ← at, lt-ltb (worth b) 10 w.1, lt-leb (v * 10 + worth b) limit m)
 
-  pub scan_turn : i < length s → worth (get_or s i 0) < 10 → v * 10 + worth (get_or s i 0) ≤ limit
-      → scan limit (v * 10 + worth (get_or s i 0)) (drop (i + 1) s) ≡ scan limit v (drop i s)
-  scan_turn h d l = rw (cut s i h, lt-ltb (worth (get_or s i 0)) 10 d, le-leb (v * 10 + worth (get_or s i 0)) limit l)
+      pub scan_turn : v * 10 + d ≤ limit → scan limit (v * 10 + d) (drop (i + 1) s) ≡ scan limit v (drop i s)
+      scan_turn l =
+          let w = digit_is 10 b d e in
+          let m : v * 10 + worth b ≤ limit = omega arith in
+          rw (w.0, cut s i h, ← at, lt-ltb (worth b) 10 w.1, le-leb (v * 10 + worth b) limit m)
 
 -- ---- writing
 
--- a byte more of a text
-pub put_turn : (l src : List ℕ) (next i : ℕ) → i < length src
-    → sets (set l next (get_or src i 0)) (next + 1) (drop (i + 1) src) ≡ sets l next (drop i src)
-put_turn l src next i h =
-    let e : next + 1 ≡ suc next = omega arith in
-    rw (e, cut src i h)
+-- as much of a text as has room, copied to its place
+pub put_cut : (l src ys : List ℕ) (at n k : ℕ) → at ≤ length l → n ≡ min (length src) (length l - at) → k ≡ n → ys ≡ take n src
+    → put_mid at k l ys ≡ sets l at src
+put_cut l src ys at n k h m e f =
+    let t = take n src in
+    let long : length t ≡ n = omega (arith, length-take n src) in
+    let fits : at + length t ≤ length l = omega arith in
+    let place : at + n ≡ at + length t = omega arith in
+    rw (e, f)
+    (ap (λ (x : List ℕ). take at l ++ (t ++ x)) (drop-drop n at l ∙ ap (λ (j : ℕ). drop j l) place)
+    ∙ sym (append_assoc (take at l) t (drop (at + length t) l)) ∙ sym (sets-eq t l at fits)
+    ∙ sym (rest (split (length src) n)) ∙ sym (sets_append t (drop n src) l at) ∙ ap (sets l at) (take-append-drop n src))
+  where
+    rest : (length src ≤ n) ⊎ (n < length src) → sets (sets l at (take n src)) (at + length (take n src)) (drop n src) ≡ sets l at (take n src)
+    rest (inl g) = rw (over src n g)
+    rest (inr g) = sets_past (drop n src) (sets l at (take n src)) (at + length (take n src)) (omega (arith, length-sets l at (take n src), length-take n src))
 
 -- the last digit before those in front of it
 pub run_turn : (l : List ℕ) (at base left n : ℕ) → 0 < left

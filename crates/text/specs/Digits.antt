@@ -1,6 +1,5 @@
 -- Numbers as bytes in ASCII, and what reading one off the front of a text finds. Assumes nothing.
-use Rattle.std.specs.Prelude.{ℕ, zero, suc, ◌+◌, ◌-◌, ◌*◌, ◌/◌, ◌%◌, ◌^◌, Bool, true, false, cond, ◌&&◌, List, [], ◌∷◌, ltb, leb, eqb, ℤ, pos, negsuc, drop}
-use Rattle.std.proofs.Math.Option.{Option, some, none}
+use Rattle.std.specs.Prelude.{ℕ, zero, suc, ◌+◌, ◌-◌, ◌*◌, ◌/◌, ◌%◌, ◌^◌, Bool, true, false, cond, ◌&&◌, List, [], ◌∷◌, ltb, leb, eqb, ℤ, pos, negsuc, drop, None, Option, Some}
 
 -- ---- writing
 
@@ -39,6 +38,10 @@ worth b = cond (leb 48 b && leb b 57) (b - 48) (cond (leb 97 b && leb b 102) (b 
 -- a byte is a digit of a base, at most 16
 abbrev pub digit : ℕ → ℕ → Bool
 digit base b = ltb (worth b) base
+
+-- what a byte is worth as a digit of a base, where it is one
+abbrev pub digit_of : ℕ → ℕ → Option ℕ
+digit_of base b = cond (digit base b) (Some (worth b)) None
 
 -- the text starts with a decimal digit; with the byte b; is empty
 abbrev pub starts_digit : List ℕ → Bool
@@ -101,7 +104,7 @@ decimal limit s =
 
 -- the number at most the limit that a whole text is, without leading zeros
 unfoldable pub whole_number : ℕ → List ℕ → Option ℕ
-whole_number limit s = found (decimal limit s) (λ n t. cond (is_end t) (some n) none) none
+whole_number limit s = found (decimal limit s) (λ n t. cond (is_end t) (Some n) None) None
 
 -- a whole number from -2,147,483,648 to 2,147,483,647, in the fewest digits; a minus sign stands before a number below zero alone
 abbrev pub above : Got ℕ → Got ℤ

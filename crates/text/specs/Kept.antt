@@ -1,6 +1,5 @@
 -- One line of an input that comes in pieces, kept in a lent buffer. Assumes nothing.
-use Rattle.std.specs.Prelude.{ℕ, ◌≤◌, ◌≡◌, Bool, true, false, cond, List, [], ◌∷◌, ◌++◌, length, take, drop, ltb, eqb}
-use Rattle.text.specs.declared.keeping.Held.{Held}
+use Rattle.std.specs.Prelude.{ℕ, ◌≤◌, ◌≡◌, Bool, true, false, cond, List, [], ◌∷◌, ◌++◌, length, take, drop, ltb, eqb, None, Option, Some}
 use Rattle.text.specs.declared.keeping.Filled.{Filled}
 use Rattle.text.specs.declared.keeping.Filled.TheVariants.{Feed, Open}
 
@@ -23,19 +22,25 @@ abbrev pub line : ℕ → Current → List ℕ → Line
 line room c [] = going c
 line room c (b ∷ s) = cond (eqb b 10) (whole c s) (line room (more room c b) s)
 
--- what a buffer and its state say
+-- what a buffer says: so many bytes of the line, or that it is too long
 abbrev pub current : List ℕ → ℕ → Bool → Current
 current buffer kept true = long
 current buffer kept false = short (take kept buffer)
 
-abbrev pub holds : List ℕ → Held → Current
-holds buffer held = current buffer held.kept held.skipping
+abbrev pub holds : List ℕ → Option ℕ → Current
+holds buffer (Some kept) = short (take kept buffer)
+holds buffer None = long
+
+-- how many bytes are kept, none of a line that is too long
+abbrev pub kept_of : Option ℕ → ℕ
+kept_of (Some kept) = kept
+kept_of None = 0
 
 abbrev pub filled_says : List ℕ → List ℕ → Filled → Line
 filled_says buffer piece (Feed held next) = whole (holds buffer held) (drop next piece)
 filled_says buffer piece (Open held) = going (holds buffer held)
 
-abbrev pub held_of : Filled → Held
+abbrev pub held_of : Filled → Option ℕ
 held_of (Feed held next) = held
 held_of (Open held) = held
 
@@ -45,12 +50,12 @@ next_of (Feed held next) = next
 next_of (Open held) = 0
 
 -- one byte more is in the buffer, and no more bytes are kept than it has
-pub record Pushed (buffer : List ℕ) (held : Held) (b : ℕ) (after : List ℕ) (r : Held) : Type 0 where
+pub record Pushed (buffer : List ℕ) (held : Option ℕ) (b : ℕ) (after : List ℕ) (r : Option ℕ) : Type 0 where
   pub same : holds after r ≡ more (length buffer) (holds buffer held) b
-  pub inside : held.kept ≤ length buffer → r.kept ≤ length buffer
+  pub inside : kept_of held ≤ length buffer → kept_of r ≤ length buffer
 
 -- the line goes on with the piece from a place on
-pub record Fills (piece : List ℕ) (from : ℕ) (buffer : List ℕ) (held : Held) (after : List ℕ) (r : Filled) : Type 0 where
+pub record Fills (piece : List ℕ) (from : ℕ) (buffer : List ℕ) (held : Option ℕ) (after : List ℕ) (r : Filled) : Type 0 where
   pub same : filled_says after piece r ≡ line (length buffer) (holds buffer held) (drop from piece)
-  pub inside : held.kept ≤ length buffer → (held_of r).kept ≤ length buffer
+  pub inside : kept_of held ≤ length buffer → kept_of (held_of r) ≤ length buffer
   pub next : next_of r ≤ length piece

@@ -1,41 +1,13 @@
 // Numbers and fixed texts, read off a slice from a place on.
 ghost use Rattle.std.specs.Prelude.{◌≡◌, ◌^◌, ◌<◌, ◌≤◌, pos, negsuc, length, drop};
 ghost use Rattle.text.specs.Digits as Digits;
-ghost use Rattle.text.specs.Digits.{starts_digit, starts, is_end, past, fixed, whole_number};
-ghost use Rattle.text.specs.Reading.{Says, read_says, read_end, signed_says, signed_end, passed_says, passed_end, whole_says};
+ghost use Rattle.text.specs.Digits.{digit_of, starts_digit, starts, is_end, past, fixed, whole_number};
+ghost use Rattle.text.specs.Reading.{Says, read_says, read_end, passed_says, passed_end};
 
 // A place in a text.
 #[derive(Clone, Copy)]
 pub struct Cursor {
     pub at: usize,
-}
-
-// A number and the place after it, or none.
-#[derive(Clone, Copy)]
-pub enum Read {
-    Number(u64, Cursor),
-    NotOne,
-}
-
-// The same of a number that may have a minus sign.
-#[derive(Clone, Copy)]
-pub enum Signed {
-    Number(i32, Cursor),
-    NotOne,
-}
-
-// The place after a text that was expected, or that it does not stand there.
-#[derive(Clone, Copy)]
-pub enum Passed {
-    To(Cursor),
-    Not,
-}
-
-// The number that a whole text is, or none.
-#[derive(Clone, Copy)]
-pub enum Whole {
-    Is(u16),
-    Not,
 }
 
 pub fn start() -> Cursor
@@ -44,95 +16,76 @@ pub fn start() -> Cursor
     Cursor { at: 0 }
 }
 
-// What a byte is worth as a digit of at most 16, and 16 where it is none.
-fn worth(b: u8) -> u64
-    ensures { result ≡ Digits.worth b }
+// What a byte is worth as a digit of a base, where it is one.
+#[tactic(auto, unfolding(crate::specs::Digits::worth))]
+fn digit(b: u8, base: u64) -> Option<u64>
+    requires { base ≤ 16 }
+    ensures { result ≡ digit_of base b }
 {
-    if b < 48 {
-        return 16;
-    }
-    if b <= 57 {
-        return (b - 48) as u64;
-    }
-    if b < 97 {
-        return 16;
-    }
-    if b <= 102 {
-        return (b - 87) as u64;
-    }
-    16
+    let worth = match b {
+        b'0'..=b'9' => (b - b'0') as u64,
+        b'a'..=b'f' => (b - b'a') as u64 + 10,
+        _ => return None,
+    };
+    if worth < base { Some(worth) } else { None }
 }
 
 // Whether the byte b stands at a place.
 pub fn stands(s: &[u8], at: usize, b: u8) -> bool
     ensures { result ≡ starts b (drop at s.now) }
 {
-    if at < s.len() { s[at] == b } else { false }
+    at < s.len() && s[at] == b
 }
 
 // Whether a decimal digit stands at a place.
 fn stands_digit(s: &[u8], at: usize) -> bool
     ensures { result ≡ starts_digit (drop at s.now) }
 {
-    if at < s.len() {
-        worth(s[at]) < 10
-    } else {
-        false
-    }
+    at < s.len() && digit(s[at], 10).is_some()
 }
 
 // A place in a text, or its end where the place lies past it.
 fn within(s: &[u8], at: usize) -> usize
     ensures { (result ≤ length s.now) × (drop result s.now ≡ drop at s.now) }
 {
-    if at < s.len() { at } else { s.len() }
+    at.min(s.len())
 }
 
 // Exactly k digits in a base.
-fn read_fixed(s: &[u8], at: usize, base: u64, k: usize) -> Read
-    requires { (0 < base) × (base ^ k ≤ 2 ^ 64) }
+fn read_fixed(s: &[u8], at: usize, base: u64, k: usize) -> Option<(u64, Cursor)>
+    requires { (0 < base) × (base ≤ 16) × (base ^ k ≤ 2 ^ 64) }
     ensures { Says s.now (read_says s.now result) (read_end result) (fixed base k 0 (drop at s.now)) }
 {
-    let mut v: u64 = 0;
-    let mut i = within(s, at);
-    let mut left = k;
-    while 0 < left {
-        if s.len() <= i {
-            return Read::NotOne;
-        }
-        let d = worth(s[i]);
-        if base <= d {
-            return Read::NotOne;
-        }
-        v = v * base + d;
-        i += 1;
-        left -= 1;
+    let from = within(s, at);
+    if s.len() - from < k {
+        return None;
     }
-    Read::Number(v, Cursor { at: i })
+    let mut v: u64 = 0;
+    for b in &s[from..from + k] {
+        v = v * base + digit(*b, base)?;
+    }
+    Some((v, Cursor { at: from + k }))
 }
 
 // All decimal digits that stand from a place on, as long as the number is at most the limit.
-fn read_all(s: &[u8], from: usize, limit: u64) -> Read
+fn read_all(s: &[u8], from: usize, limit: u64) -> Option<(u64, Cursor)>
     requires { from ≤ length s.now }
     ensures { Says s.now (read_says s.now result) (read_end result) (Digits.scan limit 0 (drop from s.now)) }
 {
     let mut v: u64 = 0;
-    let mut i = from;
-    while i < s.len() {
-        let d = worth(s[i]);
-        if 10 <= d {
-            return Read::Number(v, Cursor { at: i });
-        }
+    for (i, b) in s[from..].iter().enumerate() {
+        let Some(d) = digit(*b, 10) else {
+            return Some((v, Cursor { at: from + i }));
+        };
         if limit / 10 < v {
-            return Read::NotOne;
+            return None;
         }
         if limit - v * 10 < d {
-            return Read::NotOne;
+            return None;
         }
         v = v * 10 + d;
-        i += 1;
     }
-    Read::Number(v, Cursor { at: i })
+    Some((v, Cursor { at: s.len() }))
 }
 
 // A number from zero on.
@@ -160,88 +113,74 @@ impl Cursor {
     }
 
     // Past exactly this text.
-    pub fn pass(self, s: &[u8], text: &[u8]) -> Passed
+    pub fn pass(self, s: &[u8], text: &[u8]) -> Option<Cursor>
         ensures { Says s.now (passed_says s.now result) (passed_end result) (past text.now (drop self.at s.now)) }
     {
-        let mut i = within(s, self.at);
-        let mut k = 0;
-        while k < text.len() {
-            if s.len() <= i {
-                return Passed::Not;
-            }
-            if text[k] != s[i] {
-                return Passed::Not;
-            }
-            i += 1;
-            k += 1;
+        let from = within(s, self.at);
+        if s[from..].starts_with(text) {
+            Some(Cursor {
+                at: from + text.len(),
+            })
+        } else {
+            None
         }
-        Passed::To(Cursor { at: i })
     }
 
     // A decimal number at most the limit, without leading zeros.
-    pub fn decimal(self, s: &[u8], limit: u64) -> Read
+    pub fn decimal(self, s: &[u8], limit: u64) -> Option<(u64, Cursor)>
         ensures { Says s.now (read_says s.now result) (read_end result) (Digits.decimal limit (drop self.at s.now)) }
     {
         let at = self.at;
         if stands(s, at, b'0') {
             if stands_digit(s, at + 1) {
-                return Read::NotOne;
+                return None;
             }
-            return Read::Number(0, Cursor { at: at + 1 });
+            return Some((0, Cursor { at: at + 1 }));
         }
         if stands_digit(s, at) {
             return read_all(s, at, limit);
         }
-        Read::NotOne
+        None
     }
 
     // Exactly k decimal digits, nineteen at most.
-    pub fn wide(self, s: &[u8], k: u8) -> Read
+    pub fn wide(self, s: &[u8], k: u8) -> Option<(u64, Cursor)>
         ensures { Says s.now (read_says s.now result) (read_end result) (Digits.wide k (drop self.at s.now)) }
     {
         if k <= 19 {
             return read_fixed(s, self.at, 10, k as usize);
         }
-        Read::NotOne
+        None
     }
 
     // Sixteen hexadecimal digits in lower case.
-    pub fn hex(self, s: &[u8]) -> Read
+    pub fn hex(self, s: &[u8]) -> Option<(u64, Cursor)>
         ensures { Says s.now (read_says s.now result) (read_end result) (fixed 16 16 0 (drop self.at s.now)) }
     {
         read_fixed(s, self.at, 16, 16)
     }
 
     // A decimal number of an i32, without leading zeros, with a minus sign below zero.
-    pub fn signed(self, s: &[u8]) -> Signed
-        ensures { Says s.now (signed_says s.now result) (signed_end result) (Digits.signed (drop self.at s.now)) }
+    pub fn signed(self, s: &[u8]) -> Option<(i32, Cursor)>
+        ensures { Says s.now (read_says s.now result) (read_end result) (Digits.signed (drop self.at s.now)) }
     {
         let at = self.at;
         if stands(s, at, b'-') {
-            let Read::Number(n, next) = (Cursor { at: at + 1 }).decimal(s, 2147483648) else {
-                return Signed::NotOne;
-            };
+            let (n, next) = (Cursor { at: at + 1 }).decimal(s, 2147483648)?;
             if n == 0 {
-                return Signed::NotOne;
+                return None;
             }
-            return Signed::Number(below_zero(n - 1), next);
+            return Some((below_zero(n - 1), next));
         }
-        let Read::Number(n, next) = self.decimal(s, 2147483647) else {
-            return Signed::NotOne;
-        };
-        Signed::Number(from_zero(n), next)
+        let (n, next) = self.decimal(s, 2147483647)?;
+        Some((from_zero(n), next))
     }
 }
 
 // The number at most the limit that a whole text is, without leading zeros.
-pub fn whole_number(s: &[u8], limit: u16) -> Whole
-    ensures { whole_says result ≡ whole_number limit s.now }
+pub fn whole_number(s: &[u8], limit: u16) -> Option<u16>
+    ensures { result ≡ whole_number limit s.now }
 {
-    let Read::Number(n, next) = start().decimal(s, limit as u64) else {
-        return Whole::Not;
-    };
-    if !next.at_end(s) {
-        return Whole::Not;
-    }
-    Whole::Is(n as u16)
+    let (n, next) = start().decimal(s, limit as u64)?;
+    if next.at_end(s) { Some(n as u16) } else { None }
 }

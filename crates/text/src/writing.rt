@@ -8,17 +8,12 @@ ghost use Rattle.text.specs.Written.{Wrote};
 pub fn put(out: &mut [u8], at: usize, src: &[u8]) -> usize
     ensures { Wrote out.old at src.now out.new result }
 {
-    let mut next = at;
-    let mut i = 0;
-    while i < src.len() {
-        if out.len() <= next {
-            return next;
-        }
-        out[next] = src[i];
-        next += 1;
-        i += 1;
+    if out.len() <= at {
+        return at;
     }
-    next
+    let n = src.len().min(out.len() - at);
+    out[at..at + n].copy_from_slice(&src[..n]);
+    at + n
 }
 
 // Stores one byte where there is room.
@@ -47,17 +42,11 @@ fn put_run(n: u64, base: u64, k: usize, out: &mut [u8], at: usize) -> usize
         return at;
     }
     let mut rest = n;
-    let mut left = k;
-    while 0 < left {
-        left -= 1;
-        store(out, at + left, mark(rest % base));
+    for i in 0..k {
+        store(out, at + (k - 1 - i), mark(rest % base));
         rest /= base;
     }
-    if k < out.len() - at {
-        at + k
-    } else {
-        out.len()
-    }
+    out.len().min(at + k)
 }
 
 // How many decimal digits n takes.

@@ -11,7 +11,7 @@ use lib.Dec.{T, ltb, lt→ltb}
 use lib.Ieee.{Float, nan, inf, fin, add, sub, mul, div, neg, lt, le, eq, of_bits, below, level, up, down}
 use lib.Ieee.Bits.{is_true}
 use lib.Ieee.Fits.{and_i, down_pos}
-use Rattle.trig.specs.Trig.{zero, one, limit, in_range, within_one, least, most, clamp, turned, signed, magnitude, turn_sign, sine_series, swing, sine_above, cosine_above, sine, cosine, tangent, arcsine, arccosine}
+use Rattle.trig.specs.Trig.{zero, one, limit, in_range, within_one, least, most, clamp, turned, signed, magnitude, turn_sign, sine_series, wave, swing, sine_above, cosine_above, sine, cosine, tangent, arcsine, arccosine}
 use Rattle.trig.proofs.Signs.{between_neg, magnitude_neg, signed_neg}
 
 -- ---- -1 to 1
@@ -131,7 +131,7 @@ unfolding sine signed turned le lt eq neg of_bits
 sine_minus_zero = refl
 
 pub cosine_zero : cosine zero ≡ one
-unfolding cosine cosine_above swing turn_sign sine_series clamp least most magnitude le lt eq neg add sub mul of_bits
+unfolding cosine cosine_above swing wave turn_sign sine_series clamp least most magnitude le lt eq neg add sub mul of_bits
 cosine_zero = refl
 
 -- ---- out of range

@@ -1,2 +1,3 @@
 -- The definitions of sine, cosine, the arcs and tangent.
 pub mod Trig
+pub mod Inner

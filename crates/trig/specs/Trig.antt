@@ -98,13 +98,16 @@ sine_series z =
     let q = a ⊕ zz ⊗ b ⊕ zz ⊗ zz ⊗ (c ⊕ zz ⊗ bits 0x3ce8_9a48_66f5_27eb) in
     z ⊗ q ⊖ bits 0x3fc5_5555_5555_5555
 
--- the sine of a less h half turns, negated where k is odd
-unfoldable pub swing : Float → Float → Float → Float
-swing a k h =
+-- the sine of a less h half turns, negated where k is odd, before it is cut
+unfoldable pub wave : Float → Float → Float → Float
+wave a k h =
     let y = a ⊖ h ⊗ pi_high ⊖ h ⊗ pi_low in
     let z = y ⊗ y in
     let w = turn_sign k ⊗ y in
-    clamp (w ⊕ w ⊗ z ⊗ sine_series z)
+    w ⊕ w ⊗ z ⊗ sine_series z
+
+unfoldable pub swing : Float → Float → Float → Float
+swing a k h = clamp (wave a k h)
 
 unfoldable pub sine_above : Float → Float
 sine_above a =

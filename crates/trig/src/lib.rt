@@ -1,10 +1,13 @@
 // Sine, cosine, the arcs and tangent on every f64, as the fixed sequences of f64 operations of docs/TRIG.md.
 #![tactic(auto)]
 
-ghost use Rattle.std.specs.Prelude.{◌≡◌};
+ghost use Rattle.std.specs.Prelude.{◌≡◌, length, map};
+ghost use Rattle.std.specs.Simd.Lanes.{zip2};
+ghost use Rattle.trig.specs.Inner as Inner;
 ghost use Rattle.trig.specs.Trig as Trig;
 
 // The smaller of two numbers; b if one of them is no number.
+#[tactic(auto, unfolding(crate::specs::Trig::least))]
 fn least(a: f64, b: f64) -> f64
     ensures { result ≡ Trig.least a b }
 {
@@ -12,6 +15,7 @@ fn least(a: f64, b: f64) -> f64
 }
 
 // The larger of two numbers; b if one of them is no number.
+#[tactic(auto, unfolding(crate::specs::Trig::most))]
 fn most(a: f64, b: f64) -> f64
     ensures { result ≡ Trig.most a b }
 {
@@ -19,6 +23,7 @@ fn most(a: f64, b: f64) -> f64
 }
 
 // v, cut to -1 to 1.
+#[tactic(auto, unfolding(crate::specs::Trig::clamp))]
 fn clamp(v: f64) -> f64
     ensures { result ≡ Trig.clamp v }
 {
@@ -33,6 +38,7 @@ fn magnitude(x: f64) -> f64
 }
 
 // -v for a negative x, else x.
+#[tactic(auto, unfolding(crate::specs::Trig::turned))]
 fn turned(x: f64, v: f64) -> f64
     ensures { result ≡ Trig.turned x v }
 {
@@ -40,6 +46,7 @@ fn turned(x: f64, v: f64) -> f64
 }
 
 // v with the sign of x; x itself if it is a zero.
+#[tactic(auto, unfolding(crate::specs::Trig::signed))]
 fn signed(x: f64, v: f64) -> f64
     ensures { result ≡ Trig.signed x v }
 {
@@ -69,6 +76,7 @@ fn nearest_whole(x: f64) -> f64
 }
 
 // 1.0 at an even k, -1.0 at an odd one.
+#[tactic(auto, unfolding(crate::specs::Trig::turn_sign))]
 fn turn_sign(k: f64) -> f64
     ensures { result ≡ Trig.turn_sign k }
 {
@@ -77,6 +85,7 @@ fn turn_sign(k: f64) -> f64
 }
 
 // (sin y - y) / y^3, for z = y^2.
+#[tactic(auto, unfolding(crate::specs::Trig::sine_series))]
 fn sine_series(z: f64) -> f64
     ensures { result ≡ Trig.sine_series z }
 {
@@ -88,49 +97,94 @@ fn sine_series(z: f64) -> f64
     z * q - 0.16666666666666666
 }
 
-// The sine of a less h half turns, negated where k is odd.
-fn swing(a: f64, k: f64, h: f64) -> f64
-    ensures { result ≡ Trig.swing a k h }
+// The sine of a less h half turns, negated where k is odd, before it is cut to -1 to 1.
+#[tactic(auto, unfolding(crate::specs::Trig::wave))]
+fn wave(a: f64, k: f64, h: f64) -> f64
+    ensures { result ≡ Trig.wave a k h }
 {
     let y = a - h * 3.1415926535846666 - h * 5.126688303189038e-12;
     let z = y * y;
     let w = turn_sign(k) * y;
-    clamp(w + w * z * sine_series(z))
+    w + w * z * sine_series(z)
 }
 
-// The sine of an angle that is not negative.
-fn sine_above(a: f64) -> f64
-    ensures { result ≡ Trig.sine_above a }
+// The wave of the sine of an angle that is not negative.
+#[tactic(auto, unfolding(crate::specs::Inner::sine_wave))]
+fn sine_wave(a: f64) -> f64
+    ensures { result ≡ Inner.sine_wave a }
 {
     let k = nearest_whole(a * 0.3183098861837907);
-    swing(a, k, k)
+    wave(a, k, k)
 }
 
-// The cosine of an angle that is not negative: the sine a quarter turn on.
-fn cosine_above(a: f64) -> f64
-    ensures { result ≡ Trig.cosine_above a }
+// The sine of x from the wave of its size. It is worked out for every x and then taken or not.
+#[tactic(auto, unfolding(crate::specs::Inner::sine_of_wave))]
+fn sine_of_wave(x: f64, w: f64) -> f64
+    ensures { result ≡ Inner.sine_of_wave x w }
 {
-    let k = nearest_whole(a * 0.3183098861837907 + 0.5);
-    swing(a, k, k - 0.5)
-}
-
-// The sine of x radians. It is worked out for every x and then taken or not, so that a loop over several angles has no jump in it.
-pub fn sine(x: f64) -> f64
-    ensures { result ≡ Trig.sine x }
-{
-    let v = signed(x, sine_above(magnitude(x)));
+    let v = signed(x, clamp(w));
     if in_range(x) { v } else { 0.0 }
 }
 
-// The cosine of x radians.
+// The sine of x radians.
+pub fn sine(x: f64) -> f64
+    ensures { result ≡ Trig.sine x }
+{
+    sine_of_wave(x, sine_wave(magnitude(x)))
+}
+
+// Each number without its sign.
+fn drop_signs(values: &mut [f64])
+    ensures { values.new ≡ map Trig.magnitude values.old }
+{
+    for v in values.iter_mut() {
+        *v = magnitude(*v);
+    }
+}
+
+// The wave of the sine of each angle. There is no comparison here, so that the compiler works out two at a time.
+fn put_waves(values: &mut [f64])
+    ensures { values.new ≡ map Inner.sine_wave values.old }
+{
+    for v in values.iter_mut() {
+        *v = sine_wave(*v);
+    }
+}
+
+// The sine of each angle from the wave of its size.
+fn put_sines(angles: &[f64], values: &mut [f64])
+    requires { length angles.now ≡ length values.old }
+    ensures { values.new ≡ zip2 Inner.sine_of_wave angles.now values.old }
+{
+    for i in 0..angles.len() {
+        values[i] = sine_of_wave(angles[i], values[i]);
+    }
+}
+
+// The sines of several angles, in three passes: the one with the long formula has no comparison in it.
+pub fn sines<const N: usize>(angles: &[f64; N]) -> [f64; N]
+    ensures { result ≡ map Trig.sine angles.now }
+{
+    let mut values = *angles;
+    drop_signs(&mut values);
+    put_waves(&mut values);
+    put_sines(angles, &mut values);
+    values
+}
+
+// The cosine of x radians: the sine a quarter turn on.
+#[tactic(auto, unfolding(crate::specs::Trig::swing, crate::specs::Trig::cosine_above, crate::specs::Trig::cosine))]
 pub fn cosine(x: f64) -> f64
     ensures { result ≡ Trig.cosine x }
 {
-    let v = cosine_above(magnitude(x));
+    let a = magnitude(x);
+    let k = nearest_whole(a * 0.3183098861837907 + 0.5);
+    let v = clamp(wave(a, k, k - 0.5));
     if in_range(x) { v } else { 0.0 }
 }
 
 // The tangent of x radians: sine over cosine.
+#[tactic(auto, unfolding(crate::specs::Trig::tangent))]
 pub fn tangent(x: f64) -> f64
     ensures { result ≡ Trig.tangent x }
 {
@@ -138,6 +192,7 @@ pub fn tangent(x: f64) -> f64
 }
 
 // (arcsine y - y) / y^3, for z = y^2.
+#[tactic(auto, unfolding(crate::specs::Trig::arc_series))]
 fn arc_series(z: f64) -> f64
     ensures { result ≡ Trig.arc_series z }
 {
@@ -150,6 +205,7 @@ fn arc_series(z: f64) -> f64
 }
 
 // The arcsine of an x from -0.5 to 0.5.
+#[tactic(auto, unfolding(crate::specs::Trig::arc_near))]
 fn arc_near(x: f64) -> f64
     ensures { result ≡ Trig.arc_near x }
 {
@@ -158,6 +214,7 @@ fn arc_near(x: f64) -> f64
 }
 
 // The factor for the root of an m that is below an end.
+#[tactic(auto, unfolding(crate::specs::Trig::lift))]
 fn lift(m: f64, end: f64, by: f64) -> f64
     ensures { result ≡ Trig.lift m end by }
 {
@@ -165,6 +222,7 @@ fn lift(m: f64, end: f64, by: f64) -> f64
 }
 
 // One over the root of an n from 0.25 to 1, nearly.
+#[tactic(auto, unfolding(crate::specs::Trig::over_root))]
 fn over_root(n: f64) -> f64
     ensures { result ≡ Trig.over_root n }
 {
@@ -176,6 +234,7 @@ fn over_root(n: f64) -> f64
 }
 
 // The root of an m from 0.0 to 0.25. Powers of two bring m up to n, from 0.25 to 1, where its root is near; 0.0 gives 0.0.
+#[tactic(auto, unfolding(crate::specs::Trig::root))]
 fn root(m: f64) -> f64
     ensures { result ≡ Trig.root m }
 {
@@ -194,6 +253,7 @@ fn root(m: f64) -> f64
 }
 
 // The arccosine of an a from 0.5 to 1.
+#[tactic(auto, unfolding(crate::specs::Trig::arc_far))]
 fn arc_far(a: f64) -> f64
     ensures { result ≡ Trig.arc_far a }
 {
@@ -201,6 +261,7 @@ fn arc_far(a: f64) -> f64
 }
 
 // The arcsine of an x from -1 to 1.
+#[tactic(auto, unfolding(crate::specs::Trig::arcsine_within))]
 fn arcsine_within(x: f64) -> f64
     ensures { result ≡ Trig.arcsine_within x }
 {
@@ -213,6 +274,7 @@ fn arcsine_within(x: f64) -> f64
 }
 
 // The arccosine of an x from -1 to 1.
+#[tactic(auto, unfolding(crate::specs::Trig::arccosine_within))]
 fn arccosine_within(x: f64) -> f64
     ensures { result ≡ Trig.arccosine_within x }
 {
@@ -229,6 +291,7 @@ fn arccosine_within(x: f64) -> f64
 }
 
 // The angle from -pi/2 to pi/2 whose sine is x.
+#[tactic(auto, unfolding(crate::specs::Trig::arcsine))]
 pub fn arcsine(x: f64) -> f64
     ensures { result ≡ Trig.arcsine x }
 {
@@ -240,6 +303,7 @@ pub fn arcsine(x: f64) -> f64
 }
 
 // The angle from 0 to pi whose cosine is x.
+#[tactic(auto, unfolding(crate::specs::Trig::arccosine))]
 pub fn arccosine(x: f64) -> f64
     ensures { result ≡ Trig.arccosine x }
 {

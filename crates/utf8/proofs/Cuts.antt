@@ -1,9 +1,9 @@
--- The front of a text: the turns of the loop that measures it, and its laws. Assumes nothing.
+-- The laws of the front of a text. Assumes nothing.
+use Rattle.std.specs.Prelude.{Some}
 use Prim.Native.Nat.{ℕ, zero, suc, ◌+◌, ◌-◌, ◌*◌, ◌≤◌, ◌<◌}
 use mathlib.Core.Path.{◌≡◌, refl, sym, ap, ◌∙◌}
 use mathlib.Core.Bool.{Bool, true, false, cond, ◌&&◌, true≢false}
 use mathlib.Core.List.{List, [], ◌∷◌, ◌++◌}
-use mathlib.Core.Option.{some}
 use native.Mathlib.Omega.{arith}
 use borrow.Author.Tests.{leb-true, le-leb, ne_eqb, eqb-true, eqb-false}
 use lib.Dec.{leb, eqb}
@@ -15,22 +15,6 @@ use Rattle.utf8.specs.Controls.{control, first_control, missing, clear}
 use Rattle.utf8.specs.Characters.{goes_on, characters, front}
 use Rattle.utf8.specs.Claims.{Cut}
 use Rattle.utf8.proofs.Bytes.{follow_tail, low_tail, high_tail, passed}
-
--- ---- the loop
-
-module _ (most : ℕ) (s : List ℕ) (i : ℕ) where
-  pub front_over : length s ≤ i → length (front most (drop i s)) ≡ 0
-  front_over h = rw (over s i h)
-
-  module _ (h : i < length s) where
-    pub front-on : goes_on (get_or s i 0) ≡ true → length (front most (drop i s)) ≡ suc (length (front most (drop (i + 1) s)))
-    front-on g = rw (cut s i h, g)
-
-    pub front-stop : goes_on (get_or s i 0) ≡ false → most ≡ 0 → length (front most (drop i s)) ≡ 0
-    front-stop g z = rw (cut s i h, g, z)
-
-    pub front-first : goes_on (get_or s i 0) ≡ false → (most ≡ 0 → ⊥) → length (front most (drop i s)) ≡ suc (length (front (most - 1) (drop (i + 1) s)))
-    front-first g n = rw (cut s i h, g, ne_eqb most 0 n)
 
 -- ---- its laws, case by case
 
@@ -72,8 +56,8 @@ clear_part : (feed : Bool) (t u : List ℕ) → clear feed (t ++ u) ≡ true →
 clear_part feed [] u h = refl
 clear_part feed (b ∷ t) u h = go (control feed b) (clear_part feed t u) h
   where
-    go : (c : Bool) → (clear feed (t ++ u) ≡ true → clear feed t ≡ true) → missing (cond c (some b) (first_control feed (t ++ u))) ≡ true
-        → missing (cond c (some b) (first_control feed t)) ≡ true
+    go : (c : Bool) → (clear feed (t ++ u) ≡ true → clear feed t ≡ true) → missing (cond c (Some b) (first_control feed (t ++ u))) ≡ true
+        → missing (cond c (Some b) (first_control feed t)) ≡ true
     go true ih h = h
     go false ih h = ih h
 

@@ -1,8 +1,8 @@
 -- Texts at the borders of UTF-8, computed. Assumes nothing.
+use Rattle.std.specs.Prelude.{Some}
 use mathlib.Core.Path.{◌≡◌, refl}
 use mathlib.Core.Bool.{true, false}
 use mathlib.Core.List.{[], ◌∷◌}
-use mathlib.Core.Option.{some}
 use Rattle.utf8.specs.Utf8.{follow, low, high, utf8}
 use Rattle.utf8.specs.Controls.{control, first_control, clear}
 use Rattle.utf8.specs.Characters.{goes_on, front}
@@ -24,6 +24,6 @@ unfolding goes_on
 are_fronts = (refl, refl)
 
 -- a line feed passes where the flag says so, a carriage return never
-pub are_controls : (clear true (65 ∷ 10 ∷ []) ≡ true) × (clear false (65 ∷ 10 ∷ []) ≡ false) × (first_control true (65 ∷ 13 ∷ 127 ∷ []) ≡ some 13)
+pub are_controls : (clear true (65 ∷ 10 ∷ []) ≡ true) × (clear false (65 ∷ 10 ∷ []) ≡ false) × (first_control true (65 ∷ 13 ∷ 127 ∷ []) ≡ Some 13)
 unfolding control
 are_controls = (refl, refl, refl)

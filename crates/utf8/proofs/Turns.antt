@@ -1,16 +1,12 @@
--- The turns of the loops that test for UTF-8 and look for control characters, over plain variables. Assumes nothing.
-use Prim.Native.Nat.{ℕ, zero, suc, ◌+◌, ◌-◌, ◌≤◌, ◌<◌}
+-- The turns of the loop that tests for UTF-8, over plain variables. Assumes nothing.
+use Prim.Native.Nat.{ℕ, zero, suc, ◌-◌, ◌≤◌, ◌<◌}
 use mathlib.Core.Path.{◌≡◌, refl}
-use mathlib.Core.Bool.{Bool, true, false}
+use mathlib.Core.Bool.{false}
 use mathlib.Core.List.{List, [], ◌∷◌}
-use mathlib.Core.Option.{some, none}
 use native.Mathlib.Omega.{arith}
 use borrow.Author.Tests.{le-leb, lt-leb}
 use lib.Dec.{eqb, eqb-suc-zero}
-use lib.ListN.{length, get_or, drop}
-use Rattle.text.proofs.Texts.{cut, over}
 use Rattle.utf8.specs.Utf8.{follow, low, high, comes}
-use Rattle.utf8.specs.Controls.{control, first_control}
 
 -- ---- UTF-8: w is left, and begins with b
 
@@ -23,9 +19,6 @@ module _ (w t : List ℕ) (left least most b : ℕ) (e : w ≡ b ∷ t) where
   -- the first byte of a character
   pub first_turn : left ≡ 0 → follow b ≤ 3 → comes (follow b) (low b) (high b) t ≡ comes left least most w
   first_turn z l = let u = le-leb (follow b) 3 l in rw (z, e, u)
-
-  pub first_not : left ≡ 0 → 3 < follow b → false ≡ comes left least most w
-  first_not z l = let u = lt-leb (follow b) 3 l in rw (z, e, u)
 
 module _ (w t : List ℕ) (least most b : ℕ) (e : w ≡ b ∷ t) where
   -- one of the others
@@ -44,15 +37,3 @@ module _ (w t : List ℕ) (least most b : ℕ) (e : w ≡ b ∷ t) where
   pub tail_high : (left : ℕ) → (left ≡ 0 → ⊥) → least ≤ b → most < b → false ≡ comes left least most w
   tail_high zero n l m = absurd (n refl)
   tail_high (suc left) n l m = let u = le-leb least b l in let v = lt-leb b most m in rw (e, u, v)
-
--- ---- control characters
-
-module _ (feed : Bool) (s : List ℕ) (i : ℕ) where
-  pub control_none : length s ≤ i → none ≡ first_control feed (drop i s)
-  control_none h = rw (over s i h)
-
-  pub control_here : i < length s → control feed (get_or s i 0) ≡ true → some (get_or s i 0) ≡ first_control feed (drop i s)
-  control_here h e = rw (cut s i h, e)
-
-  pub control_turn : i < length s → control feed (get_or s i 0) ≡ false → first_control feed (drop (i + 1) s) ≡ first_control feed (drop i s)
-  control_turn h e = rw (cut s i h, e)

@@ -1,8 +1,6 @@
 -- Control characters in a text. Assumes nothing.
-use Rattle.std.specs.Prelude.{ℕ, Bool, true, false, cond, ◌&&◌, ◌||◌, List, [], ◌∷◌, ltb, eqb}
-use Rattle.std.proofs.Math.Option.{Option, some, none}
-use Rattle.utf8.specs.declared.controls.Found.{Found}
-use Rattle.utf8.specs.declared.controls.Found.TheVariants.{Control, Nothing}
+use Rattle.std.specs.Prelude.{ℕ, Bool, true, false, cond, ◌&&◌, ◌||◌, List, ltb, eqb, None, Option, Some}
+use Rattle.std.specs.List.{find}
 
 -- a byte below 32, or 127; the flag lets a line feed (10) pass
 unfoldable pub control : Bool → ℕ → Bool
@@ -10,17 +8,11 @@ control feed b = cond (feed && eqb b 10) false (ltb b 32 || eqb b 127)
 
 -- the first of them in a text
 abbrev pub first_control : Bool → List ℕ → Option ℕ
-first_control feed [] = none
-first_control feed (b ∷ s) = cond (control feed b) (some b) (first_control feed s)
-
--- what the code's answer says
-abbrev pub found_says : Found → Option ℕ
-found_says (Control b) = some b
-found_says Nothing = none
+first_control feed s = find (λ b. control feed b) s
 
 abbrev pub missing : Option ℕ → Bool
-missing (some b) = false
-missing none = true
+missing (Some b) = false
+missing None = true
 
 -- a text without one
 abbrev pub clear : Bool → List ℕ → Bool

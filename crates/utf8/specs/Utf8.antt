@@ -1,10 +1,14 @@
 -- UTF-8 as RFC 3629 has it, as a test of bytes: no overlong form, no surrogate, nothing above U+10FFFF. Assumes nothing.
-use Rattle.std.specs.Prelude.{ℕ, zero, suc, Bool, true, false, cond, ◌&&◌, List, [], ◌∷◌, leb, eqb}
+use Rattle.std.specs.Prelude.{ℕ, zero, suc, Bool, true, false, cond, ◌&&◌, List, [], ◌∷◌, leb, eqb, None, Option, Some}
 
 -- how many bytes follow the first byte of a character, and 4 where none begins with it
 unfoldable pub follow : ℕ → ℕ
 follow b =
     cond (leb b 127) 0 (cond (leb b 193) 4 (cond (leb b 223) 1 (cond (leb b 239) 2 (cond (leb b 244) 3 4))))
+
+-- the same, where one begins with it
+abbrev pub followed : ℕ → Option ℕ
+followed b = cond (leb (follow b) 3) (Some (follow b)) None
 
 -- the least and the greatest byte that may follow it
 unfoldable pub low : ℕ → ℕ

@@ -1,14 +1,7 @@
 // Control characters in a text.
 ghost use Rattle.std.specs.Prelude.{◌≡◌};
 ghost use Rattle.utf8.specs.Controls as Controls;
-ghost use Rattle.utf8.specs.Controls.{found_says, first_control, clear};
-
-// The first control character of a text, or that it has none.
-#[derive(Clone, Copy)]
-pub enum Found {
-    Control(u8),
-    Nothing,
-}
+ghost use Rattle.utf8.specs.Controls.{first_control, clear};
 
 // Whether a byte is a control character; the flag lets a line feed pass.
 fn control(feed: bool, b: u8) -> bool
@@ -21,26 +14,15 @@ fn control(feed: bool, b: u8) -> bool
 }
 
 // The first control character of a text, but for line feeds where the flag lets them pass.
-pub fn first_control(s: &[u8], feed: bool) -> Found
-    ensures { found_says result ≡ first_control feed s.now }
+pub fn first_control(s: &[u8], feed: bool) -> Option<u8>
+    ensures { result ≡ first_control feed s.now }
 {
-    let mut i = 0;
-    while i < s.len() {
-        let b = s[i];
-        if control(feed, b) {
-            return Found::Control(b);
-        }
-        i += 1;
-    }
-    Found::Nothing
+    s.iter().copied().find(|b| control(feed, *b))
 }
 
 // Whether a text has no control character, but for line feeds where the flag lets them pass.
 pub fn is_clear(s: &[u8], feed: bool) -> bool
     ensures { result ≡ clear feed s.now }
 {
-    match first_control(s, feed) {
-        Found::Control(_) => false,
-        Found::Nothing => true,
-    }
+    first_control(s, feed).is_none()
 }

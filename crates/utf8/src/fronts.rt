@@ -14,17 +14,14 @@ pub fn front_length(s: &[u8], most: usize) -> usize
     ensures { result ≡ length (front most s.now) }
 {
     let mut left = most;
-    let mut i = 0;
-    while i < s.len() {
-        if goes_on(s[i]) {
-            i += 1;
+    for (i, b) in s.iter().enumerate() {
+        if goes_on(*b) {
             continue;
         }
         if left == 0 {
             return i;
         }
         left -= 1;
-        i += 1;
     }
-    i
+    s.len()
 }

@@ -5,6 +5,6 @@ mod controls;
 mod fronts;
 mod sequences;
 
-pub use controls::{Found, first_control, is_clear};
+pub use controls::{first_control, is_clear};
 pub use fronts::front_length;
 pub use sequences::is_utf8;

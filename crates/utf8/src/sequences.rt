@@ -2,52 +2,42 @@
 ghost use Rattle.std.specs.Prelude.{◌≡◌};
 ghost use Rattle.utf8.specs.Utf8 as Utf8;
 
-// How many bytes follow the first byte of a character, and 4 where none begins with it.
-fn follow(b: u8) -> usize
-    ensures { result ≡ Utf8.follow b }
+// How many bytes follow the first byte of a character, where one begins with it.
+#[tactic(auto, unfolding(crate::specs::Utf8::follow))]
+fn follow(b: u8) -> Option<usize>
+    ensures { result ≡ Utf8.followed b }
 {
-    if b <= 127 {
-        return 0;
+    match b {
+        0..=127 => Some(0),
+        194..=223 => Some(1),
+        224..=239 => Some(2),
+        240..=244 => Some(3),
+        _ => None,
     }
-    if b <= 193 {
-        return 4;
-    }
-    if b <= 223 {
-        return 1;
-    }
-    if b <= 239 {
-        return 2;
-    }
-    if b <= 244 {
-        return 3;
-    }
-    4
 }
 
 // The least byte that may follow it.
+#[tactic(auto, unfolding(crate::specs::Utf8::low))]
 fn low(b: u8) -> u8
     ensures { result ≡ Utf8.low b }
 {
-    if b == 224 {
-        return 160;
+    match b {
+        224 => 160,
+        240 => 144,
+        _ => 128,
     }
-    if b == 240 {
-        return 144;
-    }
-    128
 }
 
 // The greatest byte that may follow it.
+#[tactic(auto, unfolding(crate::specs::Utf8::high))]
 fn high(b: u8) -> u8
     ensures { result ≡ Utf8.high b }
 {
-    if b == 237 {
-        return 159;
+    match b {
+        237 => 159,
+        244 => 143,
+        _ => 191,
     }
-    if b == 244 {
-        return 143;
-    }
-    191
 }
 
 // Whether a text is UTF-8.
@@ -57,23 +47,20 @@ pub fn is_utf8(s: &[u8]) -> bool
     let mut left = 0;
     let mut least: u8 = 128;
     let mut most: u8 = 191;
-    let mut i = 0;
-    while i < s.len() {
-        let b = s[i];
-        i += 1;
+    for b in s {
         if left == 0 {
-            left = follow(b);
-            if 3 < left {
+            let Some(n) = follow(*b) else {
                 return false;
-            }
-            least = low(b);
-            most = high(b);
+            };
+            left = n;
+            least = low(*b);
+            most = high(*b);
             continue;
         }
-        if b < least {
+        if *b < least {
             return false;
         }
-        if most < b {
+        if most < *b {
             return false;
         }
         left -= 1;

@@ -1,8 +1,7 @@
 -- A writer's loop: what is still to be written, and the whole. Assumes nothing.
-use Prim.Native.Nat.{ℕ, zero, suc, ◌+◌, ◌-◌, ◌≤◌, ◌<◌}
+use Prim.Native.Nat.{ℕ, suc, ◌+◌}
 use mathlib.Core.Path.{◌≡◌, refl}
 use mathlib.Core.List.{List, [], ◌++◌, append_assoc}
-use native.Mathlib.Omega.{arith}
 use Rattle.text.specs.Written.{Wrote}
 use Rattle.text.proofs.Writes.{then, wrote_none}
 use Rattle.wall.specs.Columns.{repeated}
@@ -21,15 +20,13 @@ module _ {out₀ : List ℕ} {at : ℕ} {whole out : List ℕ} {next : ℕ} {res
   written w rest' e = λ after end v. g after end (rw e (then w v))
 
 -- what is repeated, one more turn and none
-pub repeated_turn : (f : ℕ → List ℕ) (step i left : ℕ) → 0 < left → repeated f step i left ≡ f i ++ repeated f step (i + step) (left - 1)
+pub repeated_turn : (f : ℕ → List ℕ) (step i left rest : ℕ) → left ≡ suc rest → repeated f step i left ≡ f i ++ repeated f step (i + step) rest
 unfolding repeated
-repeated_turn f step i zero l = absurd (let bad : ⊥ = omega arith in bad)
-repeated_turn f step i (suc left) l = let e : suc left - 1 ≡ left = omega arith in rw e
+repeated_turn f step i left rest e = rw e
 
-pub repeated_end : (f : ℕ → List ℕ) (step i left : ℕ) → left ≤ 0 → repeated f step i left ≡ []
+pub repeated_end : (f : ℕ → List ℕ) (step i left : ℕ) → left ≡ 0 → repeated f step i left ≡ []
 unfolding repeated
-repeated_end f step i zero l = refl
-repeated_end f step i (suc left) l = absurd (let bad : ⊥ = omega arith in bad)
+repeated_end f step i left e = rw e
 
-pub repeated_then : (f : ℕ → List ℕ) (step i left : ℕ) (tail : List ℕ) → 0 < left → repeated f step i left ++ tail ≡ f i ++ (repeated f step (i + step) (left - 1) ++ tail)
-repeated_then f step i left tail l = rw (repeated_turn f step i left l, append_assoc)
+pub repeated_then : (f : ℕ → List ℕ) (step i left rest : ℕ) (tail : List ℕ) → left ≡ suc rest → repeated f step i left ++ tail ≡ f i ++ (repeated f step (i + step) rest ++ tail)
+repeated_then f step i left rest tail e = rw (repeated_turn f step i left rest e, append_assoc)

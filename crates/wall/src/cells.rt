@@ -69,13 +69,9 @@ fn put_row(out: &mut [u8], at: usize, k: u8, cells: &[u16], i: usize) -> usize
     ensures { Wrote out.old at (row k cells.now i) out.new result }
 {
     let mut next = at;
-    let mut j = i;
-    let mut left: u8 = 7;
-    while 0 < left {
+    for j in i..i + 7 {
         let a = text::put(out, next, b"|");
         next = put_piece(out, a, k, cells, j);
-        j += 1;
-        left -= 1;
     }
     text::put(out, next, b"|\n")
 }
@@ -108,12 +104,8 @@ pub fn put_weeks(out: &mut [u8], at: usize, cells: &[u16], weeks: u8) -> usize
     ensures { Wrote out.old at (weeks_of cells.now weeks) out.new result }
 {
     let mut next = at;
-    let mut i = 0;
-    let mut left = weeks;
-    while 0 < left {
-        next = put_week(out, next, cells, i);
-        i += 7;
-        left -= 1;
+    for w in 0..weeks {
+        next = put_week(out, next, cells, w as usize * 7);
     }
     next
 }

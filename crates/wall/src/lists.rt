@@ -48,13 +48,9 @@ fn put_festival_lines(
         (repeated (line_of names.now cells.now festivals.now i) 1 from n) out.new result }
 {
     let mut next = at;
-    let mut f = from;
-    let mut left = n;
-    while 0 < left {
+    for f in from..from + n as usize {
         let a = put_festival_day(out, next, cells, i);
         next = put_festival(out, a, names, festivals, f);
-        f += 1;
-        left -= 1;
     }
     next
 }
@@ -65,10 +61,8 @@ fn before(cells: &[u16], i: usize) -> usize
     ensures { (result ≡ Lists.before cells.now i) × (result ≤ 65535 * i) }
 {
     let mut sum = 0;
-    let mut k = 0;
-    while k < i {
+    for k in 0..i {
         sum += number(cells, k, 11) as usize;
-        k += 1;
     }
     sum
 }
@@ -104,12 +98,8 @@ pub fn put_festivals(
         (festivals_of names.now cells.now festivals.now n) out.new result }
 {
     let mut next = at;
-    let mut i = 0;
-    let mut left = n;
-    while 0 < left {
+    for i in 0..n as usize {
         next = put_festivals_on(out, next, names, cells, festivals, i);
-        i += 1;
-        left -= 1;
     }
     next
 }

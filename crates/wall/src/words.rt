@@ -1,5 +1,6 @@
 // Lines of a text, found and written; the words for months and weekdays.
-ghost use Rattle.std.specs.Prelude.{◌≡◌, drop};
+ghost use Rattle.std.specs.Prelude.{◌≡◌, ◌==◌, not, length, take, drop};
+ghost use Rattle.std.specs.List.{take_while};
 ghost use Rattle.text.specs.Fronts.{up_to};
 ghost use Rattle.text.specs.Written.{Wrote};
 ghost use Rattle.wall.specs.Words.{next_line, line_from, word, weekdays, gregorian_months, bs_months};
@@ -8,14 +9,12 @@ ghost use Rattle.wall.specs.Words.{next_line, line_from, word, weekdays, gregori
 fn next_line(s: &[u8], from: usize) -> usize
     ensures { drop result s.now ≡ next_line (drop from s.now) }
 {
-    let mut i = from;
-    while i < s.len() {
-        if s[i] == 10 {
+    for i in from..s.len() {
+        if s[i] == b'\n' {
             return i + 1;
         }
-        i += 1;
     }
-    i
+    s.len()
 }
 
 // The place of line k.
@@ -23,34 +22,36 @@ fn line_from(s: &[u8], k: u16) -> usize
     ensures { drop result s.now ≡ line_from k s.now }
 {
     let mut at = 0;
-    let mut left = k;
-    while 0 < left {
+    for _done in 0..k {
         at = next_line(s, at);
-        left -= 1;
     }
     at
+}
+
+// What stands from a place on.
+fn behind(s: &[u8], from: usize) -> &[u8]
+    ensures { result.now ≡ drop from s.now }
+{
+    &s[from.min(s.len())..]
+}
+
+// How many bytes stand before the byte stop, of the first `most` of a text.
+fn before(s: &[u8], stop: u8, most: u16) -> usize
+    ensures { result ≡ length (take_while (λ b. not (b == stop)) (take most s.now)) }
+{
+    s.iter()
+        .take(most as usize)
+        .take_while(|b| **b != stop)
+        .count()
 }
 
 // Writes what stands at a place up to the byte stop, at most so many bytes of it.
 pub fn put_up_to(out: &mut [u8], at: usize, s: &[u8], from: usize, stop: u8, most: u16) -> usize
     ensures { Wrote out.old at (up_to stop most (drop from s.now)) out.new result }
 {
-    let mut next = at;
-    let mut i = from;
-    let mut left = most;
-    while 0 < left {
-        if s.len() <= i {
-            return next;
-        }
-        let x = s[i];
-        if x == stop {
-            return next;
-        }
-        next = text::put(out, next, &[x]);
-        i += 1;
-        left -= 1;
-    }
-    next
+    let rest = behind(s, from);
+    let n = before(rest, stop, most);
+    text::put(out, at, &rest[..n])
 }
 
 // Writes line k of a text, at most so many bytes of it.

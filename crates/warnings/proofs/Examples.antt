@@ -1,6 +1,5 @@
 -- The examples, worked out by antt. Assumes nothing.
 use mathlib.Core.Path.{refl}
-use Rattle.paper.specs.Answers.{given}
 use Rattle.paper.specs.Sums.{sum, all}
 use Rattle.gregorian.specs.Calendar.{is_date, day_number}
 use Rattle.conversion.specs.Calendar.{month_len}
@@ -13,7 +12,7 @@ use Rattle.warnings.specs.Words.{labelled, name_text, date_text, day_text, what_
 use Rattle.warnings.specs.Examples.{Examples}
 
 pub checked : Examples
-unfolding warnings_text rule_text told_text warning_text what_text day_text date_text name_text labelled first_like shared no_text no_day beside month_len given accepted row_ok all sum is_date day_number has_name text_of headed decimal worth mark run places_in line_of number_text lines_text at_text line_text
+unfolding warnings_text rule_text told_text warning_text what_text day_text date_text name_text labelled first_like shared no_text no_day beside month_len accepted row_ok all sum is_date day_number has_name text_of headed decimal worth mark run places_in line_of number_text lines_text at_text line_text
 checked =
     record {
       first_good = refl;

@@ -1,4 +1,3 @@
 pub mod Turns
-pub mod Found
 pub mod Told
 pub mod Examples

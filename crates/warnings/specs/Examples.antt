@@ -1,6 +1,6 @@
 -- Lists of a few rules and what is told of one of them, to be followed by eye: in the file `f`, with texts for the names 1 and 2, over the table of
 -- docs/RULES.md, in which month 12 of BS 100 has 30 days. Assumes nothing.
-use Rattle.std.specs.Prelude.{ℕ, ◌≡◌, true, false, List, [], ◌∷◌, ◌++◌}
+use Rattle.std.specs.Prelude.{ℕ, ◌≡◌, List, [], ◌∷◌, ◌++◌, Some, None}
 use Prim.Native.String.{String}
 use Rattle.text.specs.Quoted.{bytes}
 use Rattle.conversion.specs.Own.{own}
@@ -8,7 +8,7 @@ use Rattle.warnings.specs.Words.{warnings_text}
 
 -- of rule number j, from 0 on
 abbrev pub Tells : List ℕ → ℕ → String → Type 0
-Tells rules j s = warnings_text (bytes "f") rules j true (bytes "1=New Year\n2=Holi\n") own ≡ bytes s
+Tells rules j s = warnings_text (bytes "f") rules j (Some (bytes "1=New Year\n2=Holi\n")) own ≡ bytes s
 
 -- name 1 on a fixed date, and on another
 abbrev pub new_year : List ℕ
@@ -48,4 +48,4 @@ pub record Examples : Type 0 where
   pub beside : Tells (given 30 1 ++ new_year) 0
       "warning: f, line 7: rule 1 (lines 1 to 8) has name 1, which rule 2 (lines 9 to 16) has on a fixed date: both show\n"
   -- without names none lacks its text
-  pub no_names : warnings_text (bytes "f") unnamed 0 false [] own ≡ []
+  pub no_names : warnings_text (bytes "f") unnamed 0 None own ≡ []

@@ -1,5 +1,5 @@
 -- The warnings of a rule, in words. Assumes nothing.
-use Rattle.std.specs.Prelude.{ℕ, ◌/◌, Bool, true, false, cond, List, [], ◌++◌, leb, length}
+use Rattle.std.specs.Prelude.{ℕ, ◌/◌, cond, List, [], ◌++◌, leb, length, Option, Some, None}
 use Rattle.text.specs.Digits.{digits}
 use Rattle.text.specs.Quoted.{bytes}
 use Rattle.conversion.specs.Calendar.{Calendar}
@@ -14,7 +14,6 @@ use Rattle.warnings.specs.Warnings.{twice, shared, no_text, no_day, beside}
 
 -- which of the rule's eight lines is told: the first for a rule that is there twice, that of its day, or that of its name
 abbrev pub line_in : Warning → ℕ
-line_in warning.Nothing = 1
 line_in (warning.Twice i) = 1
 line_in (warning.Shared name i) = 7
 line_in (warning.NoText name) = 7
@@ -40,7 +39,6 @@ day_text r n =
 
 -- what is said behind the rule's number and lines
 unfoldable pub what_text : Warning → List ℕ
-what_text warning.Nothing = []
 what_text (warning.Twice i) = bytes " is the same as " ++ lines_text i
 what_text (warning.Shared name i) = name_text name ++ (lines_text i ++ bytes ", another festival, has too")
 what_text (warning.NoText name) = name_text name ++ bytes "has no text in the file of names"
@@ -51,27 +49,20 @@ what_text (warning.Beside name i) = name_text name ++ (lines_text i ++ bytes " h
 unfoldable pub warning_text : List ℕ → ℕ → Warning → List ℕ
 warning_text path j w = bytes "warning: " ++ (line_text path (line_of j (line_in w)) ++ (lines_text j ++ (what_text w ++ bytes "\n")))
 
-abbrev pub is_nothing : Warning → Bool
-is_nothing warning.Nothing = true
-is_nothing (warning.Twice i) = false
-is_nothing (warning.Shared name i) = false
-is_nothing (warning.NoText name) = false
-is_nothing (warning.NoDay r n) = false
-is_nothing (warning.Beside name i) = false
-
 -- a warning's line, and nothing where there is none
-unfoldable pub told_text : List ℕ → ℕ → Warning → List ℕ
-told_text path j w = cond (is_nothing w) [] (warning_text path j w)
+abbrev pub told_text : List ℕ → ℕ → Option Warning → List ℕ
+told_text path j None = []
+told_text path j (Some w) = warning_text path j w
 
 -- ---- the warnings of rule number j
 
 -- of a rule r that others come before
-unfoldable pub rule_text : List ℕ → ℕ → List Rule → List Rule → Bool → List ℕ → Calendar → Rule → List ℕ
-rule_text path j before rules named names c r =
-    told_text path j (twice before r) ++ (told_text path j (shared before r) ++ (told_text path j (no_text named names before r)
+unfoldable pub rule_text : List ℕ → ℕ → List Rule → List Rule → Option (List ℕ) → Calendar → Rule → List ℕ
+rule_text path j before rules names c r =
+    told_text path j (twice before r) ++ (told_text path j (shared before r) ++ (told_text path j (no_text names before r)
     ++ (told_text path j (no_day c r) ++ told_text path j (beside rules r))))
 
 -- in a list of numbers, which may end before it
-unfoldable pub warnings_text : List ℕ → List ℕ → ℕ → Bool → List ℕ → Calendar → List ℕ
-warnings_text path xs j named names c =
-    cond (leb (length xs / 8) j) [] (rule_text path j (rules_from xs 0 j) (rules_of xs) named names c (rule_at xs j))
+unfoldable pub warnings_text : List ℕ → List ℕ → ℕ → Option (List ℕ) → Calendar → List ℕ
+warnings_text path xs j names c =
+    cond (leb (length xs / 8) j) [] (rule_text path j (rules_from xs 0 j) (rules_of xs) names c (rule_at xs j))

@@ -7,6 +7,7 @@ ghost use Rattle.warnings.specs.Warnings.{festival, yearly, first_like};
 use rules::Rule;
 
 // How another rule stands to a rule: it is the same; it has its name; and it is another festival; and its date is the same every year.
+// An enum and no closure: the laws of `first_like` speak of it, where a closure's would speak of its calls.
 #[derive(Clone, Copy)]
 pub enum Like {
     Same,
@@ -15,25 +16,11 @@ pub enum Like {
     Yearly,
 }
 
-// How many rules come before the one that was sought, or that there is none.
-#[derive(Clone, Copy)]
-pub enum Found {
-    At(usize),
-    Nothing,
-}
-
 // Whether two rules are the same in all eight numbers.
 fn same(r: Rule, s: Rule) -> bool
     ensures { result ≡ Warnings.same r s }
 {
-    (r.kind == s.kind)
-        & (r.year == s.year)
-        & (r.month == s.month)
-        & (r.day == s.day)
-        & (r.half == s.half)
-        & (r.kala == s.kala)
-        & (r.name == s.name)
-        & (r.holiday == s.holiday)
+    r == s
 }
 
 // Whether a rule is of kind 1 to 3, a festival.
@@ -63,16 +50,14 @@ fn stands(how: Like, r: Rule, s: Rule) -> bool
 }
 
 // The first of the first n rules that stands so to a rule.
-pub fn first_like(rules: &[u16], n: usize, how: Like, r: Rule) -> Found
+pub fn first_like(rules: &[u16], n: usize, how: Like, r: Rule) -> Option<usize>
     requires { n * 8 ≤ length rules.now }
     ensures { result ≡ first_like how r (rules_from rules.now 0 «n») 0 }
 {
-    let mut i = 0;
-    while i < n {
+    for i in 0..n {
         if stands(how, r, rules::rule_at(rules, i)) {
-            return Found::At(i);
+            return Some(i);
         }
-        i += 1;
     }
-    Found::Nothing
+    None
 }

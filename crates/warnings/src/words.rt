@@ -1,8 +1,9 @@
 // The warnings of a rule, in words.
 ghost use Rattle.std.specs.Prelude.{◌≡◌};
+ghost use Rattle.std.specs.Option.{option_copied};
 ghost use Rattle.conversion.specs.Flat.{flat};
 ghost use Rattle.text.specs.Written.{Wrote};
-ghost use Rattle.warnings.specs.Words.{line_in, labelled, name_text, date_text, day_text, what_text, warning_text, is_nothing, told_text, warnings_text};
+ghost use Rattle.warnings.specs.Words.{line_in, labelled, name_text, date_text, day_text, what_text, warning_text, told_text, warnings_text};
 
 use crate::finding;
 use crate::finding::Warning;
@@ -14,7 +15,6 @@ fn line_in(w: Warning) -> u64
     ensures { result ≡ line_in w }
 {
     match w {
-        Warning::Nothing => 1,
         Warning::Twice(_) => 1,
         Warning::Shared(_, _) => 7,
         Warning::NoText(_) => 7,
@@ -66,7 +66,6 @@ fn put_what(out: &mut [u8], at: usize, w: Warning) -> usize
     ensures { Wrote out.old at (what_text w) out.new result }
 {
     match w {
-        Warning::Nothing => at,
         Warning::Twice(i) => {
             let a = text::put(out, at, b" is the same as ");
             faults::put_rule_lines(out, a, i)
@@ -100,44 +99,29 @@ fn put_warning(out: &mut [u8], at: usize, path: &[u8], j: usize, w: Warning) -> 
     text::put(out, d, b"\n")
 }
 
-// Whether there is nothing to warn of.
-fn is_nothing(w: Warning) -> bool
-    ensures { result ≡ is_nothing w }
-{
-    match w {
-        Warning::Nothing => true,
-        Warning::Twice(_) => false,
-        Warning::Shared(_, _) => false,
-        Warning::NoText(_) => false,
-        Warning::NoDay(_, _) => false,
-        Warning::Beside(_, _) => false,
-    }
-}
-
 // Writes the line of a warning, and nothing where there is none.
-fn put_told(out: &mut [u8], at: usize, path: &[u8], j: usize, w: Warning) -> usize
-    ensures { Wrote out.old at (told_text path.now j w) out.new result }
+fn put_told(out: &mut [u8], at: usize, path: &[u8], j: usize, told: Option<Warning>) -> usize
+    ensures { Wrote out.old at (told_text path.now j told) out.new result }
 {
-    if is_nothing(w) {
-        return at;
+    match told {
+        Some(w) => put_warning(out, at, path, j, w),
+        None => at,
     }
-    put_warning(out, at, path, j, w)
 }
 
-// Writes the warnings of rule number j of a list, from 0 on, a line each, and answers the place after them; nothing where the list ends before. Whether there
-// are names is said beside them: without, no name lacks its text.
+// Writes the warnings of rule number j of a list, from 0 on, a line each, and answers the place after them; nothing where the list ends before. Without
+// names no name lacks its text.
 pub fn put_warnings(
     out: &mut [u8],
     at: usize,
     path: &[u8],
     rules: &[u16],
     j: usize,
-    named: bool,
-    names: &[u8],
+    names: Option<&[u8]>,
     table: Table,
     rows: &[u16],
 ) -> usize
-    ensures { Wrote out.old at (warnings_text path.now rules.now j named names.now
+    ensures { Wrote out.old at (warnings_text path.now rules.now j (option_copied names.entry)
         (flat table rows.now)) out.new result }
 {
     let n = rules.len() / 8;
@@ -147,7 +131,7 @@ pub fn put_warnings(
     let r = rules::rule_at(rules, j);
     let a = put_told(out, at, path, j, finding::twice(rules, j, r));
     let b = put_told(out, a, path, j, finding::shared(rules, j, r));
-    let c = put_told(out, b, path, j, finding::no_text(rules, j, named, names, r));
+    let c = put_told(out, b, path, j, finding::no_text(rules, j, names, r));
     let d = put_told(out, c, path, j, finding::no_day(table, rows, r));
     put_told(out, d, path, j, finding::beside(rules, n, r))
 }

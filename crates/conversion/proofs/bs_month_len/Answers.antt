@@ -1,15 +1,8 @@
-use mathlib.Core.Path.{sym, ◌∙◌}
-use borrow.Author.Tests.{not-true, not-false}
+use Rattle.paper.proofs.Answers.{passed_on, given_refused}
 use Rattle.conversion.specs.Calendar.{month_len}
-use Rattle.conversion.specs.Flat.{flat}
-use Rattle.conversion.proofs.Days.{no_table}
+use Rattle.conversion.proofs.Accepted.{refused_table}
 use Rattle.conversion.proofs.bs_month_len.Goals as goal
 
-pub returns-then-not-accepts : goal.returns-then-not-accepts
+pub returns-in_err-whole : goal.returns-in_err-whole
 unfolding month_len
-returns-then-not-accepts c =
-    let a = c.args in
-    sym (no_table (flat a.table a.rows.now) a.year a.month _ (sym c.accepts.ensures ∙ c.if-not-accepts.true))
-
-pub month_days-requires : goal.month_days-requires
-month_days-requires c = sym c.accepts.ensures ∙ c.if-not-accepts.false
+returns-in_err-whole c = passed_on _ c.from_residual.ensures.1 (refused_table _ _ _ _ (given_refused _ _ _ _ c.in_err-whole.ensures))

@@ -1,92 +1,47 @@
-use Prim.Native.Nat.{◌+◌, ◌-◌, ◌≤◌}
-use mathlib.Core.Path.{◌≡◌, sym, ap, ◌∙◌}
+use Rattle.std.specs.Prelude.{Ok}
+use mathlib.Core.Path.{sym, ap, ◌∙◌}
 use native.Mathlib.Omega.{arith}
-use Rattle.paper.specs.Answers.{answered}
-use Rattle.gregorian.specs.Calendar.{day_number, date_of}
-use Rattle.paper.proofs.Answers.{said}
-use Rattle.conversion.specs.Calendar.{to_ad, day_at, valid_bs}
-use Rattle.conversion.specs.Flat.{flat, row_days, first_day}
-use Rattle.conversion.specs.Answers.{valid_says}
-use Rattle.conversion.proofs.Accepted.{Facts, facts, rows_before, row_reached, valid_is}
-use Rattle.conversion.proofs.Ad.{served, on_numbered}
-use Rattle.conversion.proofs.Days.{Valid, no_table, valid_told, valid_refused, valid_on, of_date_law}
+use Rattle.gregorian.specs.Calendar.{date_of}
+use Rattle.paper.proofs.Answers.{passed_on, given_refused}
+use Rattle.conversion.specs.Calendar.{to_ad}
+use Rattle.conversion.proofs.Accepted.{frame_is, frame_refused, refused_table, pass_is, valid_is}
+use Rattle.conversion.proofs.Ad.{DateRow, date_row, served, on_numbered}
+use Rattle.conversion.proofs.Days.{valid_refused, valid_on, of_date_law}
 use Rattle.conversion.proofs.bs_to_ad.Goals as goal
+use Rattle.conversion.proofs.bs_to_ad.Goals.{In_ok-date_check}
 
-pub returns-then-p-eq0 : goal.returns-then-p-eq0
+-- the row of the date
+dated : (c : In_ok-date_check) → let a = c.args in DateRow a.table a.rows.now c.in_ok-start.start c.in_ok-p.p a.date.year a.date.month a.date.day
+dated c = date_row _ _ _ _ _ _ _ _ (frame_is _ _ _ c.in_ok-start.ensures) c.row_of.ensures c.in_ok-p.ensures c.in_ok-date_check.ensures
+
+pub returns-in_err-start : goal.returns-in_err-start
 unfolding to_ad
-returns-then-p-eq0 c =
-    let a = c.args in
-    sym (no_table (flat a.table a.rows.now) a.date.year a.date.month _ (c.pass_table-p.ensures.bad c.if-p-eq0.true))
+returns-in_err-start c = passed_on _ c.from_residual.ensures.1 (refused_table _ _ _ _ (frame_refused _ _ _ c.in_err-start.ensures))
+
+pub returns-in_err-p : goal.returns-in_err-p
+unfolding to_ad
+returns-in_err-p c = passed_on _ c.from_residual-in_err-p.ensures.1 (refused_table _ _ _ _ (given_refused _ _ _ _ c.in_err-p.ensures))
+
+pub returns-in_err-date_check : goal.returns-in_err-date_check
+unfolding to_ad
+returns-in_err-date_check c =
+    let d = c.args.date in
+    let good = (pass_is _ _ _ _ _ c.in_ok-p.ensures).0 in
+    passed_on _ c.from_residual-in_err-date_check.ensures.1 (valid_refused _ _ _ _ _ _ (c.in_err-date_check.ensures ∙ valid_is _ _ d.year d.month d.day good))
 
 pub overflow_add-start : goal.overflow_add-start
-overflow_add-start c =
-    let checked : let a = c.args in valid_says c.date_check-check.result ≡ valid_bs (flat a.table a.rows.now) a.date.year a.date.month a.date.day = let d = c.args.date in
-    c.date_check-check.ensures ∙ valid_is _ _ d.year d.month d.day (c.pass_table-p.ensures.good c.if-p-eq0.false) in
-    let known : let a = c.args in Valid (flat a.table a.rows.now) a.date.year a.date.month a.date.day = valid_told _ _ _ _ (said valid_says c.in-Valid.is checked) in
-    let table : let a = c.args in Facts a.table a.rows.now = facts _ _ known.month.good in
-    let row : let a = c.args in let i = a.date.year - a.table.first_year in let p = c.pass_table-p.result in (p.row ≡ i) × (p.before ≡ row_days a.rows.now i) = let k = known.month in
-    rw (← c.row_of.ensures) (row_reached _ _ table _ _ _ (rw c.row_of.ensures (omega arith)) (c.pass_table-p.ensures.reached c.if-p-eq0.false)) in
-    let first : c.frame-start.result ≡ day_number (first_day c.args.table) = let s = c.frame-start.ensures in
-    s.start (λ z. s.bad z table.frame) in
-    let early : let a = c.args in day_number (first_day a.table) + row_days a.rows.now (a.date.year - a.table.first_year) ≤ 2488070 = let k = known.month in rows_before _ _ table _ (omega arith) in
-    omega (arith, first, row.1, early)
+overflow_add-start c = let r = dated (goal.at.overflow_add-start c).In_ok-date_check in omega (arith, r.early)
 
 pub day_in_row-n-requires : goal.day_in_row-n-requires
-day_in_row-n-requires c =
-    let checked : let a = c.args in valid_says c.date_check-check.result ≡ valid_bs (flat a.table a.rows.now) a.date.year a.date.month a.date.day = let d = c.args.date in
-    c.date_check-check.ensures ∙ valid_is _ _ d.year d.month d.day (c.pass_table-p.ensures.good c.if-p-eq0.false) in
-    let known : let a = c.args in Valid (flat a.table a.rows.now) a.date.year a.date.month a.date.day = valid_told _ _ _ _ (said valid_says c.in-Valid.is checked) in
-    let table : let a = c.args in Facts a.table a.rows.now = facts _ _ known.month.good in
-    let row : let a = c.args in let i = a.date.year - a.table.first_year in let p = c.pass_table-p.result in (p.row ≡ i) × (p.before ≡ row_days a.rows.now i) = let k = known.month in
-    rw (← c.row_of.ensures) (row_reached _ _ table _ _ _ (rw c.row_of.ensures (omega arith)) (c.pass_table-p.ensures.reached c.if-p-eq0.false)) in
-    let first : c.frame-start.result ≡ day_number (first_day c.args.table) = let s = c.frame-start.ensures in
-    s.start (λ z. s.bad z table.frame) in
-    let early : let a = c.args in day_number (first_day a.table) + row_days a.rows.now (a.date.year - a.table.first_year) ≤ 2488070 = let k = known.month in rows_before _ _ table _ (omega arith) in
-    let f = table in
-    let k = known in
-    let start = first in
-    let r = row in
-    record {
-      row = omega (arith, r.0);
-      early = omega (arith, r.1, early);
-      month_from = k.month.month_from;
-      month_to = k.month.month_to;
-      day_from = k.day_from;
-    }
+day_in_row-n-requires c = (dated (goal.at.day_in_row-n-requires c).In_ok-date_check).row
 
 pub date_of-requires : goal.date_of-requires
 date_of-requires c =
-    let checked : let a = c.args in valid_says c.date_check-check.result ≡ valid_bs (flat a.table a.rows.now) a.date.year a.date.month a.date.day = let d = c.args.date in
-    c.date_check-check.ensures ∙ valid_is _ _ d.year d.month d.day (c.pass_table-p.ensures.good c.if-p-eq0.false) in
-    let known : let a = c.args in Valid (flat a.table a.rows.now) a.date.year a.date.month a.date.day = valid_told _ _ _ _ (said valid_says c.in-Valid.is checked) in
-    let table : let a = c.args in Facts a.table a.rows.now = facts _ _ known.month.good in
-    let row : let a = c.args in let i = a.date.year - a.table.first_year in let p = c.pass_table-p.result in (p.row ≡ i) × (p.before ≡ row_days a.rows.now i) = let k = known.month in
-    rw (← c.row_of.ensures) (row_reached _ _ table _ _ _ (rw c.row_of.ensures (omega arith)) (c.pass_table-p.ensures.reached c.if-p-eq0.false)) in
-    let first : c.frame-start.result ≡ day_number (first_day c.args.table) = let s = c.frame-start.ensures in
-    s.start (λ z. s.bad z table.frame) in
-    let number_is : let a = c.args in c.day_in_row-n.result ≡ day_at (flat a.table a.rows.now) (a.date.year - a.table.first_year) (a.date.month - 1) (a.date.day - 1) = let r = row in
-    rw (c.day_in_row-n.ensures, first, r.0, r.1) in
-    let k = known in
-    rw number_is (on_numbered _ _ (served _ _ k.month.good) (valid_on _ _ _ _ k))
+    let r = dated (goal.at.date_of-requires c).In_ok-date_check in
+    rw (c.day_in_row-n.ensures, r.number) (on_numbered _ _ (served _ _ r.valid.month.good) (valid_on _ _ _ _ r.valid))
 
-pub returns-in-Refused : goal.returns-in-Refused
+pub returns : goal.returns
 unfolding to_ad
-returns-in-Refused c =
-    let checked : let a = c.args in valid_says c.date_check-check.result ≡ valid_bs (flat a.table a.rows.now) a.date.year a.date.month a.date.day = let d = c.args.date in
-    c.date_check-check.ensures ∙ valid_is _ _ d.year d.month d.day (c.pass_table-p.ensures.good c.if-p-eq0.false) in
-    valid_refused _ _ _ _ _ _ (said valid_says c.in-Refused.is checked)
-
-pub returns-in-Valid : goal.returns-in-Valid
-unfolding to_ad
-returns-in-Valid c =
-    let checked : let a = c.args in valid_says c.date_check-check.result ≡ valid_bs (flat a.table a.rows.now) a.date.year a.date.month a.date.day = let d = c.args.date in
-    c.date_check-check.ensures ∙ valid_is _ _ d.year d.month d.day (c.pass_table-p.ensures.good c.if-p-eq0.false) in
-    let known : let a = c.args in Valid (flat a.table a.rows.now) a.date.year a.date.month a.date.day = valid_told _ _ _ _ (said valid_says c.in-Valid.is checked) in
-    let table : let a = c.args in Facts a.table a.rows.now = facts _ _ known.month.good in
-    let row : let a = c.args in let i = a.date.year - a.table.first_year in let p = c.pass_table-p.result in (p.row ≡ i) × (p.before ≡ row_days a.rows.now i) = let k = known.month in
-    rw (← c.row_of.ensures) (row_reached _ _ table _ _ _ (rw c.row_of.ensures (omega arith)) (c.pass_table-p.ensures.reached c.if-p-eq0.false)) in
-    let first : c.frame-start.result ≡ day_number (first_day c.args.table) = let s = c.frame-start.ensures in
-    s.start (λ z. s.bad z table.frame) in
-    let number_is : let a = c.args in c.day_in_row-n.result ≡ day_at (flat a.table a.rows.now) (a.date.year - a.table.first_year) (a.date.month - 1) (a.date.day - 1) = let r = row in
-    rw (c.day_in_row-n.ensures, first, r.0, r.1) in
-    ap answered (c.date_of.ensures ∙ ap date_of number_is) ∙ sym (of_date_law _ _ _ _ _ known)
+returns c =
+    let r = dated (goal.at.returns c).In_ok-date_check in
+    ap Ok (c.date_of.ensures ∙ ap date_of (c.day_in_row-n.ensures ∙ r.number)) ∙ sym (of_date_law _ _ _ _ _ r.valid)

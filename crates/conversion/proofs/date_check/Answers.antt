@@ -1,36 +1,26 @@
-use Prim.Native.Nat.{◌-◌}
-use mathlib.Core.Path.{◌≡◌, sym}
-use native.Mathlib.Omega.{arith}
-use Rattle.paper.proofs.Answers.{said}
-use Rattle.conversion.specs.Calendar.{Calendar, valid_bs}
-use Rattle.conversion.specs.Inner.{untested}
-use Rattle.conversion.specs.Answers.{days_says}
-use Rattle.conversion.proofs.Days.{InTable, len_told, no_day_law, of_date_law, len_refused}
+use mathlib.Core.Path.{sym, ◌∙◌}
+use Rattle.paper.proofs.Answers.{passed_on}
+use Rattle.paper.proofs.Tests.{in_range_is}
+use Rattle.conversion.specs.Calendar.{valid_bs}
+use Rattle.conversion.proofs.Days.{len_told, of_month_law, len_refused}
 use Rattle.conversion.proofs.date_check.Goals as goal
 
-pub returns-then-date-lt1 : goal.returns-then-date-lt1
+pub returns-in_err-len : goal.returns-in_err-len
 unfolding valid_bs
-returns-then-date-lt1 c =
-    let known : InTable (untested c.args.table c.args.rows.now) c.args.date.year c.args.date.month × ((untested c.args.table c.args.rows.now).len (c.args.date.year - c.args.table.first_year) (c.args.date.month - 1) ≡ c.in-Days.len) = len_told _ _ _ _ (said days_says c.in-Days.is c.month_at-days.ensures) in
-    let d = c.args.date in
-    sym (no_day_law (untested c.args.table c.args.rows.now) d.year d.month d.day tt known.0 (λ p q. omega arith))
+returns-in_err-len c = passed_on _ c.from_residual.ensures.1 (len_refused _ _ _ c.args.date.day tt _ c.in_err-len.ensures)
 
-pub returns-then-len-date : goal.returns-then-len-date
+pub returns-then-not-contains : goal.returns-then-not-contains
 unfolding valid_bs
-returns-then-len-date c =
-    let known : InTable (untested c.args.table c.args.rows.now) c.args.date.year c.args.date.month × ((untested c.args.table c.args.rows.now).len (c.args.date.year - c.args.table.first_year) (c.args.date.month - 1) ≡ c.in-Days.len) = len_told _ _ _ _ (said days_says c.in-Days.is c.month_at-days.ensures) in
-    let d = c.args.date in
-    let k = known in
-    sym (no_day_law (untested c.args.table c.args.rows.now) d.year d.month d.day tt k.0 (λ p q. omega (arith, k.1)))
+returns-then-not-contains c =
+    let k = len_told _ _ _ _ c.in_ok-len.ensures in
+    let s = c.new.ensures in
+    let day = rw (s.start, s.end, s.exhausted, in_range_is, ← k.1) at c.if-not-contains.ensures.value in
+    sym (of_month_law _ _ _ _ k.0 ∙ rw (← day))
 
-pub returns-in-Refused : goal.returns-in-Refused
+pub returns : goal.returns
 unfolding valid_bs
-returns-in-Refused c = len_refused _ _ _ c.args.date.day tt _ (said days_says c.in-Refused.is c.month_at-days.ensures)
-
-pub returns-else-len-date : goal.returns-else-len-date
-unfolding valid_bs
-returns-else-len-date c =
-    let known : InTable (untested c.args.table c.args.rows.now) c.args.date.year c.args.date.month × ((untested c.args.table c.args.rows.now).len (c.args.date.year - c.args.table.first_year) (c.args.date.month - 1) ≡ c.in-Days.len) = len_told _ _ _ _ (said days_says c.in-Days.is c.month_at-days.ensures) in
-    let d = c.args.date in
-    let k = known in
-    sym (of_date_law (untested c.args.table c.args.rows.now) d.year d.month d.day tt (record { month = k.0; day_from = omega arith; day_to = omega (arith, k.1) }))
+returns c =
+    let k = len_told _ _ _ _ c.in_ok-len.ensures in
+    let s = c.new.ensures in
+    let day = rw (s.start, s.end, s.exhausted, in_range_is, ← k.1) at c.if-not-contains.ensures.value in
+    sym (of_month_law _ _ _ _ k.0 ∙ rw (← day))

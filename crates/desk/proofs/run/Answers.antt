@@ -1,19 +1,16 @@
--- A line more at each turn, until the input is over.
-use Rattle.std.proofs.Common.{refl, sym, ◌∙◌}
-use Rattle.std.proofs.lemmas.Bool.{false≢true}
+-- All turns: what stands at first, and one turn more. Assumes nothing.
+use Rattle.std.proofs.Common.{refl, ◌∙◌}
 use Rattle.asked.proofs.Runs.{runs_first, runs_turn, runs_all}
 use Rattle.lending.specs.Lending.{loan_of}
 use Rattle.desk.specs.Keeping.{state_in}
 use Rattle.desk.specs.Runs.{opened, answering}
-use Rattle.desk.proofs.Turns.{desk_opened}
 use Rattle.desk.proofs.run.Goals as goal
 
 pub loop-t-init : goal.loop-t-init
 loop-t-init g c =
     let a = c.args in
     let x = loan_of a.first a.rows.now a.rules.now a.text.now in
-    let none = c.nothing-keeper.ensures in
-    (c.first_turn-t.auto.line, λ q. absurd (false≢true (sym none ∙ q)), rw (desk_opened x c.nothing-keeper.result none) (runs_first answering (opened x) 18446744073709551615 refl c.first_turn-t.ensures))
+    (c.first_turn-t.auto.line, tt, runs_first answering (opened x) 18446744073709551615 refl c.first_turn-t.ensures)
 
 pub loop-t-preserved : goal.loop-t-preserved
 loop-t-preserved g c =
@@ -24,4 +21,4 @@ loop-t-preserved g c =
 pub returns : goal.returns
 returns g c =
     let l = c.loop-t in
-    record { lent = l.lent; state = state_in l.keeper; run = runs_all l.invariant.2 refl }
+    record { lent = l.lent; state = state_in l.kept; run = runs_all l.invariant.2 refl }

@@ -10,34 +10,36 @@ returns-then-is_lending c = λ sound.
     let a = c.args in
     rw (← c.is_lending.ensures, c.if-is_lending.true) (record { words = gathers_none a.out.now a.o; state = refl; sound = sound })
 
-pub returns-in-Start : goal.returns-in-Start
+pub returns-in-Some-Start : goal.returns-in-Some-Start
 unfolding told_to told_by
-returns-in-Start c = λ sound.
+returns-in-Some-Start c = λ sound.
     rw (
       ← c.is_lending.ensures,
       c.if-is_lending.false,
-      sym c.keeping_of.ensures ∙ c.in-Start.is,
+      sym c.keeping_of.ensures ∙ c.in-Some-Start.is,
+      c.in-Some-Start.field-0-is,
       ← c.table_in.ensures,
     )
     c.begin.ensures
 
-pub returns-in-Ask : goal.returns-in-Ask
+pub returns-in-Some-Ask : goal.returns-in-Some-Ask
 unfolding told_to told_by
-returns-in-Ask c = λ sound.
+returns-in-Some-Ask c = λ sound.
     rw (
       ← c.is_lending.ensures,
       c.if-is_lending.false,
-      sym c.keeping_of.ensures ∙ c.in-Ask.is,
+      sym c.keeping_of.ensures ∙ c.in-Some-Ask.is,
+      c.in-Some-Ask.field-0-is,
       ← c.front-held.ensures,
     )
     (c.ask.ensures sound)
 
-pub returns-in-Not : goal.returns-in-Not
+pub returns-in-None : goal.returns-in-None
 unfolding told_to told_by
-returns-in-Not c = λ sound.
+returns-in-None c = λ sound.
     rw (
       ← c.is_lending.ensures,
       c.if-is_lending.false,
-      sym c.keeping_of.ensures ∙ c.in-Not.is,
+      sym c.keeping_of.ensures ∙ c.in-None.is,
     )
     (record { words = c.answer.ensures; state = refl; sound = sound })

@@ -1,21 +1,19 @@
-use Rattle.std.proofs.Common.{le-leb}
-use borrow.Author.Tests.{lt-leb}
+use Rattle.paper.proofs.Tests.{in_range_is}
 use Rattle.gregorian.specs.Calendar.{is_date}
 use Rattle.gregorian.proofs.is_date.Goals as goal
 
-pub returns-then-y-lt1900 : goal.returns-then-y-lt1900
+pub returns-then-contains : goal.returns-then-contains
 unfolding is_date
-returns-then-y-lt1900 c = simp (lt-leb _ _ c.if-y-lt1900.true)
+returns-then-contains c =
+    let s = c.new.ensures in
+    let r = c.new-then-contains.ensures in
+    let year = rw (s.start, s.end, s.exhausted, in_range_is) at c.if-contains.ensures.value in
+    let day = rw (r.start, r.end, r.exhausted, in_range_is, c.month_length.ensures, c.is_leap.ensures) at c.contains-then-contains.ensures.value in
+    rw (← year) day
 
-pub returns-then-y-gt2149 : goal.returns-then-y-gt2149
+pub returns-else-contains : goal.returns-else-contains
 unfolding is_date
-returns-then-y-gt2149 c = simp (le-leb _ _ c.if-y-lt1900.false, lt-leb _ _ c.if-y-gt2149.true)
-
-pub returns-then-d-lt1 : goal.returns-then-d-lt1
-unfolding is_date
-returns-then-d-lt1 c = simp (le-leb _ _ c.if-y-lt1900.false, le-leb _ _ c.if-y-gt2149.false, lt-leb _ _ c.if-d-lt1.true)
-
-pub returns : goal.returns
-unfolding is_date
-returns c =
-    simp (c.month_length.ensures, c.is_leap.ensures, le-leb _ _ c.if-y-lt1900.false, le-leb _ _ c.if-y-gt2149.false, le-leb _ _ c.if-d-lt1.false)
+returns-else-contains c =
+    let s = c.new.ensures in
+    let year = rw (s.start, s.end, s.exhausted, in_range_is) at c.if-contains.ensures.value in
+    rw (c.if-contains.false, ← year)

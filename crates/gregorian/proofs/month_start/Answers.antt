@@ -3,6 +3,7 @@ use Rattle.gregorian.specs.Calendar.{month_start}
 use Rattle.paper.proofs.Tests.{at}
 use Rattle.gregorian.proofs.Months.{at_each}
 use Rattle.gregorian.proofs.month_start.Goals as goal
+use Rattle.gregorian.proofs.month_start.Goals.{else-l-via-then-l+else-m-gt2, else-l-via-else-l}
 
 abbrev starts : List ℕ
 starts = 0 ∷ 0 ∷ 31 ∷ 59 ∷ 90 ∷ 120 ∷ 151 ∷ 181 ∷ 212 ∷ 243 ∷ 273 ∷ 304 ∷ 334 ∷ 365 ∷ []
@@ -33,12 +34,10 @@ returns-then-m-gt2 c =
     let a = c.args in
     rw (← table a.l a.m c.requires) (simp (c.if-l.true, lt-ltb _ _ c.if-m-gt2.true))
 
-pub returns-else-m-gt2 : goal.returns-else-m-gt2
-returns-else-m-gt2 c =
-    let a = c.args in
-    rw (← table a.l a.m c.requires) (simp (c.if-l.true, le-ltb _ _ c.if-m-gt2.false))
-
 pub returns-else-l : goal.returns-else-l
 returns-else-l c =
     let a = c.args in
-    rw (← table a.l a.m c.requires) (simp c.if-l.false)
+    elim c.else-l.branch [
+      | else-l-via-then-l+else-m-gt2 w ↦ rw (← table a.l a.m c.requires) (simp (w.if-l.true, le-ltb _ _ w.if-m-gt2.false))
+      | else-l-via-else-l w ↦ rw (← table a.l a.m c.requires) (simp w.if-l.false)
+    ]

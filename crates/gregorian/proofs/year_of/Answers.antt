@@ -1,6 +1,5 @@
 use Rattle.std.proofs.Common.{◌+◌, ◌/◌, ◌<◌, ◌≤◌, ap, inl, inr, eq-or-lt_of_le, arith}
 use Rattle.gregorian.specs.Calendar.{year_start}
-use Rattle.paper.proofs.Tests.{at}
 use Rattle.gregorian.proofs.Laws.{all_number, all_is, years_low, years_high}
 use Rattle.gregorian.proofs.year_of.Goals as goal
 

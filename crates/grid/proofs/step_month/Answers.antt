@@ -10,7 +10,7 @@ use mir.ValLaws.{to_z-of_z}
 use Rattle.conversion.specs.declared.Table.{Table}
 use Rattle.conversion.specs.Flat.{accepted, flat}
 use Rattle.conversion.proofs.Accepted.{facts}
-use Rattle.grid.specs.Step.{absolute, month_at, step_says}
+use Rattle.grid.specs.Step.{absolute, month_at}
 use Rattle.grid.proofs.Stepped.{step_bad, step_good}
 use Rattle.grid.proofs.step_month.Goals as goal
 
@@ -38,7 +38,7 @@ returns c =
     let x = c.args in
     let k = flat x.table x.rows.now in
     let sum : n.result ≡ absolute x.year x.month (to_z w32 (of_z w32 x.step)) = n.ensures in
-    let a : step_says c.month_at.result ≡ month_at k.first c.year_count-years.result (to_z w64 (of_z w64 n.result)) = c.month_at.ensures in
+    let a : c.month_at.result ≡ month_at k.first c.year_count-years.result (to_z w64 (of_z w64 n.result)) = c.month_at.ensures in
     a
     ∙ ap (λ (m : ℕ). month_at k.first m (to_z w64 (of_z w64 n.result))) c.year_count-years.ensures
     ∙ ap (month_at k.first k.years) (to_z-of_z w64 n.result (record { sfits = n.type_inv }) ∙ sum ∙ ap (absolute x.year x.month) (to_z-of_z w32 x.step c.ranges.step))

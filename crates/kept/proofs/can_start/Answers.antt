@@ -1,17 +1,23 @@
 -- `kept::can_start` meets its contract. Assumes nothing.
-use borrow.Author.Tests.{lt-leb}
-use mathlib.Core.Bool.{and-false}
-use Rattle.kept.specs.State.{startable}
-use Rattle.kept.proofs.Outcomes.{start_test}
+use mathlib.Core.Path.{◌∙◌}
+use Rattle.paper.proofs.Answers.{shown}
+use Rattle.paper.proofs.Tests.{in_range_is}
+use Rattle.kept.proofs.Outcomes.{no_year, no_day, start_test}
 use Rattle.kept.proofs.can_start.Goals as goal
 
-pub returns-then-table-lt1 : goal.returns-then-table-lt1
-unfolding startable
-returns-then-table-lt1 c = simp (lt-leb _ _ c.if-table-lt1.true)
+pub returns-then-not-contains : goal.returns-then-not-contains
+returns-then-not-contains c =
+    let s = c.new.ensures in
+    no_year c.args.table (rw (s.start, s.end, s.exhausted, in_range_is) at c.if-not-contains.ensures.value)
 
-pub returns-then-table-gt3000 : goal.returns-then-table-gt3000
-unfolding startable
-returns-then-table-gt3000 c = simp (lt-leb _ _ c.if-table-gt3000.true, and-false)
+pub returns-in_default : goal.returns-in_default
+returns-in_default c =
+    let s = c.new.ensures in
+    no_day c.args.table (rw (s.start, s.end, s.exhausted, in_range_is) at c.if-not-contains.ensures.value) _ (shown c.in_default.is c.first_day.ensures)
 
 pub returns : goal.returns
-returns c = start_test _ _ c.first_day-first.ensures c.if-table-lt1.false c.if-table-gt3000.false
+returns c =
+    let s = c.new.ensures in
+    let t = c.new-2.ensures in
+    (rw (t.start, t.end, t.exhausted, in_range_is) at c.contains-2.ensures.value)
+    ∙ start_test c.args.table (rw (s.start, s.end, s.exhausted, in_range_is) at c.if-not-contains.ensures.value) _ (shown c.in-Ok.is c.first_day.ensures)

@@ -7,18 +7,18 @@ use Rattle.kept.proofs.Goods.{good_blank}
 use Rattle.kept.proofs.Outcomes.{started, not_started, blank_record}
 use Rattle.kept.proofs.start.Goals as goal
 
-pub returns-then-not-can_start : goal.returns-then-not-can_start
-returns-then-not-can_start c =
+pub returns-else-can_start : goal.returns-else-can_start
+returns-else-can_start c =
     let t = c.args.table in
     record {
-      answer = not_started t (sym c.can_start.ensures ∙ c.if-not-can_start.true);
-      is = blank_record t _ c.no_years-store.ensures;
+      answer = not_started t (sym c.can_start.ensures ∙ c.if-can_start.false);
+      is = blank_record t _ c.no_years.ensures;
       ready = λ e. absurd (refused_answered refl e);
     }
 
-pub returns : goal.returns
-returns c =
+pub returns-then-can_start : goal.returns-then-can_start
+returns-then-can_start c =
     let t = c.args.table in
-    let g = sym c.can_start.ensures ∙ c.if-not-can_start.false in
-    let r = blank_record t _ c.no_years-store.ensures in
+    let g = sym c.can_start.ensures ∙ c.if-can_start.true in
+    let r = blank_record t _ c.no_years.ensures in
     record { answer = started t g; is = r; ready = λ e. made _ (blank t) (good_blank t g) r }

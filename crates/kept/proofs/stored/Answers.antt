@@ -2,17 +2,18 @@
 use Prim.Native.Nat.{ℕ}
 use mathlib.Core.Path.{sym, ap, ◌∙◌}
 use mathlib.Core.List.{[], ◌∷◌}
+use native.Mathlib.Omega.{arith}
 use Rattle.kept.specs.State.{year_numbers}
 use Rattle.kept.proofs.Stores.{years_none, years_one, years_two}
 use Rattle.kept.proofs.stored.Goals as goal
 
-pub returns-then-store-eq0 : goal.returns-then-store-eq0
-returns-then-store-eq0 c = sym (ap year_numbers (years_none c.args.state.store c.if-store-eq0.true))
+pub returns-in-0 : goal.returns-in-0
+returns-in-0 c = sym (ap year_numbers (years_none c.args.state.store c.in-0.is))
 
-pub returns-then-store-eq1 : goal.returns-then-store-eq1
-returns-then-store-eq1 c = sym (ap year_numbers (years_one c.args.state.store c.if-store-eq1.true))
+pub returns-in-1 : goal.returns-in-1
+returns-in-1 c = sym (ap year_numbers (years_one c.args.state.store c.in-1.is))
 
-pub returns : goal.returns
-returns c =
+pub returns-in_default : goal.returns-in_default
+returns-in_default c =
     let s = c.args.state.store in
-    ap (λ (n : ℕ). n ∷ s.year ∷ []) c.year_before.ensures ∙ sym (ap year_numbers (years_two s c.if-store-eq0.false c.if-store-eq1.false))
+    ap (λ (n : ℕ). n ∷ s.year ∷ []) c.year_before.ensures ∙ sym (ap year_numbers (years_two s (λ e. omega arith) (λ e. omega arith)))

@@ -1,5 +1,5 @@
 -- The form of ones grows by a digit a turn until it is the form that was asked. Assumes nothing.
-use Prim.Native.Nat.{◌+◌, ◌*◌, ◌-◌}
+use Prim.Native.Nat.{◌+◌, ◌*◌}
 use mathlib.Core.Path.{◌≡◌, sym, ◌∙◌}
 use native.Mathlib.Omega.{arith}
 use borrow.Author.Rules.{rules}
@@ -17,26 +17,20 @@ overflow_mul-ones c = omega (arith, ones_fits c.loop-n.n (omega arith))
 pub overflow_add-ones : goal.overflow_add-ones
 overflow_add-ones c = omega (arith, ones_fits c.loop-n.n (omega arith))
 
-pub overflow_add-n : goal.overflow_add-n
-overflow_add-n c = omega arith
-
 pub returns-then-form-ones : goal.returns-then-form-ones
 returns-then-form-ones c = let a = c.args in
     let l = c.loop-n in
     let e : a.form ≡ ones l.n * 10 + 1 = omega arith in
-    numbers_found a.form l.n e a.most c.loop-n-test.true
-
-pub loop-n-smaller : goal.loop-n-smaller
-loop-n-smaller c = omega arith
+    numbers_found a.form l.n e a.most (omega arith)
 
 pub loop-n-preserved : goal.loop-n-preserved
 loop-n-preserved c = let a = c.args in
     let l = c.loop-n in
     let m = ones_more l.n in
-    (omega arith, omega arith, numbers_none a.form l.n l.invariant.2 (λ e. c.if-form-ones.false (omega arith)))
+    (omega arith, numbers_none a.form l.n l.invariant.1 (λ e. c.if-form-ones.false (omega arith)))
 
 pub returns : goal.returns
 returns c = let l = c.loop-n in
     let a = c.args in
     let e : l.n ≡ a.most = omega arith in
-    sym l.invariant.2 ∙ rw e
+    sym l.invariant.1 ∙ rw e

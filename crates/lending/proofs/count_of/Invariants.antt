@@ -1,10 +1,6 @@
-use Prim.Native.Nat.{◌-◌, ◌≤◌}
 use mathlib.Core.Path.{◌≡◌}
 use Rattle.lending.specs.Lending.{ones, numbers_in}
 use Rattle.lending.proofs.count_of.Given as goal
 
 abbrev pub invariant-loop-n : goal.invariant-loop-n
-invariant-loop-n l = (l.n ≤ l.most) × (l.ones ≡ ones l.n) × (numbers_in l.form l.n ≡ 0)
-
-abbrev pub decreases-loop-n : goal.decreases-loop-n
-decreases-loop-n l = l.most - l.n
+invariant-loop-n l = (l.ones ≡ ones l.n) × (numbers_in l.form l.n ≡ 0)

@@ -7,41 +7,29 @@ pub returns-then-bytes-gt0 : goal.returns-then-bytes-gt0
 unfolding lending_of
 returns-then-bytes-gt0 c = rw (lt-ltb _ _ c.if-bytes-gt0.true)
 
-pub returns-then-form-eq1111 : goal.returns-then-form-eq1111
-unfolding lending_of ones
-returns-then-form-eq1111 c = rw (le-ltb _ _ c.if-bytes-gt0.false, c.if-tag-eq-TABLE.true, c.if-form-eq1111.true)
-
 pub returns-then-tag-eq-TABLE : goal.returns-then-tag-eq-TABLE
 unfolding lending_of ones
-returns-then-tag-eq-TABLE c = rw (le-ltb _ _ c.if-bytes-gt0.false, c.if-tag-eq-TABLE.true, ne_eqb _ _ c.if-form-eq1111.false)
+returns-then-tag-eq-TABLE c = rw (le-ltb _ _ c.if-bytes-gt0.false, c.if-tag-eq-TABLE.true, c.alone.ensures)
 
 pub returns-then-tag-eq-CELLS : goal.returns-then-tag-eq-CELLS
 unfolding lending_of
 returns-then-tag-eq-CELLS c = rw (le-ltb _ _ c.if-bytes-gt0.false, c.if-tag-eq-CELLS.true, c.count_of.ensures)
 
-pub returns-then-form-eq0 : goal.returns-then-form-eq0
-unfolding lending_of
-returns-then-form-eq0 c = rw (le-ltb _ _ c.if-bytes-gt0.false, c.if-tag-eq-RULES.true, c.if-form-eq0.true)
-
 pub returns-then-tag-eq-RULES : goal.returns-then-tag-eq-RULES
 unfolding lending_of
-returns-then-tag-eq-RULES c = rw (le-ltb _ _ c.if-bytes-gt0.false, c.if-tag-eq-RULES.true, ne_eqb _ _ c.if-form-eq0.false)
+returns-then-tag-eq-RULES c = rw (le-ltb _ _ c.if-bytes-gt0.false, c.if-tag-eq-RULES.true, c.alone-then-tag-eq-RULES.ensures)
 
 pub returns-then-tag-eq-RULE : goal.returns-then-tag-eq-RULE
 unfolding lending_of
 returns-then-tag-eq-RULE c = rw (le-ltb _ _ c.if-bytes-gt0.false, c.if-tag-eq-RULE.true, c.count_of-then-tag-eq-RULE.ensures)
 
-pub returns-then-form-eq0-2 : goal.returns-then-form-eq0-2
+pub returns-then-tag-eq-TEXT : goal.returns-then-tag-eq-TEXT
 unfolding lending_of
-returns-then-form-eq0-2 c = rw (le-ltb _ _ c.if-bytes-gt0.false, c.if-tag-eq-TEXT.true, c.if-form-eq0-2.true)
+returns-then-tag-eq-TEXT c = rw (le-ltb _ _ c.if-bytes-gt0.false, c.if-tag-eq-TEXT.true, c.alone-then-tag-eq-TEXT.ensures)
 
-pub returns-else-form-eq0-2 : goal.returns-else-form-eq0-2
+pub returns : goal.returns
 unfolding lending_of
-returns-else-form-eq0-2 c = rw (le-ltb _ _ c.if-bytes-gt0.false, c.if-tag-eq-TEXT.true, ne_eqb _ _ c.if-form-eq0-2.false)
-
-pub returns-else-tag-eq-TEXT : goal.returns-else-tag-eq-TEXT
-unfolding lending_of
-returns-else-tag-eq-TEXT c =
+returns c =
     rw (
       le-ltb _ _ c.if-bytes-gt0.false,
       ne_eqb _ _ c.if-tag-eq-TABLE.false,

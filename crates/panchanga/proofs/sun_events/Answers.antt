@@ -1,13 +1,7 @@
 use lib.Ieee.{of_bits}
-use Rattle.paper.specs.Answers.{then}
 use Rattle.paper.specs.Floats.{near}
 use Rattle.panchanga.proofs.sun_events.Goals as goal
 
-pub returns-in-Number : goal.returns-in-Number
-unfolding then near of_bits
-returns-in-Number c =
-    rw (← c.day_number-a.ensures, c.in-Number.is, c.span_answer.ensures, c.events_on.ensures)
-
-pub returns-in-Refused : goal.returns-in-Refused
-unfolding then
-returns-in-Refused c = rw (← c.day_number-a.ensures, c.in-Refused.is)
+pub returns : goal.returns
+unfolding near of_bits
+returns c = rw (← c.day_number.ensures, c.in_ok-n.was, c.events_on.ensures)

@@ -6,7 +6,7 @@ use Rattle.patro.proofs.Drawing.{laid_fits}
 use Rattle.patro.proofs.show.Goals as goal
 
 pub slice_bounds-page-end : goal.slice_bounds-page-end
-slice_bounds-page-end g c = let h = laid_fits _ _ c.lay.ensures c.in-Bytes.is in omega arith
+slice_bounds-page-end g c = let h = laid_fits _ _ c.lay.ensures c.in-Ok.is in omega arith
 
 pub slice_bounds-write_page-end : goal.slice_bounds-write_page-end
-slice_bounds-write_page-end g c = sym (length-take-le _ _ (let h = laid_fits _ _ c.lay.ensures c.in-Bytes.is in h))
+slice_bounds-write_page-end g c = sym (length-take-le _ _ (let h = laid_fits _ _ c.lay.ensures c.in-Ok.is in h))

@@ -11,19 +11,19 @@ use Rattle.questions.proofs.answer.Goals as goal
 pub slice_bounds-answer_over-end : goal.slice_bounds-answer_over-end
 slice_bounds-answer_over-end c =
     let a = c.args in
-    let h : c.front-cells.result ≤ length a.rows.now = omega (arith, c.front-cells.ensures) in
+    let h : c.min-cells.result ≤ length a.rows.now = omega (arith, c.min-cells.ensures) in
     sym (length-take-le _ _ h)
 
 pub slice_bounds-answer_over-end-2 : goal.slice_bounds-answer_over-end-2
 slice_bounds-answer_over-end-2 c =
     let a = c.args in
-    let h : c.front-numbers.result ≤ length a.rules.now = omega (arith, c.front-numbers.ensures) in
+    let h : c.min-numbers.result ≤ length a.rules.now = omega (arith, c.min-numbers.ensures) in
     sym (length-take-le _ _ h)
 
 pub slice_bounds-answer_over-end-3 : goal.slice_bounds-answer_over-end-3
 slice_bounds-answer_over-end-3 c =
     let a = c.args in
-    let h : c.front-octets.result ≤ length a.text.now = omega (arith, c.front-octets.ensures) in
+    let h : c.min-octets.result ≤ length a.text.now = omega (arith, c.min-octets.ensures) in
     sym (length-take-le _ _ h)
 
 pub returns : goal.returns
@@ -31,8 +31,8 @@ unfolding answer_words
 returns c =
     let a = c.args in
     rw (
-      ← take_front a.lent.cells c.front-cells.result a.rows.now c.front-cells.ensures,
-      ← take_front a.lent.numbers c.front-numbers.result a.rules.now c.front-numbers.ensures,
-      ← take_front a.lent.octets c.front-octets.result a.text.now c.front-octets.ensures,
+      ← take_front a.lent.cells c.min-cells.result a.rows.now c.min-cells.ensures,
+      ← take_front a.lent.numbers c.min-numbers.result a.rules.now c.min-numbers.ensures,
+      ← take_front a.lent.octets c.min-octets.result a.text.now c.min-octets.ensures,
     )
     c.answer_over.ensures

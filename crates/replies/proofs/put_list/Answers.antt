@@ -1,16 +1,13 @@
--- `replies::put_list` meets its contract. Assumes nothing.
-use Prim.Native.Nat.{◌-◌}
-use mathlib.Core.Path.{refl}
-use native.Mathlib.Omega.{arith}
+-- `replies::put_list` meets its contract: the words so far, and those to come. Assumes nothing.
 use Rattle.output.proofs.Gathering.{then, left_all, left_turn, left_none}
-use borrow.Author.Rules.{rules}
+use native.Mathlib.Omega.{arith}
 use Rattle.replies.proofs.put_list.Goals as goal
 
-pub loop-i-init : goal.loop-i-init
-loop-i-init c = (refl, search rules, left_all)
+pub loop-x-init : goal.loop-x-init
+loop-x-init g c = left_all
 
-pub loop-i-preserved : goal.loop-i-preserved
-loop-i-preserved c = (search rules, search rules, left_turn 0 c.loop-i.invariant.2 (omega arith) (rw c.wide.ensures at c.number-p.ensures))
+pub loop-x-preserved : goal.loop-x-preserved
+loop-x-preserved g c = left_turn c.x-item.result c.loop-x.invariant c.loop-x-test.true (rw c.x-item.is at c.put-p.ensures)
 
 pub returns : goal.returns
-returns c = then c.word-p.ensures (left_none c.loop-i.invariant.2 (omega arith))
+returns g c = then c.word-p.ensures (left_none c.loop-x.invariant (omega arith))

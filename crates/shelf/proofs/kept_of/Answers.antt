@@ -1,6 +1,6 @@
 -- `shelf::kept_of` meets its contract. Assumes nothing.
-use borrow.Author.Rules.{rules}
 use Prim.Native.Nat.{ℕ}
+use mathlib.Core.Path.{◌∙◌}
 use native.Mathlib.Omega.{arith}
 use lib.ListN.{drop, length-replicate}
 use Rattle.shelf.specs.Inner.{kept_of}
@@ -23,12 +23,14 @@ returns c =
     let a = c.args.numbers.now in
     let rules = part_read 2560 (drop 1672 a) _ c.part-2.ensures _ c.put_at-2.ensures in
     let rows = part_read 1664 (drop 8 a) _ c.part.ensures _ c.put_at.ensures in
+    let row_len = c.from.ensures ∙ c.number_at.ensures in
+    let rule_len = c.from-2.ensures ∙ c.number_at-2.ensures in
     λ i.
     record {
-      table = c.table_of-table.ensures i;
+      table = c.table_of.ensures i;
       rows = rows i;
-      row_len = c.number_at.ensures i;
+      row_len = row_len i;
       rules = rules i;
-      rule_len = c.number_at-2.ensures i;
-      store = c.store_of-store.ensures i;
+      rule_len = rule_len i;
+      store = c.store_of.ensures i;
     }

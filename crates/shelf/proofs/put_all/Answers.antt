@@ -12,4 +12,4 @@ returns c =
       before = y.0.1.1.0.1.0.1;
       this = y.1.0.1.1.0.1.0.1;
     } in
-    written c.args.state sizes c.args.out.now _ _ _ _ _ _ c.requires.in_bounds c.head_of-head.ensures c.put_at.ensures c.put_at-2.ensures c.put_at-3.ensures c.put_days.ensures c.put_days-2.ensures
+    written c.args.state sizes c.args.out.now _ _ _ _ _ _ c.requires.in_bounds c.head_of.ensures c.put_at.ensures c.put_at-2.ensures c.put_at-3.ensures c.put_days.ensures c.put_days-2.ensures

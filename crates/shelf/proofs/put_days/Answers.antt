@@ -8,7 +8,7 @@ use Rattle.shelf.proofs.Halves.{halves_turn, halves_end}
 use Rattle.shelf.proofs.put_days.Goals as goal
 
 pub loop-i-init : goal.loop-i-init
-loop-i-init c = (omega arith, refl, rw add-zero)
+loop-i-init c = (refl, rw add-zero)
 
 pub bounds-out-k-in-loop-i : goal.bounds-out-k-in-loop-i
 bounds-out-k-in-loop-i c = simp length-set (omega arith)
@@ -17,16 +17,15 @@ pub loop-i-preserved : goal.loop-i-preserved
 loop-i-preserved c =
     let l = c.loop-i in
     let n : length c.args.entries.days ≡ 64 = c.well_formed.1.1.0.1.1.0.1.0.1 in (
-      omega arith,
-      simp length-set l.invariant.1,
-      halves_turn l.out c.args.entries.days c.args.at l.i _ _ (omega arith) c.low_half.ensures c.high_half.ensures ∙ l.invariant.2,
+      simp length-set l.invariant.0,
+      halves_turn l.out c.args.entries.days c.args.at l.i _ _ (omega arith) refl refl ∙ l.invariant.1,
     )
 
 pub shape_of-out : goal.shape_of-out
-shape_of-out c = c.loop-i.invariant.1
+shape_of-out c = c.loop-i.invariant.0
 
 pub returns : goal.returns
 returns c =
     let l = c.loop-i in
     let n : length c.args.entries.days ≡ 64 = c.well_formed.1.1.0.1.1.0.1.0.1 in
-    halves_end l.out _ c.args.entries.days c.args.at l.i (omega arith) l.invariant.2
+    halves_end l.out _ c.args.entries.days c.args.at l.i (omega arith) l.invariant.1

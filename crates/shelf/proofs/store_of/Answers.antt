@@ -6,5 +6,5 @@ returns c = λ i.
     record {
       count = c.number_at.ensures i;
       year = c.number_at-2.ensures i;
-      years = record { before = c.days_at-before.ensures i; this = c.days_at-this.ensures i };
+      years = record { before = c.days_at.ensures i; this = c.days_at-2.ensures i };
     }

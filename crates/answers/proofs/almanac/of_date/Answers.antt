@@ -1,5 +1,8 @@
 -- `answers::almanac::of_date` meets its contract. Assumes nothing.
-use Rattle.replies.specs.Replies.{among}
+use borrow.Author.Rules.{rules}
+use Rattle.std.proofs.Common.{◌≡◌}
+use Rattle.replies.specs.declared.Reply.TheVariants as R
+use Rattle.replies.specs.Replies.{said, among}
 use Rattle.answers.specs.Almanac.{date_rows}
 use Rattle.answers.proofs.Rows.{other}
 use Rattle.answers.proofs.almanac.of_date.Goals as goal
@@ -22,7 +25,9 @@ returns-in-972057253121 c = rw (c.in-972057253121.is, c.span-in-972057253121.ens
 
 pub returns-in-4739140 : goal.returns-in-4739140
 unfolding among
-returns-in-4739140 c = rw (c.in-4739140.is, c.reading-in-4739140.ensures, c.reading.ensures)
+returns-in-4739140 c =
+    let e : c.said.result ≡ said R.Reading c.reading.result = search rules in
+    rw (c.in-4739140.is, e, c.reading.ensures)
 
 pub returns-in_default : goal.returns-in_default
 returns-in_default c = other c.args.tag (date_rows c.args.d) c.in_default.in_default-own.rest

@@ -1,5 +1,9 @@
 -- `answers::days::reply` meets its contract. Assumes nothing.
-use Rattle.replies.specs.Replies.{among}
+use Rattle.std.proofs.Common.{◌≡◌}
+use borrow.Author.Rules.{rules}
+use Rattle.gregorian.specs.Instants.{julian_says}
+use Rattle.replies.specs.declared.Reply.TheVariants as R
+use Rattle.replies.specs.Replies.{said, among}
 use Rattle.answers.specs.Days.{days_rows, days_reply}
 use borrow.Author.Tests.{ne_eqb}
 use Rattle.answers.proofs.Rows.{other}
@@ -15,7 +19,8 @@ returns-then-form c = rw (c.in-1053957.is, c.if-form.true, c.date.ensures, c.fro
 
 pub returns-then-form-eq1114 : goal.returns-then-form-eq1114
 unfolding days_reply among
-returns-then-form-eq1114 c = rw (c.in-644.is, c.if-form-eq1114.true, c.julian.ensures, c.julian_day.ensures, c.float.ensures, c.date_of-then-form-eq1114.ensures)
+returns-then-form-eq1114 c = let e : c.said.result ≡ said R.Float (julian_says c.julian_day-at.result) = search rules in
+    rw (c.in-644.is, c.if-form-eq1114.true, e, c.julian_day-at.ensures, c.float.ensures, c.date_of-then-form-eq1114.ensures)
 
 pub returns-then-form-eq4 : goal.returns-then-form-eq4
 unfolding days_reply among

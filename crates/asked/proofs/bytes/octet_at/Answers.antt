@@ -15,14 +15,14 @@ pub returns-then-s-at-lt2 : goal.returns-then-s-at-lt2
 returns-then-s-at-lt2 c = let a = c.args in
     record { says = record { same = octet_half a.s.now a.c.at (omega arith) (omega arith); inside = omega arith }; result_bound = omega arith }
 
-pub returns-in-Number : goal.returns-in-Number
-returns-in-Number c = let a = c.args in
-    let n = c.in-Number.n in
-    let e = rw c.start.ensures at (number_said c.hex.result c.hex.ensures c.in-Number.is) in
+pub returns : goal.returns
+returns c = let a = c.args in
+    let n = c.in_ok-n.n in
+    let e = rw c.start.ensures at (number_said c.hex.result c.hex.ensures c.in_ok-n.was) in
     let q = octet-said a.s.now a.c.at (omega arith) n e in
     record { says = record { same = q; inside = omega arith }; result_bound = octet_small (drop a.c.at a.s.now) n (drop (a.c.at + 2) a.s.now) (sym q) }
 
-pub returns-in-NotOne : goal.returns-in-NotOne
-returns-in-NotOne c = let a = c.args in
-    let e = rw c.start.ensures at (number_unsaid c.hex.result c.hex.ensures c.in-NotOne.is) in
-    record { says = record { same = octet-unsaid a.s.now a.c.at (omega arith) e; inside = omega arith }; result_bound = omega arith }
+pub returns-in_err-n : goal.returns-in_err-n
+returns-in_err-n c = let a = c.args in
+    let e = rw c.start.ensures at (number_unsaid c.hex.result c.hex.ensures c.in_err-n.was) in
+    rw c.from_residual.ensures (record { says = record { same = octet-unsaid a.s.now a.c.at (omega arith) e; inside = omega arith }; result_bound = omega arith })

@@ -8,4 +8,4 @@ pub returns-in_default : goal.returns-in_default
 returns-in_default c = c.no_octets.ensures ∙ octets_none c.args.s.now (rw c.start.ensures at (passed_unsaid c.pass.result c.pass.ensures c.in_default.is))
 
 pub returns : goal.returns
-returns c = c.read_octets.ensures ∙ octets_some c.args.s.now _ (rw c.start.ensures at (passed_said c.pass.result c.pass.ensures c.in-To.is))
+returns c = c.read_octets.ensures ∙ octets_some c.args.s.now _ (rw c.start.ensures at (passed_said c.pass.result c.pass.ensures c.in-Some.is))

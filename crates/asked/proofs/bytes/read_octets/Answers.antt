@@ -22,12 +22,12 @@ returns-in_default c = let l = c.loop-at in
     (number_unsaid c.octet_at.result c.octet_at.ensures.says c.in_default.is) ∙ l.invariant.2 ∙ left_first a.s.now a.c.at
 
 pub overflow_cast-bytes : goal.overflow_cast-bytes
-overflow_cast-bytes c = omega (arith, value_small c.octet_at.result c.octet_at.ensures.result_bound c.in-Number.is)
+overflow_cast-bytes c = omega (arith, value_small c.octet_at.result c.octet_at.ensures.result_bound c.in-Some.is)
 
 pub loop-at-preserved : goal.loop-at-preserved
 loop-at-preserved c = let l = c.loop-at in
     let a = c.args in
-    let b = c.in-Number in (
+    let b = c.in-Some in (
       omega (arith, l.invariant.0, c.if-count-eq64.false),
       simp length-set l.invariant.1,
       left_turn a.s.now l.at l.count l.bytes c.loop-at-test.true (omega (arith, l.invariant.0, c.if-count-eq64.false)) b.b b.next.at

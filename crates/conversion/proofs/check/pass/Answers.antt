@@ -1,31 +1,39 @@
-use Prim.Native.Nat.{◌-◌}
-use mathlib.Core.Path.{◌≡◌}
+use mathlib.Core.Path.{◌≡◌, refl, ap, ◌∙◌}
 use native.Mathlib.Omega.{arith}
-use Rattle.paper.proofs.Sums.{all_not}
+use Rattle.paper.proofs.Sums.{all_zero, all_not, all_step}
 use Rattle.conversion.specs.Flat.{row_ok}
-use Rattle.conversion.proofs.Passes.{going_none, going_more, going_all, say_no}
+use Rattle.conversion.specs.declared.check.Passed.{Passed}
+use Rattle.conversion.specs.Inner.{passed}
+use Rattle.conversion.proofs.Rows.{row_told, row_broken, rows_most, row_most}
+use Rattle.conversion.proofs.Passes.{pass_days, pass_turn}
 use Rattle.conversion.proofs.check.pass.Goals as goal
 
 pub loop-i-init : goal.loop-i-init
-loop-i-init c = (omega arith, going_none _ _ _)
+unfolding passed
+loop-i-init c = (all_zero _, refl)
 
-pub returns-then-len-eq0 : goal.returns-then-len-eq0
-returns-then-len-eq0 c =
+pub returns-in_err-len : goal.returns-in_err-len
+returns-in_err-len c =
     let a = c.args in
     let l = c.loop-i in
-    say_no a.rows.now a.count _ _ _ _
-    (all_not (row_ok a.rows.now) a.count l.i c.loop-i-test.true (c.row_days-len.ensures.bad c.if-len-eq0.true))
+    rw (c.from_residual.ensures, all_not (row_ok a.rows.now) a.count l.i c.loop-i-test.true (row_broken a.rows.now l.i c.in_err-len.ensures)) refl
 
-pub overflow_add-days : goal.overflow_add-days
-overflow_add-days c = omega (arith, c.loop-i.invariant.1.most, c.row_days-len.ensures.most)
+pub overflow_add-p : goal.overflow_add-p
+overflow_add-p c =
+    let a = c.args in
+    let l = c.loop-i in
+    let r = row_told _ _ _ c.in_ok-len.ensures in
+    omega (arith, ap (λ (p : Passed). p.days) l.invariant.1, pass_days a.rows.now l.i a.until a.day, rows_most _ _ l.invariant.0, r.1, row_most _ _ r.0)
 
 pub loop-i-preserved : goal.loop-i-preserved
 loop-i-preserved c =
     let l = c.loop-i in
-    (omega arith, rw c.further-p.ensures (going_more _ _ _ _ _ l.p l.invariant.1 c.row_days-len.ensures c.if-len-eq0.false))
+    let r = row_told _ _ _ c.in_ok-len.ensures in
+    (all_step _ _ l.invariant.0 r.0, c.further-p.ensures ∙ pass_turn _ _ _ _ _ l.p l.invariant.1 r.1)
 
 pub returns : goal.returns
 returns c =
     let l = c.loop-i in
     let e : l.i ≡ c.args.count = omega arith in
-    going_all _ _ _ _ _ (omega arith) (rw e at l.invariant.1)
+    let i = rw e at l.invariant in
+    rw (i.0, i.1)

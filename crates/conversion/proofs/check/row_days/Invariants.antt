@@ -1,4 +1,4 @@
-use Prim.Native.Nat.{◌-◌, ◌*◌, ◌≤◌}
+use Prim.Native.Nat.{◌*◌, ◌≤◌}
 use mathlib.Core.Path.{◌≡◌}
 use Rattle.paper.specs.Sums.{sum, all}
 use Rattle.conversion.specs.Flat.{len_ok}
@@ -6,7 +6,4 @@ use Rattle.conversion.proofs.Rows.{low}
 use Rattle.conversion.proofs.check.row_days.Given as goal
 
 abbrev pub invariant-loop-m : goal.invariant-loop-m
-invariant-loop-m l = (l.m ≤ 12) × (l.good ≡ all (len_ok l.rows l.i) l.m) × (l.days ≡ sum (low l.rows l.i) l.m) × (l.days ≤ 63 * l.m)
-
-abbrev pub decreases-loop-m : goal.decreases-loop-m
-decreases-loop-m l = 12 - l.m
+invariant-loop-m l = (l.good ≡ all (len_ok l.rows l.i) l.m) × (l.days ≡ sum (low l.rows l.i) l.m) × (l.days ≤ 63 * l.m)

@@ -1,11 +1,8 @@
-use Prim.Native.Nat.{◌+◌, ◌-◌, ◌*◌, ◌≤◌}
+use Prim.Native.Nat.{◌+◌}
 use mathlib.Core.Path.{◌≡◌}
 use Rattle.paper.specs.Sums.{sum}
 use Rattle.conversion.specs.Inner.{column}
 use Rattle.conversion.proofs.columns.find.Given as goal
 
 abbrev pub invariant-loop-i : goal.invariant-loop-i
-invariant-loop-i l = (l.i ≤ l.count) × (l.k ≡ l.at + l.step * l.i) × (sum (column l.rows l.at l.step) l.i + l.rest ≡ l.day)
-
-abbrev pub decreases-loop-i : goal.decreases-loop-i
-decreases-loop-i l = l.count - l.i
+invariant-loop-i l = sum (column l.rows l.at l.step) l.i + l.rest ≡ l.day

@@ -1,4 +1,4 @@
-use Prim.Native.Nat.{ℕ, zero, suc, ◌+◌, ◌-◌, ◌*◌, ◌≤◌}
+use Prim.Native.Nat.{ℕ, zero, suc, ◌+◌, ◌*◌, ◌≤◌}
 use mathlib.Core.Path.{◌≡◌, sym, ap, ◌∙◌}
 use mathlib.Core.Bool.{Bool, true, false, cond}
 use mathlib.Core.Logic.{⊎_elim}
@@ -34,18 +34,6 @@ cond-most false x h = omega arith
 pub loop-m-init : goal.loop-m-init
 loop-m-init c = let a = c.args in omega (arith, sum_zero (first (column a.rows.now a.at 1) a.count))
 
-pub overflow_add-len : goal.overflow_add-len
-overflow_add-len c = omega (arith, c.requires.0)
-
-pub offset_bounds-rows-at : goal.offset_bounds-rows-at
-offset_bounds-rows-at c = omega (arith, c.requires.0)
-
-pub bounds-rows-at : goal.bounds-rows-at
-bounds-rows-at c = omega (arith, c.loop-m-test.true, c.requires.0)
-
-pub overflow_cast-len : goal.overflow_cast-len
-overflow_cast-len c = let l = c.loop-m in omega (arith, c.shared_slice_known-in-loop-m-1.given (c.args.at + l.m))
-
 -- what a turn adds
 added : (c : After-counted-total) → let a = c.args in c.counted-total.result ≡ first (column a.rows.now a.at 1) a.count c.loop-m.m
 added c =
@@ -57,14 +45,11 @@ added-most : (c : After-counted-total) → c.counted-total.result ≤ 65535
 added-most c =
     let a = c.args in
     let m = c.loop-m.m in
-    let h : get_or a.rows.now (a.at + m) 0 ≤ 65535 = omega (arith, c.shared_slice_known-in-loop-m-1.given (a.at + m)) in
+    let h : get_or a.rows.now (a.at + m) 0 ≤ 65535 = omega (arith, c.type_inv.rows (a.at + m)) in
     rw c.counted-total.ensures (cond-most (ltb m a.count) _ h)
 
 pub overflow_add-total : goal.overflow_add-total
 overflow_add-total c = omega (arith, added-most c)
-
-pub loop-m-smaller : goal.loop-m-smaller
-loop-m-smaller c = omega (arith, c.loop-m-test.true)
 
 pub loop-m-preserved : goal.loop-m-preserved
 loop-m-preserved c =
@@ -78,5 +63,5 @@ returns c =
     let l = c.loop-m in
     let f = column a.rows.now a.at 1 in
     let e : l.m ≡ 12 = omega arith in
-    let w : l.total ≡ sum f a.count = rw e at l.invariant.1 ∙ first-sum f a.count 12 c.requires.1 in
-    record { whole = w; most = rw w (sum-most f a.count (λ k. omega (arith, c.shared_slice_known-1.given (a.at + 1 * k)))) }
+    let w : l.total ≡ sum f a.count = rw e at l.invariant.0 ∙ first-sum f a.count 12 c.requires.1 in
+    record { whole = w; most = rw w (sum-most f a.count (λ k. omega (arith, c.type_inv.rows (a.at + 1 * k)))) }

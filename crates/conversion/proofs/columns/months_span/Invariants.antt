@@ -1,4 +1,4 @@
-use Prim.Native.Nat.{ℕ, ◌-◌, ◌*◌, ◌≤◌}
+use Prim.Native.Nat.{ℕ, ◌*◌, ◌≤◌}
 use mathlib.Core.Path.{◌≡◌}
 use mathlib.Core.Bool.{cond}
 use lib.Dec.{ltb}
@@ -11,7 +11,4 @@ abbrev pub first : (ℕ → ℕ) → ℕ → ℕ → ℕ
 first f count k = cond (ltb k count) (f k) 0
 
 abbrev pub invariant-loop-m : goal.invariant-loop-m
-invariant-loop-m l = (l.m ≤ 12) × (l.total ≡ sum (first (column l.rows l.at 1) l.count) l.m) × (l.total ≤ 65535 * l.m)
-
-abbrev pub decreases-loop-m : goal.decreases-loop-m
-decreases-loop-m l = 12 - l.m
+invariant-loop-m l = (l.total ≡ sum (first (column l.rows l.at 1) l.count) l.m) × (l.total ≤ 65535 * l.m)

@@ -2,8 +2,5 @@
 use Rattle.text.proofs.Writes.{then}
 use Rattle.convert.proofs.reply.put_shown.Goals as goal
 
-pub returns-in-Date : goal.returns-in-Date
-returns-in-Date c = rw c.in-Date.is (then c.put_number-a.ensures (then c.put_next-b.ensures c.put_next.ensures))
-
-pub returns-in-Nothing : goal.returns-in-Nothing
-returns-in-Nothing c = rw c.in-Nothing.is c.put.ensures
+pub returns-in-Some : goal.returns-in-Some
+returns-in-Some c = rw c.in-Some.is (then c.put_number-a.ensures (then c.put_next-b.ensures c.put_next.ensures))

@@ -16,4 +16,4 @@ returns c = λ ready.
     let a = c.args in
     let row = (wrote_front c.put_numbers-n.ensures (omega (arith, line_few a.w))).1 in
     let put = c.put_done.ensures in
-    says_done (rw row at (c.append_row.ensures ready)) put.keeper_value put.gathers
+    says_done (rw row at (c.append_row.ensures ready)) put.kept_value put.gathers

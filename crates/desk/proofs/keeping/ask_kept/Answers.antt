@@ -8,7 +8,7 @@ pub returns-in-Take : goal.returns-in-Take
 unfolding asked_of
 returns-in-Take c = λ ready.
     let put = c.put_done.ensures in
-    rw c.in-Take.is (says_done (c.take_rules.ensures ready) put.keeper_value put.gathers)
+    rw c.in-Take.is (says_done (c.take_rules.ensures ready) put.kept_value put.gathers)
 
 pub returns-in-Append : goal.returns-in-Append
 unfolding asked_of
@@ -28,7 +28,7 @@ returns-in-Month c = rw c.in-Month.is c.month.ensures
 
 pub returns-in-Forget : goal.returns-in-Forget
 unfolding asked_of
-returns-in-Forget c = λ ready. rw c.in-Forget.is (says_kept refl (c.forget-after.ensures ready) c.put.ensures)
+returns-in-Forget c = λ ready. rw c.in-Forget.is (says_kept refl (c.forget.ensures ready) c.put.ensures)
 
 pub returns-in-Stored : goal.returns-in-Stored
 unfolding asked_of

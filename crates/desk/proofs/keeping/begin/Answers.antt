@@ -3,8 +3,8 @@ use mathlib.Core.Path.{refl}
 use Rattle.desk.proofs.Answered.{begun, not_begun}
 use Rattle.desk.proofs.keeping.begin.Goals as goal
 
-pub returns-in-Valid : goal.returns-in-Valid
-returns-in-Valid c = begun _ c.start-started.ensures c.in-Valid.is refl c.put.ensures
+pub returns-in-Ok : goal.returns-in-Ok
+returns-in-Ok c = begun _ c.start-started.ensures c.in-Ok.is refl c.put.ensures
 
-pub returns-in-Refused : goal.returns-in-Refused
-returns-in-Refused c = not_begun _ c.start-started.ensures c.in-Refused.is refl c.put-in-Refused.ensures
+pub returns-in-Err : goal.returns-in-Err
+returns-in-Err c = not_begun _ c.start-started.ensures c.in-Err.is refl c.put-in-Err.ensures

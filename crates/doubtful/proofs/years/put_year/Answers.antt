@@ -15,12 +15,12 @@ months_of-m-requires c =
 pub put_moons-q-requires : goal.put_moons-q-requires
 put_moons-q-requires c =
     let f = moons_front _ _ _ _ _ c.new_moons-n.ensures.count c.new_moons-n.ensures.written (search rules) in
-    record { rows_value = (c.requires, places_opened _ _ c.year_days.ensures c.in-Days.is f.1 c.months_of-m.result c.months_of-m.ensures); n_bound = f.0 }
+    record { rows_value = (c.requires, places_opened _ _ c.year_days.ensures c.in-Some.is f.1 c.months_of-m.result c.months_of-m.ensures); n_bound = f.0 }
 
 pub returns : goal.returns
 returns c =
     let e = c.year_days.ensures in
-    let g = c.in-Days.is in
+    let g = c.in-Some.is in
     let f = (moons_front _ _ _ _ _ c.new_moons-n.ensures.count c.new_moons-n.ensures.written (search rules)).1 in
     let h = places_opened _ _ e g f c.months_of-m.result c.months_of-m.ensures in
     year_whole _ _ _ _ _ c.args.p c.year_days.result e g f c.months_of-m.result h c.unheaded.ensures _ _ c.put_moons-q.ensures c.put_unopened_months.ensures

@@ -1,18 +1,23 @@
--- `faults::lines::key_reason` meets its contract. Assumes nothing.
-use Rattle.std.proofs.Common.{sym, refl, length-take-le, rules}
+-- `faults::lines::key_reason` meets its contract: the key, and then the sign behind it. Assumes nothing.
+use Rattle.std.proofs.Common.{◌≡◌, None, rules}
 use Rattle.text.proofs.Said.{passed_said, passed_unsaid}
-use Rattle.faults.proofs.Reasons.{key_front, key_other, key_number}
+use Rattle.faults.proofs.Reasons.{key_none, sign_none, key_number}
 use Rattle.faults.proofs.lines.key_reason.Goals as goal
 
-pub slice_bounds-pass-end : goal.slice_bounds-pass-end
-slice_bounds-pass-end c = sym (length-take-le c.put_key-n.result _ (search rules))
+pub returns-in_err-sign : goal.returns-in_err-sign
+returns-in_err-sign c =
+    let e : c.from_residual.result ≡ None = search rules in
+    let p = rw (c.key.ensures, c.start.ensures) at c.pass.ensures in
+    rw e (key_none c.args.i c.args.s.now (passed_unsaid c.pass.result p c.in_err-sign.was))
 
-pub returns-in_default : goal.returns-in_default
-returns-in_default c = let a = c.args in
-    let p = c.pass in
-    key_other a.i a.s.now (key_front a.i refl c.put_key-n.ensures) (passed_unsaid p.result p.ensures c.in_default.is)
+pub returns-in_err-digits : goal.returns-in_err-digits
+returns-in_err-digits c =
+    let e : c.from_residual-in_err-digits.result ≡ None = search rules in
+    let p = rw (c.key.ensures, c.start.ensures) at c.pass.ensures in
+    rw e (sign_none c.args.i c.args.s.now (passed_said c.pass.result p c.in_ok-sign.was) (passed_unsaid c.pass-2.result c.pass-2.ensures c.in_err-digits.was))
 
 pub returns : goal.returns
-returns c = let a = c.args in
-    let p = c.pass in
-    key_number a.i a.s.now (key_front a.i refl c.put_key-n.ensures) (passed_said p.result p.ensures c.in-To.is) c.number_reason.ensures
+returns c =
+    let p = rw (c.key.ensures, c.start.ensures) at c.pass.ensures in
+    key_number c.args.i c.args.s.now (passed_said c.pass.result p c.in_ok-sign.was)
+    (passed_said c.pass-2.result c.pass-2.ensures c.in_ok-digits.was) c.number_reason.ensures

@@ -1,28 +1,25 @@
--- `festivals::days::first_by_night` meets its contract. The invariant: what is left of the four days gives the same, and `today` has the events of day n.
+-- `festivals::days::first_by_night` meets its contract. The invariant: the days that are left give the same, and `today` has the events of the next.
 -- Assumes nothing.
-use mathlib.Core.Path.{◌≡◌, ◌∙◌}
+use mathlib.Core.Path.{refl, ◌∙◌}
 use native.Mathlib.Omega.{arith}
-use Rattle.festivals.proofs.Claims.{night_claims, from_hit, from_miss, from_none, claimed_is}
+use Rattle.festivals.proofs.Claims.{night_claims, left_first, left_hit, left_miss, left_none}
 use Rattle.festivals.proofs.Kalas.{night_on}
 use Rattle.festivals.proofs.days.first_by_night.Goals as goal
 
-pub loop-left-init : goal.loop-left-init
-loop-left-init c = (c.sun_on-today.ensures, (omega arith, claimed_is _ _ _ _ _))
+pub loop-n-init : goal.loop-n-init
+loop-n-init c = (refl, c.sun_on-today.ensures, left_first _ _ _ _ _ c.requires.0)
 
 pub returns-then-covers_night : goal.returns-then-covers_night
 returns-then-covers_night c =
-    from_hit _ c.loop-left.n c.loop-left.left _ c.loop-left.invariant.1.1 c.loop-left-test.true _
-    (c.covers_night.ensures ∙ night_claims _ _ _ _ _ (night_on _ _ _ _ c.loop-left.invariant.0 c.sun_on-tomorrow.ensures c.nishita_between.ensures)) c.if-covers_night.true
+    let i = c.loop-n.invariant in
+    let claims = c.covers_night.ensures ∙ night_claims _ _ _ _ _ (night_on _ _ _ _ i.1 c.sun_on-tomorrow.ensures c.nishita_between.ensures) in
+    left_hit _ _ _ _ _ _ (omega arith) i.2 _ claims c.if-covers_night.true
 
-pub loop-left-preserved : goal.loop-left-preserved
-loop-left-preserved c =
-    let missed =
-    from_miss _ c.loop-left.n c.loop-left.left _ c.loop-left.invariant.1.1 c.loop-left-test.true _
-    (c.covers_night.ensures ∙ night_claims _ _ _ _ _ (night_on _ _ _ _ c.loop-left.invariant.0 c.sun_on-tomorrow.ensures c.nishita_between.ensures)) c.if-covers_night.false in
-    (c.sun_on-tomorrow.ensures, (omega arith, missed))
+pub loop-n-preserved : goal.loop-n-preserved
+loop-n-preserved c =
+    let i = c.loop-n.invariant in
+    let claims = c.covers_night.ensures ∙ night_claims _ _ _ _ _ (night_on _ _ _ _ i.1 c.sun_on-tomorrow.ensures c.nishita_between.ensures) in
+    (i.0, c.sun_on-tomorrow.ensures, left_miss _ _ _ _ _ _ (omega arith) i.2 _ claims c.if-covers_night.false)
 
 pub returns : goal.returns
-returns c =
-    let l = c.loop-left in
-    let z : l.left ≡ 0 = omega arith in
-    from_none _ l.n l.left _ z l.invariant.1.1
+returns c = left_none _ _ _ _ _ _ (omega arith) c.loop-n.invariant.2

@@ -1,17 +1,9 @@
 -- `festivals::years::resolve_year` meets its contract. The invariant: what is left to enter comes to the same, and so do the places. Assumes nothing.
-use Prim.Native.Nat.{ℕ, ◌+◌, ◌-◌, ◌/◌, ◌<◌}
-use mathlib.Core.Path.{◌≡◌, ap, ◌∙◌}
-use mathlib.Core.List.{List}
+use Prim.Native.Nat.{◌<◌}
 use native.Mathlib.Omega.{arith}
-use lib.ListN.{length}
 use Rattle.conversion.specs.Flat.{flat}
-use Rattle.rules.specs.Festivals.{rule_day, entry}
-use Rattle.rules.specs.Resolved.{put_entry}
 use Rattle.rules.proofs.Accepted.{good_rules, good_rule}
-use Rattle.festivals.specs.Kathmandu.{kathmandu}
-use Rattle.festivals.specs.Answers.{day_is}
-use Rattle.festivals.proofs.Placed.{inside, outside_law}
-use Rattle.festivals.proofs.Entries.{Entered, rule_day_at, entry_nothing, entry_outside, entry_here, entered_first, entered-skip, entered-next, entered_all, place-left}
+use Rattle.festivals.proofs.Entries.{entry_by, entry_dayless, entry_outside, entry_inside, put_none, put_some, entered_first, entered-skip, entered-next, entered_all, place-left}
 use Rattle.festivals.proofs.years.resolve_year.Goals as goal
 
 pub loop-i-init : goal.loop-i-init
@@ -34,18 +26,15 @@ pub loop-i-preserved-in_default : goal.loop-i-preserved-in_default
 loop-i-preserved-in_default c =
     let a = c.args in
     let good = good_rule a.rules.now c.loop-i.i c.rule_at-r.result c.requires.1 c.loop-i-test.true c.rule_at-r.ensures in
-    let met : rule_day kathmandu (flat a.table a.rows.now) a.year c.rule_at-r.result ≡ day_is c.rule_day.result =
-    rule_day_at _ (flat a.table a.rows.now) a.year c.rule_at-r.result _ _ good c.if-r-ne3.false c.lunar_months-months.ensures c.rule_day.ensures in
-    entered-next _ _ _ _ _ _ c.loop-i-test.true _ c.rule_at-r.ensures _ _ c.loop-i.invariant c.if-r-ne3.false _ (entry_nothing _ _ _ _ _ _ (met ∙ ap day_is c.in_default.is))
+    let met = entry_by _ (flat a.table a.rows.now) a.year c.rule_at-r.result _ _ good c.if-r-ne3.false c.lunar_months-months.ensures (entry_dayless _ _ c.in_default.ensures) in
+    entered-next _ _ _ _ _ _ c.loop-i-test.true _ c.rule_at-r.ensures _ _ c.loop-i.invariant c.if-r-ne3.false _ (put_none _ _ _ met)
 
 pub loop-i-preserved-in_default-place : goal.loop-i-preserved-in_default-place
 loop-i-preserved-in_default-place c =
     let a = c.args in
     let good = good_rule a.rules.now c.loop-i.i c.rule_at-r.result c.requires.1 c.loop-i-test.true c.rule_at-r.ensures in
-    let met : rule_day kathmandu (flat a.table a.rows.now) a.year c.rule_at-r.result ≡ day_is c.rule_day.result =
-    rule_day_at _ (flat a.table a.rows.now) a.year c.rule_at-r.result _ _ good c.if-r-ne3.false c.lunar_months-months.ensures c.rule_day.ensures in
-    let r = outside_law _ c.requires.0 _ c.place.result c.place.ensures c.in_default-place.not-Inside in
-    entered-next _ _ _ _ _ _ c.loop-i-test.true _ c.rule_at-r.ensures _ _ c.loop-i.invariant c.if-r-ne3.false _ (entry_outside _ _ _ _ _ _ _ r.0 (met ∙ ap day_is c.in-Day.is) r.1)
+    let met = entry_by _ (flat a.table a.rows.now) a.year c.rule_at-r.result _ _ good c.if-r-ne3.false c.lunar_months-months.ensures (entry_outside _ _ _ c.in-Some.ensures c.in_default-place.ensures) in
+    entered-next _ _ _ _ _ _ c.loop-i-test.true _ c.rule_at-r.ensures _ _ c.loop-i.invariant c.if-r-ne3.false _ (put_none _ _ _ met)
 
 pub offset_bounds-out-at : goal.offset_bounds-out-at
 offset_bounds-out-at c =
@@ -61,9 +50,8 @@ pub loop-i-preserved : goal.loop-i-preserved
 loop-i-preserved c =
     let a = c.args in
     let good = good_rule a.rules.now c.loop-i.i c.rule_at-r.result c.requires.1 c.loop-i-test.true c.rule_at-r.ensures in
-    let met : rule_day kathmandu (flat a.table a.rows.now) a.year c.rule_at-r.result ≡ day_is c.rule_day.result =
-    rule_day_at _ (flat a.table a.rows.now) a.year c.rule_at-r.result _ _ good c.if-r-ne3.false c.lunar_months-months.ensures c.rule_day.ensures in
-    entered-next _ _ _ _ _ _ c.loop-i-test.true _ c.rule_at-r.ensures _ _ c.loop-i.invariant c.if-r-ne3.false _ (entry_here _ _ _ _ _ _ _ _ (met ∙ ap day_is c.in-Day.is) (inside _ c.requires.0 _ c.place.result c.place.ensures _ c.in-Inside.is))
+    let met = entry_by _ (flat a.table a.rows.now) a.year c.rule_at-r.result _ _ good c.if-r-ne3.false c.lunar_months-months.ensures (entry_inside _ _ _ c.in-Some.ensures c.in-Ok.ensures) in
+    entered-next _ _ _ _ _ _ c.loop-i-test.true _ c.rule_at-r.ensures _ _ c.loop-i.invariant c.if-r-ne3.false _ (put_some _ _ _ _ met)
 
 pub returns : goal.returns
 returns c = let l = c.loop-i in entered_all _ _ _ _ _ l.i l.out.days l.j c.loop-i-test.false l.invariant

@@ -3,22 +3,24 @@ use native.Mathlib.Omega.{arith}
 use mathlib.Core.Path.{sym, ap, ◌∙◌}
 use lib.ListN.{drop}
 use Rattle.text.specs.Digits.{got}
-use Rattle.text.proofs.Said.{number_said, number_inside, number_unsaid}
 use Rattle.fields.proofs.Rows.{number_none, number-glued, number-whole}
 use Rattle.fields.proofs.row.read_number.Goals as goal
 
-pub returns-in_default : goal.returns-in_default
-returns-in_default c = let a = c.args in
-    record { same = number_none (drop a.at a.s.now) (number_unsaid c.decimal.result c.decimal.ensures c.in_default.is); inside = omega arith }
+pub returns-in_err-n : goal.returns-in_err-n
+returns-in_err-n c = let a = c.args in
+    rw c.from_residual.ensures (record { same = number_none (drop a.at a.s.now) (sym c.in_err-n.ensures.same); inside = omega arith })
 
 pub returns-then-not-word_ends : goal.returns-then-not-word_ends
 returns-then-not-word_ends c = let a = c.args in
-    record { same = number-glued (drop a.at a.s.now) (number_said c.decimal.result c.decimal.ensures c.in-Number.is) (sym c.word_ends.ensures ∙ c.if-not-word_ends.true); inside = omega arith }
-
-pub past_spaces-requires : goal.past_spaces-requires
-past_spaces-requires c = number_inside c.decimal.result c.decimal.ensures c.in-Number.is
+    record {
+      same = number-glued (drop a.at a.s.now) (sym c.in_ok-n.ensures.same) (sym c.word_ends.ensures ∙ c.if-not-word_ends.true);
+      inside = omega arith;
+    }
 
 pub returns : goal.returns
 returns c = let a = c.args in
-    let s = a.s.now in
-    record { same = ap (got c.in-Number.n) c.past_spaces.ensures.1 ∙ number-whole (drop a.at s) (number_said c.decimal.result c.decimal.ensures c.in-Number.is) (sym c.word_ends.ensures ∙ c.if-not-word_ends.false); inside = c.past_spaces.ensures.0 }
+    let p = c.past_spaces-at.ensures in
+    record {
+      same = ap (got c.in_ok-n.n) p.1 ∙ number-whole (drop a.at a.s.now) (sym c.in_ok-n.ensures.same) (sym c.word_ends.ensures ∙ c.if-not-word_ends.false);
+      inside = p.0;
+    }

@@ -2,12 +2,9 @@
 use native.Mathlib.Omega.{arith}
 use mathlib.Core.Path.{refl, sym, ◌∙◌}
 use lib.ListN.{length-set, drop}
-use Rattle.text.proofs.Said.{number_said, number_unsaid}
+use Rattle.text.proofs.Said.{number_unsaid}
 use Rattle.fields.proofs.Rows.{left_first, left_over, left-full, left-bad, left_turn, number_small, below_thirteen}
 use Rattle.fields.proofs.row.read_row.Goals as goal
-
-pub past_spaces-at-requires : goal.past_spaces-at-requires
-past_spaces-at-requires c = omega arith
 
 pub loop-values-init : goal.loop-values-init
 loop-values-init c = (omega arith, refl, left_first c.args.s.now c.past_spaces-at.result c.past_spaces-at.ensures.1)
@@ -22,24 +19,12 @@ returns-in_default c = let l = c.loop-values in
 
 pub overflow_cast-values : goal.overflow_cast-values
 overflow_cast-values c = let l = c.loop-values in
-    omega (arith, number_small (drop l.at c.args.s.now) c.in-Number.n (drop c.in-Number.next.at c.args.s.now) (number_said c.read_number.result c.read_number.ensures c.in-Number.is))
-
-pub offset_bounds-values-k : goal.offset_bounds-values-k
-offset_bounds-values-k c = let l = c.loop-values in omega (arith, below_thirteen l.k l.invariant.0 c.if-k-eq13.false)
-
-pub bounds-values-k : goal.bounds-values-k
-bounds-values-k c = let l = c.loop-values in omega (arith, below_thirteen l.k l.invariant.0 c.if-k-eq13.false)
-
-pub overflow_add-k : goal.overflow_add-k
-overflow_add-k c = omega arith
-
-pub loop-values-smaller : goal.loop-values-smaller
-loop-values-smaller c = let l = c.loop-values in omega (arith, below_thirteen l.k l.invariant.0 c.if-k-eq13.false)
+    omega (arith, number_small (drop l.at c.args.s.now) c.in-Some.n (drop c.in-Some.next.at c.args.s.now) (sym c.in-Some.ensures.same))
 
 pub loop-values-preserved : goal.loop-values-preserved
 loop-values-preserved c = let l = c.loop-values in
     let h = below_thirteen l.k l.invariant.0 c.if-k-eq13.false in
-    (omega arith, simp length-set l.invariant.1, left_turn c.args.s.now l.values l.k l.at (sym c.ends.ensures ∙ c.loop-values-test.true) h c.in-Number.n c.in-Number.next.at (number_said c.read_number.result c.read_number.ensures c.in-Number.is) ∙ l.invariant.2)
+    (omega arith, simp length-set l.invariant.1, left_turn c.args.s.now l.values l.k l.at (sym c.ends.ensures ∙ c.loop-values-test.true) h c.in-Some.n c.in-Some.next.at (sym c.in-Some.ensures.same) ∙ l.invariant.2)
 
 pub returns : goal.returns
 returns c = let l = c.loop-values in left_over c.args.s.now l.values l.k l.at (sym c.ends.ensures ∙ c.loop-values-test.false) ∙ l.invariant.2

@@ -5,11 +5,11 @@ use Rattle.files.proofs.listing.rules_in.Goals as goal
 
 pub overflow_mul-result : goal.overflow_mul-result
 overflow_mul-result c = let a = c.args in
-    let h = read_fits a.text.now a.rules.now c.read_rules.ensures c.in-Rules.is in
+    let h = read_fits a.text.now a.rules.now c.read_rules.ensures c.in-Ok.is in
     omega arith
 
-pub returns-in-Rules : goal.returns-in-Rules
-returns-in-Rules c = let a = c.args in rules_are a.text.now a.rules.now c.read_rules.ensures c.in-Rules.is
+pub returns-in-Ok : goal.returns-in-Ok
+returns-in-Ok c = let a = c.args in rules_are a.text.now a.rules.now c.read_rules.ensures c.in-Ok.is
 
-pub returns-in-Refused : goal.returns-in-Refused
-returns-in-Refused c = let a = c.args in rules_refused a.text.now a.rules.now c.read_rules.ensures c.in-Refused.is c.refused.ensures
+pub returns-in-Err : goal.returns-in-Err
+returns-in-Err c = let a = c.args in rules_refused a.text.now a.rules.now c.read_rules.ensures c.in-Err.is c.refused.ensures

@@ -2,5 +2,5 @@
 use Rattle.files.proofs.Whole.{reads_text}
 use Rattle.files.proofs.listing.rules_named.Goals as goal
 
-pub returns-in-Is : goal.returns-in-Is
-returns-in-Is g c = reads_text c.rules_in.ensures
+pub returns-in-Ok : goal.returns-in-Ok
+returns-in-Ok g c = reads_text c.rules_in.ensures

@@ -5,4 +5,4 @@ use Rattle.files.proofs.problems.put_at.Goals as goal
 
 pub returns : goal.returns
 unfolding at_line
-returns c = then c.put-a.ensures (then c.put_decimal-b.ensures (then c.put-c.ensures c.put_expected.ensures))
+returns c = then c.put-a.ensures (then c.put_decimal-b.ensures (then c.put-c.ensures (rw c.words.ensures at c.put.ensures)))

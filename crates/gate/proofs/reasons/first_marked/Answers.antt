@@ -7,16 +7,16 @@ use Rattle.gate.proofs.Why.{marked_none, marked_here, marked_on}
 use Rattle.gate.proofs.reasons.first_marked.Goals as goal
 
 pub loop-i-init : goal.loop-i-init
-loop-i-init c = (omega arith, refl)
+loop-i-init c = refl
 
 pub returns-then-list-i-eq1 : goal.returns-then-list-i-eq1
 returns-then-list-i-eq1 c =
-    rw sub-zero at (marked_here c.args.list.now c.loop-i.i c.args.count c.loop-i-test.true _ c.loop-i.invariant.1 c.if-list-i-eq1.true)
+    rw sub-zero at (marked_here c.args.list.now c.loop-i.i c.args.count c.loop-i-test.true _ c.loop-i.invariant c.if-list-i-eq1.true)
 
 pub loop-i-preserved : goal.loop-i-preserved
 loop-i-preserved c =
-    (omega arith, marked_on c.args.list.now c.loop-i.i c.args.count c.loop-i-test.true _ c.loop-i.invariant.1 c.if-list-i-eq1.false)
+    marked_on c.args.list.now c.loop-i.i c.args.count c.loop-i-test.true _ c.loop-i.invariant c.if-list-i-eq1.false
 
 pub returns : goal.returns
 returns c =
-    rw sub-zero at (marked_none c.args.list.now c.loop-i.i _ _ (omega arith) c.loop-i.invariant.1)
+    rw sub-zero at (marked_none c.args.list.now c.loop-i.i _ _ (omega arith) c.loop-i.invariant)

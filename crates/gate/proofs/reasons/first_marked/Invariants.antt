@@ -1,10 +1,7 @@
-use Prim.Native.Nat.{◌-◌, ◌≤◌}
+use Prim.Native.Nat.{◌-◌}
 use mathlib.Core.Path.{◌≡◌}
 use Rattle.gate.specs.Inner.{marked_from}
 use Rattle.gate.proofs.reasons.first_marked.Given as goal
 
 abbrev pub invariant-loop-i : goal.invariant-loop-i
-invariant-loop-i l = (l.i ≤ l.count) × (marked_from l.list l.i (l.count - l.i) ≡ marked_from l.list 0 (l.count - 0))
-
-abbrev pub decreases-loop-i : goal.decreases-loop-i
-decreases-loop-i l = l.count - l.i
+invariant-loop-i l = marked_from l.list l.i (l.count - l.i) ≡ marked_from l.list 0 (l.count - 0)

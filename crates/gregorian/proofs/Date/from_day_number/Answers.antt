@@ -1,30 +1,32 @@
-use Rattle.std.proofs.Common.{◌≡◌, ◌+◌, ◌<◌, ◌≤◌, false, arith, le-ltb, le-leb}
-use borrow.Author.Tests.{lt-leb}
-use Rattle.paper.specs.Answers.{given}
+use Rattle.std.proofs.Common.{◌≡◌, ℕ, ◌+◌, ◌&&◌, leb, arith, le-leb, le-ltb, lt-ltb, ⊎_elim, sym}
+use borrow.Author.Tests.{lt-leb, leb-true}
+use Rattle.paper.proofs.Tests.{in_range_is, split, and_right}
 use Rattle.gregorian.specs.Calendar.{first_number, all_days}
 use Rattle.gregorian.specs.Answers.{numbered}
-use Rattle.gregorian.proofs.Laws.{all_number, in_range_law, of_is}
+use Rattle.gregorian.proofs.Laws.{all_number, of_is}
 use Rattle.gregorian.proofs.Date.from_day_number.Goals as goal
 
-pub returns-then-n-lt2415021 : goal.returns-then-n-lt2415021
-unfolding given
-returns-then-n-lt2415021 c = rw (lt-leb _ _ c.if-n-lt2415021.true)
+-- the numbers of dates, by the first and the last
+numbered_is : (n : ℕ) → (leb 2415021 n && leb n 2506331) ≡ numbered n
+numbered_is n =
+    let e : first_number + all_days ≡ 2506332 = omega (arith, all_number) in
+    rw e (⊎_elim (λ l. rw (le-leb n 2506331 l, lt-ltb n 2506332 (omega arith))) (λ l. rw (lt-leb n 2506331 l, le-ltb n 2506332 (omega arith))) (split n 2506331))
 
-pub returns-then-n-ge2506332 : goal.returns-then-n-ge2506332
-unfolding given
-returns-then-n-ge2506332 c =
-    let n = c.args.n in
-    let h : first_number + all_days ≤ n = omega (arith, all_number) in
-    let e : numbered n ≡ false = rw (le-leb _ _ c.if-n-lt2415021.false, le-ltb _ _ h) in
-    rw e
+pub returns-then-not-contains : goal.returns-then-not-contains
+returns-then-not-contains c =
+    let s = c.new.ensures in
+    let no = rw (s.start, s.end, s.exhausted, in_range_is, numbered_is) at c.if-not-contains.ensures.value in
+    rw (← no)
 
 pub date_after-requires : goal.date_after-requires
-date_after-requires c = omega (arith, all_number)
+date_after-requires c =
+    let s = c.new.ensures in
+    let n = c.args.n in
+    let yes = rw (s.start, s.end, s.exhausted, in_range_is) at c.if-not-contains.ensures.value in
+    omega (arith, all_number, leb-true _ _ (and_right (leb 2415021 n) (leb n 2506331) (sym yes)))
 
 pub returns : goal.returns
-unfolding given
 returns c =
-    let n = c.args.n in
-    let l : first_number ≤ n = c.if-n-lt2415021.false in
-    let h : n < first_number + all_days = omega (arith, all_number) in
-    rw (in_range_law n l h, of_is n, c.date_after.ensures)
+    let s = c.new.ensures in
+    let yes = rw (s.start, s.end, s.exhausted, in_range_is, numbered_is) at c.if-not-contains.ensures.value in
+    rw (← yes, of_is, c.date_after.ensures)

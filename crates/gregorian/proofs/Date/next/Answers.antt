@@ -1,40 +1,35 @@
-use Rattle.std.proofs.Common.{◌<◌, ◌≤◌, T, sym, ◌∙◌}
-use Rattle.gregorian.specs.Calendar.{is_date, leap, month_length}
-use Rattle.gregorian.proofs.Laws
-use Rattle.paper.specs.Answers.{given}
+use Rattle.std.proofs.Common.{T, sym, ◌∙◌, arith}
+use Rattle.gregorian.specs.Calendar.{is_date}
+use Rattle.gregorian.proofs.Laws.{IsReal, real_of, next_good, next_last, next_day_law, next_month, real_day, real_month}
 use Rattle.gregorian.proofs.Date.next.Goals as goal
+use Rattle.gregorian.proofs.Date.next.Goals.{Else-not-is_date}
 
-pub returns-then-d-month_length : goal.returns-then-d-month_length
-returns-then-d-month_length c =
+-- the date is one
+known : (c : Else-not-is_date) → IsReal c.args.self
+known c =
     let x = c.args.self in
-    let t : T (is_date x.year x.month x.day) = rw (← c.is_date.ensures, c.if-is_date.true) tt in
-    let r = Laws.real_of x t in
-    let h : x.day < month_length (leap x.year) x.month = rw (c.month_length.ensures, c.is_leap.ensures) at c.if-d-month_length.true in
-    Laws.next_good x _ r (Laws.next_day_law x h) (Laws.real_day x r h)
+    let t : T (is_date x.year x.month x.day) = rw (sym c.is_date.ensures ∙ c.if-not-is_date.false) tt in
+    real_of x t
 
-pub returns-then-m-lt12 : goal.returns-then-m-lt12
-returns-then-m-lt12 c =
+pub returns-then-day-month_length : goal.returns-then-day-month_length
+returns-then-day-month_length c =
     let x = c.args.self in
-    let t : T (is_date x.year x.month x.day) = rw (← c.is_date.ensures, c.if-is_date.true) tt in
-    let r = Laws.real_of x t in
-    let h : month_length (leap x.year) x.month ≤ x.day = rw (c.month_length.ensures, c.is_leap.ensures) at c.if-d-month_length.false in
-    Laws.next_good x _ r (Laws.next_month x h c.if-m-lt12.true) (Laws.real_month x r c.if-m-lt12.true)
+    let r = known (goal.at.returns-then-day-month_length c).Else-not-is_date in
+    let h = rw (c.month_length.ensures, c.is_leap.ensures) at c.if-day-month_length.true in
+    next_good x _ r (next_day_law x h) (real_day x r h)
 
-pub returns-then-y-lt2149 : goal.returns-then-y-lt2149
-returns-then-y-lt2149 c =
+pub returns-then-month-lt12 : goal.returns-then-month-lt12
+returns-then-month-lt12 c =
     let x = c.args.self in
-    let t : T (is_date x.year x.month x.day) = rw (← c.is_date.ensures, c.if-is_date.true) tt in
-    let r = Laws.real_of x t in
-    let h : month_length (leap x.year) x.month ≤ x.day = rw (c.month_length.ensures, c.is_leap.ensures) at c.if-d-month_length.false in
-    Laws.next_good x _ r (Laws.next_year x h c.if-m-lt12.false) (Laws.real_year x r c.if-y-lt2149.true)
+    let r = known (goal.at.returns-then-month-lt12 c).Else-not-is_date in
+    let h = rw (c.month_length.ensures, c.is_leap.ensures) at c.if-day-month_length.false in
+    next_good x _ r (next_month x h c.if-month-lt12.true) (real_month x r c.if-month-lt12.true)
 
-pub returns-else-y-lt2149 : goal.returns-else-y-lt2149
-returns-else-y-lt2149 c =
-    let x = c.args.self in
-    let t : T (is_date x.year x.month x.day) = rw (← c.is_date.ensures, c.if-is_date.true) tt in
-    let h : month_length (leap x.year) x.month ≤ x.day = rw (c.month_length.ensures, c.is_leap.ensures) at c.if-d-month_length.false in
-    Laws.next_none x (Laws.real_of x t) h c.if-m-lt12.false c.if-y-lt2149.false
+pub overflow_add-year : goal.overflow_add-year
+overflow_add-year c = let r = known (goal.at.overflow_add-year c).Else-not-is_date in omega (arith, r.high)
 
-pub returns-else-is_date : goal.returns-else-is_date
-unfolding given
-returns-else-is_date c = simp (sym c.is_date.ensures ∙ c.if-is_date.false)
+pub returns : goal.returns
+returns c =
+    let r = known (goal.at.returns c).Else-not-is_date in
+    let h = rw (c.month_length.ensures, c.is_leap.ensures) at c.if-day-month_length.false in
+    c.new.ensures ∙ next_last c.args.self r h c.if-month-lt12.false

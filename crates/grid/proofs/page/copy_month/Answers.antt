@@ -44,4 +44,4 @@ returns c =
     let cells-front = ap (λ (k : ℕ). take (k * 12) page) e ∙ page_front rules p a.page.now page c.requires.page_value f.page_after (omega (arith, c.requires.planned)) in
     let festivals-front = lists_front rules p a.lists.now lists c.fill-count.result f.lists_after f.value (omega (arith, f.upper_bound, c.requires.planned.1.festivals)) in
     let r = says_grid _ g a.cells.now a.festivals.now _ _ c.month_of.result h (month_is rules p _ _ _ c.month_of.ensures e n) cells-front festivals-front room space in
-    record { result_value = r.answer; cells_after = c.put_front.ensures ∙ r.first; festivals_after = c.put_front-2.ensures ∙ r.second }
+    record { result_value = r.answer; cells_after = c.put_at.ensures ∙ r.first; festivals_after = c.put_at-2.ensures ∙ r.second }

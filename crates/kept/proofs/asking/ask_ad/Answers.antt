@@ -5,4 +5,4 @@ use Rattle.kept.proofs.asking.ask_ad.Goals as goal
 pub returns : goal.returns
 returns c = λ w.
     let a = c.args in
-    asked-ad a.state w _ _ c.front.ensures c.front-2.ensures _ a.year a.month a.day a.out.now _ _ c.list_ad-drawn.ensures c.with_store-after.ensures
+    asked-ad a.state w _ _ c.front.ensures c.front-2.ensures a.year a.month a.day a.out.now _ _ _ c.list_ad-drawn.ensures c.asked.ensures

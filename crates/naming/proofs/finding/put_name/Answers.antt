@@ -13,22 +13,13 @@ returns-in_default c = let a = c.args in
     let f = c.find in
     rw (name_none f.result f.ensures c.in_default.is) (wrote_none a.out.now a.at)
 
-pub slice_bounds-s-count : goal.slice_bounds-s-count
-slice_bounds-s-count c = let f = c.find in omega (arith, (finds_inside f.result f.ensures c.in-Text.is).0)
-
-pub slice_bounds-s-start : goal.slice_bounds-s-start
-slice_bounds-s-start c = let f = c.find in omega (arith, (finds_inside f.result f.ensures c.in-Text.is).0)
-
-pub slice_bounds-s-end : goal.slice_bounds-s-end
-slice_bounds-s-end c = let f = c.find in omega (arith, (finds_inside f.result f.ensures c.in-Text.is).1)
-
 pub slice_bounds-put-end : goal.slice_bounds-put-end
 slice_bounds-put-end c = let n = c.front_length-n in
-    let s = take (c.in-Text.to - c.in-Text.from) (drop c.in-Text.from c.args.file.now) in
+    let s = take (c.in-Some.to - c.in-Some.from) (drop c.in-Some.from c.args.file.now) in
     let h : n.result ≤ length s = omega (arith, front_inside 120 s) in
     sym (length-take-le n.result s h)
 
 pub returns : goal.returns
 returns c = let f = c.find in
     let n = c.front_length-n in
-    rw (name_some f.result f.ensures n.result c.in-Text.is n.ensures) c.put.ensures
+    rw (name_some f.result f.ensures n.result c.in-Some.is n.ensures) c.put.ensures

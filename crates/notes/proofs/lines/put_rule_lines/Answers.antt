@@ -7,10 +7,10 @@ use borrow.Author.Rules.{rules}
 use Rattle.notes.proofs.lines.put_rule_lines.Goals as goal
 
 pub loop-i-init : goal.loop-i-init
-loop-i-init c = (search rules, refl, rest_all _ _)
+loop-i-init c = (refl, rest_all _ _)
 
 pub loop-i-preserved : goal.loop-i-preserved
-loop-i-preserved c = (search rules, search rules, rest_turn c.loop-i.invariant.2 (omega arith) c.put_if_of_month-l.ensures.puts c.put_if_of_month-l.ensures.some_value)
+loop-i-preserved c = (search rules, rest_turn c.loop-i.invariant.1 (omega arith) c.put_if_of_month-l.ensures.puts c.put_if_of_month-l.ensures.some_value)
 
 pub returns : goal.returns
-returns c = record { same = rest_none c.loop-i.invariant.2 (omega arith) c.put_rules_end.ensures }
+returns c = record { same = rest_none c.loop-i.invariant.1 (omega arith) c.put_rules_end.ensures }

@@ -1,4 +1,3 @@
-use Prim.Native.Nat.{◌-◌, ◌≤◌}
 use mathlib.Core.Path.{◌≡◌}
 use lib.ListN.{length}
 use Rattle.rules.specs.Rules.{rules_from}
@@ -9,7 +8,4 @@ use Rattle.notes.proofs.Lists.{Rest}
 use Rattle.notes.proofs.lines.put_rule_lines.Given as goal
 
 abbrev pub invariant-loop-i : goal.invariant-loop-i
-invariant-loop-i l = (l.i ≤ l.n) × (length l.out ≡ length l.initial.out) × Rest l.names l.month l.rules l.n (put_pieces (gathered l.initial.out l.initial.l.out) (list_pieces l.names l.month l.initial.l.some (rules_from l.rules 0 l.n))) l.i l.out l.l
-
-abbrev pub decreases-loop-i : goal.decreases-loop-i
-decreases-loop-i l = l.n - l.i
+invariant-loop-i l = (length l.out ≡ length l.initial.out) × Rest l.names l.month l.rules l.n (put_pieces (gathered l.initial.out l.initial.l.out) (list_pieces l.names l.month l.initial.l.some (rules_from l.rules 0 l.n))) l.i l.out l.l

@@ -5,8 +5,8 @@ use Rattle.output.proofs.Gathering.{one_word, long_word}
 use Rattle.output.proofs.Joins.{length_octets}
 use Rattle.output.proofs.Out.octets.Goals as goal
 
-pub returns-then-list-gt15 : goal.returns-then-list-gt15
-returns-then-list-gt15 c = long_word (omega (arith, length_octets c.args.list.now, c.if-list-gt15.true)) c.space-o.ensures.wrote c.space-o.ensures.begun_value c.join_octets.ensures
+pub returns-then-list-gt-IN_ONE_PIECE : goal.returns-then-list-gt-IN_ONE_PIECE
+returns-then-list-gt-IN_ONE_PIECE c = long_word (omega (arith, length_octets c.args.list.now, c.if-list-gt-IN_ONE_PIECE.true)) c.space-o.ensures.wrote c.space-o.ensures.begun_value c.join_octets.ensures
 
 pub returns : goal.returns
-returns c = one_word (omega (arith, length_octets c.args.list.now, c.if-list-gt15.false)) c.space-o.ensures.wrote c.put_octets.ensures refl
+returns c = one_word (omega (arith, length_octets c.args.list.now, c.if-list-gt-IN_ONE_PIECE.false)) c.space-o.ensures.wrote c.put_octets.ensures refl

@@ -4,9 +4,6 @@ use Rattle.text.proofs.Writes.{then}
 use Rattle.output.proofs.Numbers.{a_number, no_number, number_text_law, nan_text, defined}
 use Rattle.output.proofs.floats.put_float.Goals as goal
 
-pub float_to_bits-x : goal.float_to_bits-x
-float_to_bits-x c = defined c.args.x (a_number c.args.x c.if-x.true)
-
 pub returns-then-x : goal.returns-then-x
 returns-then-x c = rw (sym (number_text_law c.args.x (a_number c.args.x c.if-x.true))) (then c.put-next.ensures c.put_hex.ensures)
 

@@ -12,15 +12,15 @@ draw_part-requires c =
     let a = c.args in
     let σ = held a.state in
     let p = asked-answer σ a.today a.year a.month c.requires.1 (c.ask_month-asked.ensures c.requires.0) in
-    (few_cells σ.table σ.rows σ.rules a.today a.year a.month p c.in-Is.is, search rules)
+    (few_cells σ.table σ.rows σ.rules a.today a.year a.month p c.in-Ok.is, search rules)
 
-pub returns-in-Is : goal.returns-in-Is
-returns-in-Is c =
+pub returns-in-Ok : goal.returns-in-Ok
+returns-in-Ok c =
     let a = c.args in
     let σ = held a.state in
     let g = c.ask_month-asked.ensures c.requires.0 in
     let p = asked-answer σ a.today a.year a.month c.requires.1 g in
-    let page = bs_page σ.table σ.rows σ.rules a.today a.year a.month p a.names.now Whole c.in-Is.is in
+    let page = bs_page σ.table σ.rows σ.rules a.today a.year a.month p a.names.now Whole c.in-Ok.is in
     let cells = asked-cells σ a.today a.year a.month c.requires.1 g in
     let festivals = asked-festivals σ a.today a.year a.month c.requires.1 g in
     record {
@@ -29,14 +29,14 @@ returns-in-Is c =
       same = asked-same σ a.today a.year a.month c.requires.1 g;
     }
 
-pub returns-in-Refused : goal.returns-in-Refused
-returns-in-Refused c =
+pub returns-in-Err : goal.returns-in-Err
+returns-in-Err c =
     let a = c.args in
     let σ = held a.state in
     let g = c.ask_month-asked.ensures c.requires.0 in
     let p = asked-answer σ a.today a.year a.month c.requires.1 g in
     record {
-      laid = draws_refused (bs_refused σ.table σ.rows σ.rules a.today a.year a.month p a.names.now Whole c.in-Refused.is);
+      laid = draws_refused (bs_refused σ.table σ.rows σ.rules a.today a.year a.month p a.names.now Whole c.in-Err.is);
       ready = g.holds.ready;
       same = asked-same σ a.today a.year a.month c.requires.1 g;
     }

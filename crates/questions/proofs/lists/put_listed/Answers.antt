@@ -1,7 +1,12 @@
 -- The reply, then the buffer. Assumes nothing.
+use Rattle.replies.specs.Replies.{said}
+use borrow.Author.Rules.{rules}
+use Rattle.std.proofs.Common.{◌≡◌}
+use Rattle.replies.specs.declared.Reply.TheVariants as R
 use Rattle.output.proofs.Gathering.{then}
 use Rattle.questions.proofs.lists.put_listed.Goals as goal
 
 pub returns : goal.returns
 returns c =
-    rw (← c.count.ensures) (then c.put-counted.ensures c.put_list.ensures)
+    let e : c.said.result ≡ said R.Number c.args.answer = search rules in
+    rw (← e) (then c.put-counted.ensures c.put_list.ensures)

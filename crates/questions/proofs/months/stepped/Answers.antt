@@ -1,8 +1,10 @@
 -- Month and step, each in form or not. Assumes nothing.
+use Rattle.replies.specs.Replies.{said}
+use Rattle.std.proofs.Common.{◌≡◌}
 use borrow.Author.Tests.{le-leb, lt-leb}
 use mir.Syntax.{w32}
 use mir.ValLaws.{to_z-of_z}
-use Rattle.questions.specs.Months.{stepped}
+use Rattle.questions.specs.Months.{monthly, stepped}
 use borrow.Author.Rules.{rules}
 use Rattle.questions.proofs.months.stepped.Goals as goal
 
@@ -16,4 +18,6 @@ returns-in_default c = rw (← c.small-month.ensures, le-leb _ _ c.if-month-gt25
 
 pub returns : goal.returns
 unfolding stepped
-returns c = rw (← c.small.ensures, ← c.small-month.ensures, le-leb _ _ c.if-month-gt255.false, ← c.whole.ensures, c.in-Is.is, c.monthly_of.ensures, c.step_month.ensures, to_z-of_z w32 c.in-Is.by (search rules))
+returns c =
+    let e : c.said.result ≡ said monthly c.step_month-month.result = search rules in
+    rw (← c.small.ensures, ← c.small-month.ensures, le-leb _ _ c.if-month-gt255.false, ← c.whole.ensures, c.in-Some.is, e, c.step_month-month.ensures, to_z-of_z w32 c.in-Some.by (search rules))

@@ -1,6 +1,12 @@
 -- The rules, then the buffer. Assumes nothing.
+use Rattle.replies.specs.Replies.{said}
+use borrow.Author.Rules.{rules}
+use Rattle.std.proofs.Common.{◌≡◌}
+use Rattle.replies.specs.declared.Reply.TheVariants as R
 use Rattle.output.proofs.Gathering.{then}
 use Rattle.questions.proofs.texts.put_read.Goals as goal
 
 pub returns : goal.returns
-returns c = rw (← c.read_rules.ensures, ← c.rules_of.ensures) (then c.put-counted.ensures c.put_list.ensures)
+returns c =
+    let e : c.said.result ≡ said R.Number c.read_rules.result = search rules in
+    rw (← c.read_rules.ensures, ← e) (then c.put-counted.ensures c.put_list.ensures)

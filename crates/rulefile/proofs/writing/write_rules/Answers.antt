@@ -1,5 +1,4 @@
 -- `rulefile::writing::write_rules` meets its contract: 2 and 9 in this order, and then the bytes. Assumes nothing.
-use borrow.Author.Tests.{not-true, not-false}
 use mathlib.Core.Path.{sym, ◌∙◌}
 use Rattle.rulefile.proofs.Outcomes.{bad_rules, too_long, all-written}
 use Rattle.rulefile.proofs.writing.write_rules.Goals as goal

@@ -9,10 +9,6 @@ use Rattle.rules.proofs.lists.put_dated.Given as goal
 
 abbrev pub invariant-loop-i : goal.invariant-loop-i
 invariant-loop-i l =
-    (l.i ≤ l.n)
-    × (length l.buf ≡ length l.initial.buf)
+    (length l.buf ≡ length l.initial.buf)
     × (l.t.n ≤ l.initial.t.n + l.i)
     × (store_pairs (l.buf, l.t) (picked (falls l.k l.day) (rules_from l.rules l.i (l.n - l.i))) ≡ store_pairs (l.initial.buf, l.initial.t) (picked (falls l.k l.day) (rules_from l.rules 0 l.n)))
-
-abbrev pub decreases-loop-i : goal.decreases-loop-i
-decreases-loop-i l = l.n - l.i

@@ -7,6 +7,6 @@ pub returns-then-a : goal.returns-then-a
 unfolding crosses near of_bits
 returns-then-a c = simp c.if-a.true
 
-pub returns : goal.returns
+pub returns-else-a : goal.returns-else-a
 unfolding crosses near of_bits
-returns c = simp c.if-a.false
+returns-else-a c = simp c.if-a.false

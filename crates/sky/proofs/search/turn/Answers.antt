@@ -4,17 +4,17 @@ use lib.Ieee.{le, neg, of_bits}
 use Rattle.paper.specs.Floats.{◌⊕◌, near, dec}
 use Rattle.sky.specs.Search.{turned}
 use Rattle.sky.proofs.search.turn.Goals as goal
-use Rattle.sky.proofs.search.turn.Goals.{Joined-y, then-y, else-y}
+use Rattle.sky.proofs.search.turn.Goals.{Joined-x, then-x, else-x}
 
 -- y where the two ways meet
-once : (c : Joined-y) → c.if-y.y ≡ cond (le c.args.x (neg (dec 180 0))) (c.args.x ⊕ dec 360 0) c.args.x
+once : (c : Joined-x) → c.if-x.y ≡ cond (le c.args.x (neg (dec 180 0))) (c.args.x ⊕ dec 360 0) c.args.x
 unfolding near of_bits
-once c = elim c.if-y.branch [ then-y w ↦ w.y-is ∙ simp w.if-y.true | else-y w ↦ w.y-is ∙ simp w.if-y.false ]
+once c = elim c.if-x.branch [ then-x w ↦ w.y-is ∙ simp w.if-x.true | else-x w ↦ w.y-is ∙ simp w.if-x.false ]
 
-pub returns-then-y-2 : goal.returns-then-y-2
+pub returns-then-y : goal.returns-then-y
 unfolding turned near of_bits
-returns-then-y-2 c = simp (sym (once c.before), c.if-y-2.true)
+returns-then-y c = simp (sym (once c.before), c.if-y.true)
 
-pub returns : goal.returns
+pub returns-else-y : goal.returns-else-y
 unfolding turned near of_bits
-returns c = simp (sym (once c.before), c.if-y-2.false)
+returns-else-y c = simp (sym (once c.before), c.if-y.false)

@@ -5,8 +5,8 @@ use Rattle.sky.proofs.time.is_tt_day.Goals as goal
 
 pub returns-then-x : goal.returns-then-x
 unfolding tt_day near of_bits
-returns-then-x c = rw c.if-x.true
+returns-then-x c = simp c.if-x.true
 
-pub returns : goal.returns
+pub returns-else-x : goal.returns-else-x
 unfolding tt_day near of_bits
-returns c = rw c.if-x.false
+returns-else-x c = simp c.if-x.false

@@ -1,10 +1,7 @@
 use mathlib.Core.Path.{◌≡◌}
-use Prim.Native.Nat.{◌+◌, ◌-◌, ◌≤◌}
+use Prim.Native.Nat.{◌+◌}
 use Rattle.sky.specs.Tithi.{twelves}
 use Rattle.sky.proofs.tithi.tithi_of.Given as goal
 
 abbrev pub invariant-loop-k : goal.invariant-loop-k
-invariant-loop-k l = (l.k ≤ 29) × (l.n ≡ 1 + twelves l.x l.k)
-
-abbrev pub decreases-loop-k : goal.decreases-loop-k
-decreases-loop-k l = 29 - l.k
+invariant-loop-k l = l.n ≡ 1 + twelves l.x l.k

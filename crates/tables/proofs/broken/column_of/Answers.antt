@@ -6,31 +6,31 @@ use Rattle.tables.proofs.Turns.{column_short, column_long, column_turn, column_g
 use Rattle.tables.proofs.broken.column_of.Goals as goal
 
 pub loop-m-init : goal.loop-m-init
-loop-m-init c = (omega arith, sym (sum_zero (lens c.args.rows.now c.args.i)), omega arith, refl)
+loop-m-init c = (sym (sum_zero (lens c.args.rows.now c.args.i)), omega arith, refl)
 
-pub returns-then-len-lt29 : goal.returns-then-len-lt29
-returns-then-len-lt29 c = let l = c.loop-m in
+pub returns-then-len-lt-SHORTEST : goal.returns-then-len-lt-SHORTEST
+returns-then-len-lt-SHORTEST c = let l = c.loop-m in
     let a = c.args in
-    column_short a.rows.now a.i l.m c.loop-m-test.true c.number_at-len.ensures c.if-len-lt29.true ∙ l.invariant.3
+    column_short a.rows.now a.i l.m c.loop-m-test.true c.number_at-len.ensures c.if-len-lt-SHORTEST.true ∙ l.invariant.2
 
-pub returns-then-len-gt32 : goal.returns-then-len-gt32
-returns-then-len-gt32 c = let l = c.loop-m in
+pub returns-then-len-gt-LONGEST : goal.returns-then-len-gt-LONGEST
+returns-then-len-gt-LONGEST c = let l = c.loop-m in
     let a = c.args in
-    column_long a.rows.now a.i l.m c.loop-m-test.true c.number_at-len.ensures c.if-len-lt29.false c.if-len-gt32.true ∙ l.invariant.3
+    column_long a.rows.now a.i l.m c.loop-m-test.true c.number_at-len.ensures c.if-len-lt-SHORTEST.false c.if-len-gt-LONGEST.true ∙ l.invariant.2
 
 pub loop-m-preserved : goal.loop-m-preserved
 loop-m-preserved c = let l = c.loop-m in
     let a = c.args in
     let e = c.number_at-len.ensures in
     let s = sum_step (lens a.rows.now a.i) l.m in
-    (omega arith, omega arith, omega arith, column_turn a.rows.now a.i l.m c.loop-m-test.true e c.if-len-lt29.false c.if-len-gt32.false ∙ l.invariant.3)
+    (omega arith, omega arith, column_turn a.rows.now a.i l.m c.loop-m-test.true e c.if-len-lt-SHORTEST.false c.if-len-gt-LONGEST.false ∙ l.invariant.2)
 
 pub returns-then-number_at-days : goal.returns-then-number_at-days
 returns-then-number_at-days c = let l = c.loop-m in
     let a = c.args in
-    column_good a.rows.now a.i l.m l.days c.loop-m-test.false l.invariant.0 l.invariant.1 c.number_at.ensures c.if-number_at-days.true ∙ l.invariant.3
+    column_good a.rows.now a.i l.m l.days c.loop-m-test.false (omega arith) l.invariant.0 c.number_at.ensures c.if-number_at-days.true ∙ l.invariant.2
 
 pub returns-else-number_at-days : goal.returns-else-number_at-days
 returns-else-number_at-days c = let l = c.loop-m in
     let a = c.args in
-    column_sum a.rows.now a.i l.m l.days c.loop-m-test.false l.invariant.0 l.invariant.1 c.number_at.ensures c.if-number_at-days.false ∙ l.invariant.3
+    column_sum a.rows.now a.i l.m l.days c.loop-m-test.false (omega arith) l.invariant.0 c.number_at.ensures c.if-number_at-days.false ∙ l.invariant.2

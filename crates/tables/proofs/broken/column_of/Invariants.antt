@@ -5,7 +5,4 @@ use Rattle.tables.specs.Breaks.{column_from, column}
 use Rattle.tables.proofs.broken.column_of.Given as goal
 
 abbrev pub invariant-loop-m : goal.invariant-loop-m
-invariant-loop-m l = (l.m ≤ 12) × (l.days ≡ sum (lens l.rows l.i) l.m) × (l.days ≤ 32 * l.m) × (column_from l.rows l.i (12 - l.m) l.m ≡ column l.rows l.i)
-
-abbrev pub decreases-loop-m : goal.decreases-loop-m
-decreases-loop-m l = 12 - l.m
+invariant-loop-m l = (l.days ≡ sum (lens l.rows l.i) l.m) × (l.days ≤ 32 * l.m) × (column_from l.rows l.i (12 - l.m) l.m ≡ column l.rows l.i)

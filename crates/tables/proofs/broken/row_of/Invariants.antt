@@ -1,9 +1,6 @@
-use Rattle.std.proofs.Common.{◌≡◌, ◌-◌, ◌≤◌}
+use Rattle.std.proofs.Common.{◌≡◌, ◌-◌}
 use Rattle.tables.specs.Breaks.{row_from}
 use Rattle.tables.proofs.broken.row_of.Given as goal
 
 abbrev pub invariant-loop-i : goal.invariant-loop-i
-invariant-loop-i l = (l.i ≤ l.n) × (row_from l.rows (l.n - l.i) l.i ≡ row_from l.rows l.n 0)
-
-abbrev pub decreases-loop-i : goal.decreases-loop-i
-decreases-loop-i l = l.n - l.i
+invariant-loop-i l = row_from l.rows (l.n - l.i) l.i ≡ row_from l.rows l.n 0

@@ -5,4 +5,4 @@ use Rattle.tables.proofs.words.put_refusal.Goals as goal
 
 pub returns : goal.returns
 unfolding refusal_text
-returns c = then c.put-c.ensures (then c.put_rule_broken-d.ensures c.put.ensures)
+returns c = then c.put-c.ensures (then c.put_fault-d.ensures c.put.ensures)

@@ -2,17 +2,13 @@
 use Rattle.tables.specs.Words.{rule_text}
 use Rattle.tables.proofs.words.put_rule_broken.Goals as goal
 
-pub returns-in-Nothing : goal.returns-in-Nothing
-unfolding rule_text
-returns-in-Nothing c = rw c.in-Nothing.is c.put.ensures
-
 pub returns-in-FirstYear : goal.returns-in-FirstYear
 unfolding rule_text
 returns-in-FirstYear c = rw c.in-FirstYear.is c.put_year_fault.ensures
 
 pub returns-in-NoRow : goal.returns-in-NoRow
 unfolding rule_text
-returns-in-NoRow c = rw c.in-NoRow.is c.put-in-NoRow.ensures
+returns-in-NoRow c = rw c.in-NoRow.is c.put.ensures
 
 pub returns-in-ManyRows : goal.returns-in-ManyRows
 unfolding rule_text

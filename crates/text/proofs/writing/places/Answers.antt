@@ -3,12 +3,6 @@ use native.Mathlib.Omega.{arith}
 use Rattle.text.proofs.Decimals.{places_one, places_more}
 use Rattle.text.proofs.writing.places.Goals as goal
 
-pub loop-rest-init : goal.loop-rest-init
-loop-rest-init c = (omega arith, omega arith)
-
-pub loop-rest-smaller : goal.loop-rest-smaller
-loop-rest-smaller c = omega arith
-
 pub loop-rest-preserved : goal.loop-rest-preserved
 loop-rest-preserved c = (omega (arith, places_more c.loop-rest.rest c.loop-rest-test.true), omega arith)
 

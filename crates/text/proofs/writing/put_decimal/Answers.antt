@@ -5,6 +5,3 @@ use Rattle.text.proofs.writing.put_decimal.Goals as goal
 
 pub put_run-requires : goal.put_run-requires
 put_run-requires c = let m = places_most c.args.n c.ranges.n.fits in omega arith
-
-pub returns : goal.returns
-returns c = rw c.places.ensures at c.put_run.ensures

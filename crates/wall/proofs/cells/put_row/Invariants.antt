@@ -1,4 +1,4 @@
-use Prim.Native.Nat.{◌+◌, ◌≤◌}
+use Prim.Native.Nat.{◌+◌, ◌-◌}
 use mathlib.Core.Path.{◌≡◌}
 use mathlib.Core.List.{◌++◌}
 use lib.ListN.{length}
@@ -8,8 +8,5 @@ use Rattle.wall.specs.Cells.{barred, row}
 use Rattle.wall.proofs.Going.{Going}
 use Rattle.wall.proofs.cells.put_row.Given as goal
 
-abbrev pub invariant-loop-left : goal.invariant-loop-left
-invariant-loop-left l = (length l.out ≡ length l.initial.out) × (l.j + l.left ≤ l.i + 7) × Going l.initial.out l.at (row l.k l.cells l.i) l.out l.next (repeated (barred l.k l.cells) 1 l.j l.left ++ bytes "|\n")
-
-abbrev pub decreases-loop-left : goal.decreases-loop-left
-decreases-loop-left l = l.left
+abbrev pub invariant-loop-j : goal.invariant-loop-j
+invariant-loop-j l = (length l.out ≡ length l.initial.out) × Going l.initial.out l.at (row l.k l.cells l.i) l.out l.next (repeated (barred l.k l.cells) 1 l.j (l.i + 7 - l.j) ++ bytes "|\n")

@@ -1,19 +1,25 @@
 -- `wall::cells::put_weeks` meets its contract: the weeks from the place reached are still to be written. Assumes nothing.
-use mathlib.Core.Path.{refl, ◌∙◌}
+use Prim.Native.Nat.{◌+◌, ◌*◌, ◌-◌}
+use mathlib.Core.Path.{◌≡◌, refl, ◌∙◌}
+use native.Mathlib.Nat.{sub-zero}
 use native.Mathlib.Omega.{arith}
 use Rattle.wall.specs.Cells.{week}
 use Rattle.wall.proofs.Going.{stopped, written, repeated_turn, repeated_end}
-use borrow.Author.Rules.{rules}
 use Rattle.wall.proofs.cells.put_weeks.Goals as goal
 
-pub loop-left-init : goal.loop-left-init
-loop-left-init c = (refl, search rules, λ after end w. w)
+pub loop-w-init : goal.loop-w-init
+loop-w-init c = (refl, rw sub-zero (λ after end w. w))
 
-pub loop-left-preserved : goal.loop-left-preserved
-loop-left-preserved c = let l = c.loop-left in (c.put_week-next.auto.out ∙ l.invariant.0, omega arith, written l.invariant.2 c.put_week-next.ensures _ (repeated_turn (week c.args.cells.now) 7 l.i l.left c.loop-left-test.true))
+pub loop-w-preserved : goal.loop-w-preserved
+loop-w-preserved c =
+    let a = c.args in
+    let l = c.loop-w in
+    let e : (l.w + 1) * 7 ≡ l.w * 7 + 7 = omega arith in
+    let t = repeated_turn (week a.cells.now) 7 (l.w * 7) (a.weeks - l.w) (a.weeks - (l.w + 1)) (omega arith) in
+    (c.put_week-next.auto.out ∙ l.invariant.0, rw e (written l.invariant.1 c.put_week-next.ensures _ t))
 
 pub shape_of-out : goal.shape_of-out
-shape_of-out c = c.loop-left.invariant.0
+shape_of-out c = c.loop-w.invariant.0
 
 pub returns : goal.returns
-returns c = let l = c.loop-left in stopped l.invariant.2 (repeated_end (week c.args.cells.now) 7 l.i l.left c.loop-left-test.false)
+returns c = let l = c.loop-w in stopped l.invariant.1 (repeated_end (week c.args.cells.now) 7 (l.w * 7) (c.args.weeks - l.w) (omega arith))

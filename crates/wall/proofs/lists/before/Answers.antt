@@ -7,10 +7,10 @@ use borrow.Author.Rules.{rules}
 use Rattle.wall.proofs.lists.before.Goals as goal
 
 pub loop-k-init : goal.loop-k-init
-loop-k-init c = (omega arith, before_none c.args.cells.now, omega arith)
+loop-k-init c = (before_none c.args.cells.now, omega arith)
 
 pub loop-k-preserved : goal.loop-k-preserved
-loop-k-preserved c = let l = c.loop-k in let t = before_turn c.args.cells.now l.k in let n = c.number.ensures in (omega arith, omega arith, search rules)
+loop-k-preserved c = let l = c.loop-k in let t = before_turn c.args.cells.now l.k in let n = c.number.ensures in (omega arith, search rules)
 
 pub returns : goal.returns
-returns c = let l = c.loop-k in let e : l.k ≡ c.args.i = omega arith in (rw e at l.invariant.1, rw e at l.invariant.2)
+returns c = let l = c.loop-k in let e : l.k ≡ c.args.i = omega arith in (rw e at l.invariant.0, rw e at l.invariant.1)

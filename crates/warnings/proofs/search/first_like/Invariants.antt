@@ -1,11 +1,7 @@
-use Prim.Native.Nat.{◌-◌, ◌≤◌}
-use mathlib.Core.Path.{◌≡◌}
+use Rattle.std.proofs.Common.{◌≡◌, ◌-◌}
 use Rattle.rules.specs.Rules.{rules_from}
 use Rattle.warnings.specs.Warnings.{first_like}
 use Rattle.warnings.proofs.search.first_like.Given as goal
 
 abbrev pub invariant-loop-i : goal.invariant-loop-i
-invariant-loop-i l = (l.i ≤ l.n) × (first_like l.how l.r (rules_from l.rules l.i (l.n - l.i)) l.i ≡ first_like l.how l.r (rules_from l.rules 0 l.n) 0)
-
-abbrev pub decreases-loop-i : goal.decreases-loop-i
-decreases-loop-i l = l.n - l.i
+invariant-loop-i l = first_like l.how l.r (rules_from l.rules l.i (l.n - l.i)) l.i ≡ first_like l.how l.r (rules_from l.rules 0 l.n) 0

@@ -1,11 +1,7 @@
 -- `warnings::words::put_what` meets its contract. Assumes nothing.
-use Rattle.text.proofs.Writes.{wrote_none, then}
+use Rattle.text.proofs.Writes.{then}
 use Rattle.warnings.specs.Words.{what_text}
 use Rattle.warnings.proofs.words.put_what.Goals as goal
-
-pub returns-in-Nothing : goal.returns-in-Nothing
-unfolding what_text
-returns-in-Nothing c = rw c.in-Nothing.is (wrote_none _ _)
 
 pub returns-in-Twice : goal.returns-in-Twice
 unfolding what_text

@@ -1,9 +1,7 @@
 -- `asked::words::Words::small` meets its contract. Assumes nothing.
-use Rattle.asked.proofs.Splits.{fitting_fits, fitting_large}
+use mathlib.Core.Path.{refl}
+use Rattle.asked.proofs.Splits.{fitting_from}
 use Rattle.asked.proofs.words.Words.small.Goals as goal
 
-pub returns-then-v-le65535 : goal.returns-then-v-le65535
-returns-then-v-le65535 c = rw (← c.value-v.ensures) (fitting_fits 65535 _ c.if-v-le65535.true)
-
 pub returns : goal.returns
-returns c = rw (← c.value-v.ensures) (fitting_large 65535 _ c.if-v-le65535.false)
+returns c = rw (c.unwrap_or.ensures, ← c.value.ensures) (fitting_from 65535 65536 _ c.try_from.result refl c.try_from.ensures)

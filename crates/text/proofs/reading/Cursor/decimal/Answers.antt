@@ -4,12 +4,9 @@ use native.Mathlib.Omega.{arith}
 use lib.ListN.{drop}
 use lib.Seq.{drop-drop}
 use Rattle.text.specs.Digits.{starts_digit, got}
-use Rattle.text.proofs.Texts.{stands_inside, digit_inside}
+use Rattle.text.proofs.Texts.{stands_inside}
 use Rattle.text.proofs.Decimals.{decimal_led, decimal_nought, decimal_scan, decimal_other}
 use Rattle.text.proofs.reading.Cursor.decimal.Goals as goal
-
-pub overflow_add-at : goal.overflow_add-at
-overflow_add-at c = let a = c.args in omega (arith, stands_inside 48 a.s.now a.self.at (sym c.stands.ensures ∙ c.if-stands.true))
 
 pub returns-then-stands_digit : goal.returns-then-stands_digit
 returns-then-stands_digit c = let a = c.args in
@@ -20,9 +17,6 @@ returns-then-stands_digit c = let a = c.args in
       inside = omega arith;
     }
 
-pub overflow_add-result : goal.overflow_add-result
-overflow_add-result c = let a = c.args in omega (arith, stands_inside 48 a.s.now a.self.at (sym c.stands.ensures ∙ c.if-stands.true))
-
 pub returns-then-stands : goal.returns-then-stands
 returns-then-stands c = let a = c.args in
     let s = a.s.now in
@@ -32,9 +26,6 @@ returns-then-stands c = let a = c.args in
       same = ap (got 0) (sym (drop-drop 1 at s)) ∙ sym (decimal_nought a.limit (drop at s) z (ap starts_digit (drop-drop 1 at s) ∙ sym c.stands_digit.ensures ∙ c.if-stands_digit.false));
       inside = omega (arith, stands_inside 48 s at z);
     }
-
-pub read_all-requires : goal.read_all-requires
-read_all-requires c = let a = c.args in omega (arith, digit_inside a.s.now a.self.at (sym c.stands_digit-2.ensures ∙ c.if-stands_digit-2.true))
 
 pub returns-then-stands_digit-2 : goal.returns-then-stands_digit-2
 returns-then-stands_digit-2 c = let a = c.args in

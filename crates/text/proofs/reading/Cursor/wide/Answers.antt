@@ -1,11 +1,8 @@
 -- `text::reading::Cursor::wide` meets its contract. Assumes nothing.
 use native.Mathlib.Omega.{arith}
 use lib.ListN.{drop}
-use Rattle.text.proofs.Turns.{wide_is, wide_not, wide_fits}
+use Rattle.text.proofs.Turns.{wide_is, wide_not}
 use Rattle.text.proofs.reading.Cursor.wide.Goals as goal
-
-pub read_fixed-requires : goal.read_fixed-requires
-read_fixed-requires c = let w = wide_fits c.args.k c.if-k-le19.true in omega arith
 
 pub returns-then-k-le19 : goal.returns-then-k-le19
 returns-then-k-le19 c = let a = c.args in rw (wide_is a.k (drop a.self.at a.s.now) c.if-k-le19.true) c.read_fixed.ensures

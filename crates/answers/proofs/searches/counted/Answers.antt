@@ -1,8 +1,0 @@
--- `answers::searches::counted` meets its contract. Assumes nothing.
-use Rattle.answers.proofs.searches.counted.Goals as goal
-
-pub returns-in-Found : goal.returns-in-Found
-returns-in-Found c = rw c.in-Found.is
-
-pub returns-in-Refused : goal.returns-in-Refused
-returns-in-Refused c = rw c.in-Refused.is

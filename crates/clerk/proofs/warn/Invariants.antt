@@ -1,9 +1,0 @@
--- Each rule is one of the list.
-use Rattle.std.proofs.Common.{◌-◌, ◌≤◌}
-use Rattle.clerk.proofs.warn.Given as goal
-
-abbrev pub invariant-loop-j : goal.invariant-loop-j
-invariant-loop-j g l = l.j ≤ l.n
-
-abbrev pub decreases-loop-j : goal.decreases-loop-j
-decreases-loop-j g l = l.n - l.j

@@ -1,5 +1,0 @@
--- `desk::keeping::done_of` meets its contract. Assumes nothing.
-use Rattle.desk.proofs.keeping.done_of.Goals as goal
-
-pub returns-in-Refused : goal.returns-in-Refused
-returns-in-Refused c = rw c.in-Refused.is

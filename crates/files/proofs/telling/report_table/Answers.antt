@@ -1,6 +1,0 @@
--- `files::telling::report_table` is proved: a line never goes past its buffer. Assumes nothing.
-use Rattle.std.proofs.Common.{sym, length-take-le, rules}
-use Rattle.files.proofs.telling.report_table.Goals as goal
-
-pub slice_bounds-write_all-end : goal.slice_bounds-write_all-end
-slice_bounds-write_all-end c = sym (length-take-le c.put_refusal-n.result _ (search rules))

@@ -1,8 +1,0 @@
--- `kept::years::one_year` meets its contract. Assumes nothing.
-use mathlib.Core.Path.{refl}
-use Rattle.kept.specs.Held.{store_of}
-use Rattle.kept.proofs.years.one_year.Goals as goal
-
-pub returns : goal.returns
-unfolding store_of
-returns c = refl

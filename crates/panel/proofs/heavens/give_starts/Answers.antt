@@ -1,7 +1,0 @@
-use Rattle.panel.proofs.heavens.give_starts.Goals as goal
-
-pub returns-in-Found : goal.returns-in-Found
-returns-in-Found c = rw c.in-Found.is
-
-pub returns-in-Refused : goal.returns-in-Refused
-returns-in-Refused c = rw (c.in-Refused.is, c.number.ensures)

@@ -1,8 +1,0 @@
--- `questions::lists::count` meets its contract. Assumes nothing.
-use Rattle.questions.proofs.lists.count.Goals as goal
-
-pub returns-in-Count : goal.returns-in-Count
-returns-in-Count c = rw c.in-Count.is
-
-pub returns-in-Refused : goal.returns-in-Refused
-returns-in-Refused c = rw c.in-Refused.is

@@ -1,8 +1,0 @@
--- `questions::texts::bytes_of` meets its contract. Assumes nothing.
-use Rattle.questions.proofs.texts.bytes_of.Goals as goal
-
-pub returns-in-Bytes : goal.returns-in-Bytes
-returns-in-Bytes c = rw c.in-Bytes.is
-
-pub returns-in-Refused : goal.returns-in-Refused
-returns-in-Refused c = rw c.in-Refused.is
