@@ -116,11 +116,11 @@ pub fn month_days(table: Table, rows: &[u16], year: u16, month: u16) -> Answer<u
 fn date_check(table: Table, rows: &[u16], date: BsDate) -> Answer<()>
     ensures { result ≡ valid_bs (untested table rows.now) date.year date.month date.day }
 {
-    let len = month_at(table, rows, date.year, date.month)?;
-    if !(1..=len).contains(&date.day) {
-        return Err(Refusal::NoDay);
+    match month_at(table, rows, date.year, date.month) {
+        Ok(len) if (1..=len).contains(&date.day) => Ok(()),
+        Ok(_) => Err(Refusal::NoDay),
+        Err(k) => Err(k),
     }
-    Ok(())
 }
 
 // The number of a day of row i, whose first day has the number first.
@@ -234,10 +234,16 @@ pub fn bs_to_ad(table: Table, rows: &[u16], date: BsDate) -> Answer<Date>
 pub fn ad_to_bs(table: Table, rows: &[u16], year: u16, month: u16, day: u16) -> Answer<BsDate>
     ensures { result ≡ from_ad (flat table rows.now) year month day }
 {
-    let start = check::frame(table, rows.len())?;
+    // What every table that is not accepted is answered, whatever the date.
+    let refused = Err(Refusal::BadTable);
+    let Ok(start) = check::frame(table, rows.len()) else {
+        return refused;
+    };
     let number = Date { year, month, day }.day_number();
     let offset = number.unwrap_or(start).saturating_sub(start);
-    let p = check::pass_table(table, rows, start, year_count(rows), offset)?;
+    let Ok(p) = check::pass_table(table, rows, start, year_count(rows), offset) else {
+        return refused;
+    };
     let n = number?;
     place_in(table, rows, start, n, p.row, offset - p.before)
 }

@@ -108,6 +108,8 @@ fn run<R: Read>(
 }
 
 // Answers every line that a reader brings on standard output, over what is lent at first and what lines lend in its place; no state is kept at first.
+// Not inlined, so that a caller that refuses before the first line does not need the room for its buffers.
+#[inline(never)]
 pub fn answer_from<R: Read>(
     reader: &mut R,
     first: Lent,

@@ -68,6 +68,12 @@ place_text path p = cond (is_some p.found) (path ++ (bytes ": line " ++ digits p
 unfoldable pub years_text : ℕ → ℕ → List ℕ
 years_text said year = bytes ": the comment says " ++ (digits said ++ (bytes ", the row is BS " ++ (digits year ++ bytes "\n")))
 
+-- the year that the comment at a place says, 0 where it says none
+abbrev pub said_at : Option (Option ℕ) → ℕ
+said_at (Some (Some n)) = n
+said_at (Some None) = 0
+said_at None = 0
+
 -- warning: data/owner.table: line 8: the comment says 2005, the row is BS 2004
-unfoldable pub warning_text : List ℕ → Place → ℕ → ℕ → List ℕ
-warning_text path p said year = bytes "warning: " ++ (place_text path p ++ years_text said year)
+unfoldable pub warning_text : List ℕ → Place → ℕ → List ℕ
+warning_text path p year = bytes "warning: " ++ (place_text path p ++ years_text (said_at p.found) year)

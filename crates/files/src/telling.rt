@@ -2,7 +2,7 @@
 // and the first row of a table whose comment says another year. To find a line of a table the file is read once more, where it can be.
 ghost use Rattle.std.specs.Prelude.{◌≡◌, ◌≤◌, length};
 ghost use Rattle.text.specs.Written.{Wrote};
-ghost use Rattle.files.specs.Told.{table_line, year_of, other_year, meets, nowhere, looked_at, place_text, years_text, warning_text};
+ghost use Rattle.files.specs.Told.{table_line, year_of, other_year, meets, nowhere, looked_at, place_text, years_text, said_at, warning_text};
 ghost use Rattle.files.specs.Texts.{control_text, name_fault_text};
 ghost use Rattle.files.specs.Inner.{Looks};
 
@@ -174,13 +174,24 @@ fn put_years(out: &mut [u8], at: usize, said: u16, year: u64) -> usize
     text::put(out, d, b"\n")
 }
 
-// Writes that the comment at a place says a year and its row has another.
-fn put_warning(out: &mut [u8], at: usize, path: &[u8], p: Place, said: u16, year: u64) -> usize
-    ensures { Wrote out.old at (warning_text path.now p said year) out.new result }
+// The year that the comment at a place says, 0 where it says none.
+fn said_at(p: Place) -> u16
+    ensures { result ≡ said_at p.found }
+{
+    match p.found {
+        Some(Some(n)) => n,
+        Some(None) => 0,
+        None => 0,
+    }
+}
+
+// Writes that the comment at a place says another year than its row, which is this one, has.
+fn put_warning(out: &mut [u8], at: usize, path: &[u8], p: Place, year: u64) -> usize
+    ensures { Wrote out.old at (warning_text path.now p year) out.new result }
 {
     let a = text::put(out, at, b"warning: ");
     let b = put_place(out, a, path, p);
-    put_years(out, b, said, year)
+    put_years(out, b, said_at(p), year)
 }
 
 // Says what is wrong with a file.
@@ -310,17 +321,17 @@ pub fn tell_name(path: &[u8], line: usize, fault: naming::Fault) {
 
 // Warns of a comment that says another year.
 #[tactic(auto, using(crate::proofs::Fits::front_taken))]
-fn warn(path: &[u8], p: Place, said: u16, first: u16) {
+fn warn(path: &[u8], p: Place, first: u16) {
     let mut out = [0u8; 4608];
-    let n = put_warning(&mut out, 0, path, p, said, year_of(first, p.before));
+    let n = put_warning(&mut out, 0, path, p, year_of(first, p.before));
     io::write_all(STDERR, &out[..n]);
 }
 
 // Says what is wrong with the years that the comments of a table say.
 fn tell_years<F: Read + Seek>(file: &mut F, path: &[u8], first: u16) {
     let p = look(file, Sought::OtherYear(first));
-    if let Some(Some(said)) = p.found {
-        warn(path, p, said, first);
+    if p.found.is_some() {
+        warn(path, p, first);
     }
 }
 

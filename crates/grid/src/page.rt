@@ -30,7 +30,10 @@ pub fn put_at(out: &mut [u16], at: usize, src: &[u16])
     requires { at + length src.now ≤ length out.old }
     ensures { out.new ≡ sets out.old at src.now }
 {
-    out[at..at + src.len()].copy_from_slice(src);
+    // A loop, which the compiler sees through: over `copy_from_slice` it keeps more copies of a whole state in what asks a kept one.
+    for i in 0..src.len() {
+        out[at + i] = src[i];
+    }
 }
 
 // How many blanks stand before a day in its week.

@@ -10,7 +10,7 @@ ghost use Rattle.std.specs.Prelude.{◌≡◌, ◌++◌, ◌+◌, ◌≤◌, len
 ghost use Rattle.kept.specs.State.{startable, year_numbers};
 ghost use Rattle.kept.specs.Operations.{take_rules, append_row, forgotten};
 ghost use Rattle.kept.specs.Held.{held, padded, Ready, Holds, StartedAs, DoneAs, stored_says};
-ghost use Rattle.kept.specs.Inner.{with_store, done, asked, HoldsAnswer, taking, appending};
+ghost use Rattle.kept.specs.Inner.{with_store, done, asked, HoldsAnswer, taking};
 
 use crate::years::{no_years, renewed};
 use conversion::Table;
@@ -153,8 +153,8 @@ pub fn stored(state: Kept) -> StoredYears
 }
 
 // The state with these rules in place of its own, and no stored year, if they are accepted.
-fn with_rules(state: Kept, list: &[u16]) -> Answer<Kept>
-    ensures { Ready state → HoldsAnswer result (taking (held state) list.now) }
+fn with_rules(state: &Kept, list: &[u16]) -> Answer<Kept>
+    ensures { Ready state.now → HoldsAnswer result (taking (held state.now) list.now) }
 {
     if !rules::accepts_rules(list) {
         return Err(Refusal::BadRules);
@@ -165,7 +165,7 @@ fn with_rules(state: Kept, list: &[u16]) -> Answer<Kept>
         rules,
         rule_len: list.len(),
         store: no_years(),
-        ..state
+        ..*state
     })
 }
 
@@ -173,7 +173,7 @@ fn with_rules(state: Kept, list: &[u16]) -> Answer<Kept>
 pub fn take_rules(state: Kept, list: &[u16]) -> After<()>
     ensures { Ready state → DoneAs result (take_rules (held state) list.now) }
 {
-    done(state, with_rules(state, list))
+    done(state, with_rules(&state, list))
 }
 
 // The rows of a table with one row more, and 0 behind them.
@@ -187,31 +187,38 @@ fn with_row(rows: &[u16], row: &[u16]) -> [u16; 1664]
     all
 }
 
-// The state with one year row more, and its stored years resolved anew, if the table is accepted with it.
-fn with_year(state: Kept, row: &[u16]) -> Answer<Kept>
-    ensures { Ready state → HoldsAnswer result (appending (held state) row.now) }
+// The state with one year row more, if the table is accepted with it; the stored years are resolved anew. Refusal 1.
+pub fn append_row(state: Kept, row: &[u16]) -> After<()>
+    ensures { Ready state → DoneAs result (append_row (held state) row.now) }
 {
     let before = front(&state.rows, state.row_len);
     let rules = front(&state.rules, state.rule_len);
     if row.len() != 13 || 1651 < before.len() {
-        return Err(Refusal::BadTable);
+        return After {
+            answer: Err(Refusal::BadTable),
+            state,
+        };
     }
     let rows = with_row(before, row);
     let row_len = before.len() + 13;
     let longer = front(&rows, row_len);
-    rules::accept(state.table, longer, rules)?;
-    let store = renewed(state.table, longer, rules, state.store);
-    Ok(Kept {
-        rows,
-        row_len,
-        store,
-        ..state
-    })
-}
-
-// The state with one year row more; the stored years are resolved anew. Refusal 1.
-pub fn append_row(state: Kept, row: &[u16]) -> After<()>
-    ensures { Ready state → DoneAs result (append_row (held state) row.now) }
-{
-    done(state, with_year(state, row))
+    // No `?`: the state is built where it is handed back, so that it is copied once.
+    match rules::accept(state.table, longer, rules) {
+        Ok(()) => {
+            let store = renewed(state.table, longer, rules, state.store);
+            After {
+                answer: Ok(()),
+                state: Kept {
+                    rows,
+                    row_len,
+                    store,
+                    ..state
+                },
+            }
+        }
+        Err(k) => After {
+            answer: Err(k),
+            state,
+        },
+    }
 }

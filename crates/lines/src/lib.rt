@@ -92,7 +92,7 @@ fn fill_on(piece: &[u8], from: usize, to: usize, line: &mut [u8], held: Held) ->
 fn has_feed(s: &[u8], from: usize) -> bool
     ensures { result ≡ has_feed (drop from s.now) }
 {
-    s.iter().skip(from).any(|b| *b == b'\n')
+    text::behind(s, from).iter().any(|b| *b == b'\n')
 }
 
 // Whether the piece has a whole line more, so that it is handed over without a read.

@@ -26,18 +26,18 @@ pub enum Fault {
     NoFeed,
 }
 
-// How many bytes stand from a place on before a line feed.
-fn before_feed(file: &[u8], from: usize) -> usize
-    ensures { result ≡ length (take_while (λ b. not (b == 10)) (drop from file.now)) }
+// How many bytes stand before the first line feed.
+fn before_feed(s: &[u8]) -> usize
+    ensures { result ≡ length (take_while (λ b. not (b == 10)) s.now) }
 {
-    file.iter().skip(from).take_while(|b| **b != b'\n').count()
+    s.iter().take_while(|b| **b != b'\n').count()
 }
 
 // Where the line that begins at a place is over: at its line feed, or at the end of the file.
 pub fn line_end(file: &[u8], from: usize) -> usize
     ensures { result ≡ from + length (first_line (lines_of (drop from file.now))) }
 {
-    from + before_feed(file, from)
+    from + before_feed(text::behind(file, from))
 }
 
 // The number of a line and the place of its text.

@@ -19,8 +19,8 @@ pub fn is_short(state: &[u16]) -> bool
 }
 
 // The array with the state after an answer; a refusal leaves it.
-pub fn keep<T: Copy>(asked: After<T>, state: &mut [u16])
-    ensures { state.new ≡ placed_by asked.answer asked.state state.old }
+pub fn keep<T: Copy>(asked: &After<T>, state: &mut [u16])
+    ensures { state.new ≡ placed_by asked.now.answer asked.now.state state.old }
 {
     if asked.answer.is_ok() {
         shelf::put(asked.state, state);
@@ -28,9 +28,9 @@ pub fn keep<T: Copy>(asked: After<T>, state: &mut [u16])
 }
 
 // The number of an operation; one that is done leaves the array with the state after it.
-fn give_done(done: After<()>, state: &mut [u16]) -> u16
-    ensures code { result ≡ code done.answer }
-    ensures state { state.new ≡ placed_by done.answer done.state state.old }
+fn give_done(done: &After<()>, state: &mut [u16]) -> u16
+    ensures code { result ≡ code done.now.answer }
+    ensures state { state.new ≡ placed_by done.now.answer done.now.state state.old }
 {
     keep(done, state);
     code(done.answer)
@@ -95,7 +95,7 @@ pub extern "C" fn panel_kept_take_rules(state: &mut [u16], rules: &[u16]) -> u16
         return Refusal::NoRoom.number();
     }
     let done = kept::take_rules(shelf::kept_of(state), rules);
-    give_done(done, state)
+    give_done(&done, state)
 }
 
 // One year row more, and the stored years resolved with it: 9 (the array), 1.
@@ -108,7 +108,7 @@ pub extern "C" fn panel_kept_append_row(state: &mut [u16], row: &[u16]) -> u16
         return Refusal::NoRoom.number();
     }
     let done = kept::append_row(shelf::kept_of(state), row);
-    give_done(done, state)
+    give_done(&done, state)
 }
 
 // The state without its stored years: 9 (the array).

@@ -26,7 +26,7 @@ pub extern "C" fn panel_kept_festivals_on(
         return Refusal::NoRoom.number();
     }
     let asked = asking::ask_bs(shelf::kept_of(state), year, month, day, festivals);
-    keep(asked, state);
+    keep(&asked, state);
     give(asked.answer, count)
 }
 
@@ -53,6 +53,6 @@ pub extern "C" fn panel_kept_festivals_on_ad(
         return Refusal::NoRoom.number();
     }
     let asked = asking::ask_ad(shelf::kept_of(state), year, month, day, festivals);
-    keep(asked, state);
+    keep(&asked, state);
     give_count_or_days(asked.answer, count, days_before, days_after)
 }

@@ -73,7 +73,7 @@ pub extern "C" fn panel_kept_month_grid(
         cells,
         festivals,
     );
-    keep(asked, state);
+    keep(&asked, state);
     give_grid(
         asked.answer,
         days,

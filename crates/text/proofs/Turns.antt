@@ -1,20 +1,16 @@
 -- The turns of the loops that read and write numbers, over plain variables. Assumes nothing.
 use Rattle.std.specs.Prelude.{None, Some}
-use Prim.Native.Nat.{ℕ, zero, suc, ◌+◌, ◌-◌, ◌*◌, ◌/◌, ◌%◌, ◌^◌, ◌≤◌, ◌<◌, min}
+use Prim.Native.Nat.{ℕ, zero, suc, ◌+◌, ◌-◌, ◌*◌, ◌/◌, ◌%◌, ◌^◌, ◌≤◌, ◌<◌}
 use mathlib.Core.Path.{◌≡◌, refl, sym, ap, ◌∙◌}
 use mathlib.Core.Bool.{Bool, true, false, cond}
-use mathlib.Core.List.{List, [], ◌∷◌, ◌++◌, append_assoc}
+use mathlib.Core.List.{List, [], ◌∷◌}
 use native.Mathlib.Nat.{le_trans, mul_assoc, mul_comm, suc-mul, mul-le-mul_right, le-mul_of_pos_right, pow-suc, pow-le-pow_right}
 use native.Mathlib.Omega.{arith}
 use borrow.Author.Tests.{lt-ltb, le-ltb, le-leb, lt-leb, ltb-true, ltb-false}
 use lib.Dec.{ltb}
-use lib.ListN.{length, get_or, take, drop, set}
-use lib.Seq.{sets, sets-eq, length-sets, drop-drop}
-use borrow.Rule.Slice.PartMut.{put_mid}
-use mathlib.Core.Logic.{◌⊎◌, inl, inr}
-use Rattle.std.proofs.lemmas.List.{take-append-drop, length-take}
-use Rattle.paper.proofs.Tests.{split}
-use Rattle.paper.proofs.Stores.{sets_append, sets_past, sets_behind}
+use lib.ListN.{length, get_or, drop, set}
+use lib.Seq.{sets}
+use Rattle.paper.proofs.Stores.{sets_append, sets_behind}
 use Rattle.text.specs.Digits.{mark, run, worth, digit_of, got, no, fixed, wide, scan}
 use Rattle.text.proofs.Runs.{power_pos, run_last, length_run}
 use Rattle.text.proofs.Texts.{cut, over}
@@ -115,22 +111,12 @@ module _ (limit : ℕ) (s : List ℕ) (i v : ℕ) where
 
 -- ---- writing
 
--- as much of a text as has room, copied to its place
-pub put_cut : (l src ys : List ℕ) (at n k : ℕ) → at ≤ length l → n ≡ min (length src) (length l - at) → k ≡ n → ys ≡ take n src
-    → put_mid at k l ys ≡ sets l at src
-put_cut l src ys at n k h m e f =
-    let t = take n src in
-    let long : length t ≡ n = omega (arith, length-take n src) in
-    let fits : at + length t ≤ length l = omega arith in
-    let place : at + n ≡ at + length t = omega arith in
-    rw (e, f)
-    (ap (λ (x : List ℕ). take at l ++ (t ++ x)) (drop-drop n at l ∙ ap (λ (j : ℕ). drop j l) place)
-    ∙ sym (append_assoc (take at l) t (drop (at + length t) l)) ∙ sym (sets-eq t l at fits)
-    ∙ sym (rest (split (length src) n)) ∙ sym (sets_append t (drop n src) l at) ∙ ap (sets l at) (take-append-drop n src))
-  where
-    rest : (length src ≤ n) ⊎ (n < length src) → sets (sets l at (take n src)) (at + length (take n src)) (drop n src) ≡ sets l at (take n src)
-    rest (inl g) = rw (over src n g)
-    rest (inr g) = sets_past (drop n src) (sets l at (take n src)) (at + length (take n src)) (omega (arith, length-sets l at (take n src), length-take n src))
+-- a byte more of a text
+pub put_turn : (l src : List ℕ) (next i : ℕ) → i < length src
+    → sets (set l next (get_or src i 0)) (next + 1) (drop (i + 1) src) ≡ sets l next (drop i src)
+put_turn l src next i h =
+    let e : next + 1 ≡ suc next = omega arith in
+    rw (e, cut src i h)
 
 -- the last digit before those in front of it
 pub run_turn : (l : List ℕ) (at base left n : ℕ) → 0 < left

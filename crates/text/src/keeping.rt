@@ -23,7 +23,9 @@ pub fn nothing() -> Held
 fn push(buffer: &mut [u8], held: Held, b: u8) -> Held
     ensures { Pushed buffer.old held b buffer.new result }
 {
-    let kept = held?;
+    let Some(kept) = held else {
+        return held;
+    };
     if kept < buffer.len() {
         buffer[kept] = b;
         Some(kept + 1)

@@ -8,6 +8,6 @@ mod triples;
 mod writing;
 
 pub use keeping::{Filled, Held, fill, nothing};
-pub use reading::{Cursor, stands, start, whole_number};
+pub use reading::{Cursor, behind, stands, start, whole_number};
 pub use triples::dashed;
 pub use writing::{put, put_decimal, put_hex, put_wide};

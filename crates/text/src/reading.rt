@@ -30,6 +30,13 @@ fn digit(b: u8, base: u64) -> Option<u64>
     if worth < base { Some(worth) } else { None }
 }
 
+// What stands from a place on; nothing where the place lies past the end.
+pub fn behind(s: &[u8], at: usize) -> &[u8]
+    ensures { result.now ≡ drop at s.now }
+{
+    &s[at.min(s.len())..]
+}
+
 // Whether the byte b stands at a place.
 pub fn stands(s: &[u8], at: usize, b: u8) -> bool
     ensures { result ≡ starts b (drop at s.now) }

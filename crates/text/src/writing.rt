@@ -8,12 +8,16 @@ ghost use Rattle.text.specs.Written.{Wrote};
 pub fn put(out: &mut [u8], at: usize, src: &[u8]) -> usize
     ensures { Wrote out.old at src.now out.new result }
 {
-    if out.len() <= at {
-        return at;
+    // A loop with two ways out: the compiler makes no call of the C library's `memmove` of it, which C that links the engine would have to bring.
+    let mut next = at;
+    for i in 0..src.len() {
+        if out.len() <= next {
+            return next;
+        }
+        out[next] = src[i];
+        next += 1;
     }
-    let n = src.len().min(out.len() - at);
-    out[at..at + n].copy_from_slice(&src[..n]);
-    at + n
+    next
 }
 
 // Stores one byte where there is room.

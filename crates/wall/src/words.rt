@@ -28,13 +28,6 @@ fn line_from(s: &[u8], k: u16) -> usize
     at
 }
 
-// What stands from a place on.
-fn behind(s: &[u8], from: usize) -> &[u8]
-    ensures { result.now ≡ drop from s.now }
-{
-    &s[from.min(s.len())..]
-}
-
 // How many bytes stand before the byte stop, of the first `most` of a text.
 fn before(s: &[u8], stop: u8, most: u16) -> usize
     ensures { result ≡ length (take_while (λ b. not (b == stop)) (take most s.now)) }
@@ -49,7 +42,7 @@ fn before(s: &[u8], stop: u8, most: u16) -> usize
 pub fn put_up_to(out: &mut [u8], at: usize, s: &[u8], from: usize, stop: u8, most: u16) -> usize
     ensures { Wrote out.old at (up_to stop most (drop from s.now)) out.new result }
 {
-    let rest = behind(s, from);
+    let rest = text::behind(s, from);
     let n = before(rest, stop, most);
     text::put(out, at, &rest[..n])
 }

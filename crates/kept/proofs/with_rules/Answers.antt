@@ -21,7 +21,7 @@ put_at-requires c = omega (arith, few_rules c.args.list.now (sym c.accepts_rules
 pub returns : goal.returns
 unfolding taking
 returns c = λ w.
-    let k = c.args.state in
+    let k = c.args.state.now in
     let list = c.args.list.now in
     let g = sym c.accepts_rules.ensures ∙ c.if-not-accepts_rules.false in
     rw g (holds_rules k w list _ _ (good_rules (held k) w.good list g) (few_rules list g) c.put_at.ensures c.no_years.ensures)

@@ -5,4 +5,4 @@ use Rattle.files.proofs.telling.put_warning.Goals as goal
 
 pub returns : goal.returns
 unfolding warning_text
-returns c = then c.put-a.ensures (then c.put_place-b.ensures c.put_years.ensures)
+returns c = then c.put-a.ensures (then c.put_place-b.ensures (rw c.said_at.ensures at c.put_years.ensures))

@@ -5,4 +5,5 @@ use Rattle.naming.proofs.lines.line_end.Goals as goal
 
 pub returns : goal.returns
 returns c = let a = c.args in
-    ap (λ (n : ℕ). a.from + n) (c.before_feed.ensures ∙ sym (line_taken (drop a.from a.file.now)))
+    let e = rw c.behind.ensures at c.before_feed.ensures in
+    ap (λ (n : ℕ). a.from + n) (e ∙ sym (line_taken (drop a.from a.file.now)))
